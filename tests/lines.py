@@ -65,7 +65,7 @@ def settings_are_refused():
 
 def help_is_printed():
     """Help goes to standard output, with status 0. It has a text for each option, and each text of its source whole."""
-    source = (TOP / "crates/avr_cli/src/command.rt").read_text().replace("\\\n", "")
+    source = (TOP / "crates/avr_plan/src/command.rt").read_text().replace("\\\n", "")
     texts = [it for it in re.findall(r'"([^"]*)"', source) if " " in it]
     for word in ["-h", "--help"]:
         status, output, messages = room.run([word])

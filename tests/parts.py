@@ -34,8 +34,8 @@ DOZEN = "t25 t45 t85 t841 t1634 m88 m168 m328p m32u4 m1280 m2560 usb1286".split(
 
 HEAD = """\
 # Classic AVRs that avrstk describes fully, each with its short and its long name. Made by tests/parts.py --write of
-# what the configuration of AVRDUDE 7.1 and the headers of avr-libc 2.0 both have. docs/PARTS lists which parts are in,
-# and which are not and why.
+# what the configuration of AVRDUDE 7.1 and the headers of avr-libc 2.0 both have; EESAVE is the headers'. docs/PARTS
+# lists which parts are in, and which are not and why.
 
 [parts]
 """

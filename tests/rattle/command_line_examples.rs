@@ -1,5 +1,5 @@
-//! Calls of avr_cli's public functions, as in its documentation.
-use avr_cli::{
+//! Calls of avr_plan's public functions, as in its documentation.
+use avr_plan::{
     Format, Op, Port, Settings, SettingsFault, Text, UpdateFault, Updates, make_command,
     parse_update, port_number, read_settings, read_words,
 };

@@ -1,5 +1,5 @@
 //! What no contract covers: which command lines are accepted, and how their faults are worded.
-use avr_cli::{
+use avr_plan::{
     Format, Op, Port, Settings, SettingsFault, Switches, Update, UpdateFault, make_command,
     parse_update, read_settings, read_words,
 };

@@ -1,7 +1,7 @@
 //! Whole runs over one connection in one thread: the tool at one end, the emulator at the other.
 ghost use Rattle.stk_host.specs.Links.{stream_state};
 
-use avr_cli::{Settings, read_settings, read_words};
+use avr_plan::{Settings, read_settings, read_words};
 use avr_desk::MemDesk;
 use avr_part::{Chip, Mem, Parts};
 use avr_tool::{accept, serve_link, listen, run};

@@ -1,10 +1,12 @@
 //! Every message line of a plan, brought about once, and what plans hold. Lines about files and values are compared
 //! with the texts of their faults.
-use avr_cli::{Format, Op, Port, Settings, Switches, Text, Update, Updates};
+use avr_plan::{
+    BadFile, Format, Op, PartsFault, PlanFault, Port, ReadFault, Settings, Switches, Task,
+    TaskFault, Text, Update, Updates, plan,
+};
 use avr_desk::{FailingDesk, FileFault, MemDesk};
 use avr_image::ImageFault;
 use avr_part::{Field, Mem, PartFault};
-use avr_plan::{BadFile, PartsFault, PlanFault, ReadFault, Task, TaskFault, plan};
 use avr_records::RecordFault;
 use std::alloc::{AllocError, Global};
 use std::fmt;

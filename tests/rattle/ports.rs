@@ -1,5 +1,5 @@
 //! Both ends of a TCP port of this machine, in one thread.
-use avr_cli::{Settings, read_settings, read_words};
+use avr_plan::{Settings, read_settings, read_words};
 use avr_desk::MemDesk;
 use avr_tool::{Port, Text, accept, listen, run_net, serve_net, serve_on};
 use std::alloc::Global;

@@ -1,6 +1,6 @@
 //! Worked runs: what is sent, what is printed, and the status. The frames are those of AVR068 (STK500 protocol,
 //! version 2), written out by hand.
-use avr_cli::{Settings, read_settings, read_words};
+use avr_plan::{Settings, read_settings, read_words};
 use avr_desk::{Desk, FailingDesk, MemDesk};
 use avr_tool::run;
 use std::alloc::Global;

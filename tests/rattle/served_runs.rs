@@ -1,5 +1,5 @@
 //! Serving, from settings to status: how it ends, what it reports, and the chip file.
-use avr_cli::{Settings, read_settings, read_words};
+use avr_plan::{Settings, read_settings, read_words};
 use avr_desk::MemDesk;
 use avr_tool::{serve, serve_for};
 use std::alloc::{AllocError, Global};

@@ -1,8 +1,7 @@
 //! Each fault is formatted as its message line. The fault of a port isn't: its line also names the port.
-use avr_cli::{Settings, SettingsFault, Text, UpdateFault, read_settings, read_words};
+use avr_plan::{Settings, SettingsFault, Text, UpdateFault, plan, read_settings, read_words};
 use avr_desk::MemDesk;
 use avr_part::Mem;
-use avr_plan::plan;
 use avr_session::{Outcome, drive_outcome, refuse};
 use std::alloc::{AllocError, Global};
 use std::test::Fail;

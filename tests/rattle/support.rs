@@ -1,6 +1,6 @@
 //! Shared by the tests of whole runs: settings, desks, wires and their fates, runs, and checks of their results.
 
-use avr_cli::{Settings, read_settings, read_words};
+use avr_plan::{Settings, read_settings, read_words};
 use avr_desk::{Desk, MemDesk};
 use avr_part::{Chip, Mem, Parts};
 use avr_tool::{run, run_wired};

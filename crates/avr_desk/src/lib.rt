@@ -27,9 +27,7 @@ mod laws;
 mod looks;
 mod mem_desk;
 mod replacement;
-mod replacing;
 mod runtime;
-mod synced;
 mod system;
 mod watched;
 

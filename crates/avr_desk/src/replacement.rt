@@ -4,8 +4,10 @@
 //! The run locks NAME.avrstk-lock; the system unlocks it if the run is killed. The new bytes go to NAME.avrstk-new,
 //! which only the lock holder touches. Once they are on the disk, that file is renamed to NAME. If there was no file to
 //! replace, it gets NAME as a second name, which never takes the place of another file.
-ghost use Rattle.std.specs.Prelude.{◌≡◌, IfOk, MatchOption, OnErr};
-ghost use Rattle.avr_desk.specs.Journal.{ChangesCalls, CrashMayAlsoLeave, IsUncounted, with_one_more_held};
+ghost use Rattle.std.specs.Prelude.{◌≡◌, ◌⊎◌, IfOk, MatchOption, OnErr, OnOk, Option, Some};
+ghost use Rattle.avr_desk.specs.Handles.{IsHeldBy};
+ghost use Rattle.avr_desk.specs.Journal.{ChangesCalls, CrashMayAlsoLeave, IsUncounted, with_calls, with_one_more_held, made};
+ghost use Rattle.avr_desk.specs.Record.{Bytes};
 ghost use Rattle.ghosts.specs.Preserves.{Preserves};
 
 use crate::file_system::FileSystem;
@@ -158,5 +160,32 @@ impl<F: Folder> FileSystem for F {
 
     fn leave_held(&mut self, hold: Replacement<F>) {
         self.unlock(hold.held);
+    }
+}
+
+/// Replaces the file of this name with `bytes`. If `held` isn't its lock, the file is locked meanwhile.
+pub(crate) fn replace_named<R: FileSystem>(
+    system: &mut R,
+    held: &mut Option<R::Hold>,
+    name: &str,
+    bytes: &[u8],
+) -> io::Result<()>
+    ensures put { OnOk result (R.replaced name.now bytes.now) }
+    ensures makes { OnOk result (ChangesCalls R.has_done (with_calls (made name.now)) system.old system.new) }
+    ensures fails { OnErr result (Preserves R.has_done system.old system.new) }
+    ensures stays { (name : Option Bytes) → IsHeldBy R.FileSystem held.old name → IsHeldBy R.FileSystem held.new name }
+    ensures leaves { CrashMayAlsoLeave R.left name.now (λ f. R.began name.now f ⊎ (f ≡ Some bytes.now)) system.old
+        system.new }
+{
+    match held {
+        Some(hold) if system.is_held(hold, name) => system.put_held(hold, bytes),
+        _ => {
+            let Some(mut own) = system.hold_named(name)? else {
+                return Err(io::Error::from(ErrorKind::WouldBlock));
+            };
+            let put = system.put_held(&mut own, bytes);
+            system.leave_held(own);
+            put
+        }
     }
 }

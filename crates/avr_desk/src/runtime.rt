@@ -5,14 +5,56 @@ use crate::looks::{
     Identity, first_mode, given, is_same_file, leads, links_none, locked, opened,
     permissions_after, synced, unless,
 };
-use crate::synced::Synced;
 use std::alloc::Global;
 use std::fs::{File, Metadata, OpenOptions, Permissions};
-use std::io::{ErrorKind, Write};
+use std::io::{ErrorKind, Read, Write};
 use std::os::unix::fs::{MetadataExt, OpenOptionsExt, PermissionsExt, fchown};
 use std::path::Path;
 use std::rt::Files;
 use std::{fs, io};
+
+/// A file. An empty write waits until it is on the disk, if the file system can sync it. A read that finds the end
+/// closes it, so that it isn't open when another file gets its name.
+#[derive(Drop)]
+pub struct Synced {
+    file: Option<File>,
+}
+
+impl Synced {
+    pub(crate) fn new(file: File) -> Synced {
+        Synced { file: Some(file) }
+    }
+}
+
+impl Write for Synced {
+    fn write(&mut self, bytes: &[u8]) -> io::Result<usize> {
+        let Some(file) = &mut self.file else {
+            return Err(io::Error::from(ErrorKind::NotFound));
+        };
+        if !bytes.is_empty() {
+            return file.write(bytes);
+        }
+        synced(file.sync_all())?;
+        Ok(0)
+    }
+
+    fn flush(&mut self) -> io::Result<()> {
+        Ok(())
+    }
+}
+
+impl Read for Synced {
+    fn read(&mut self, buf: &mut [u8]) -> io::Result<usize> {
+        let Some(file) = &mut self.file else {
+            return Ok(0);
+        };
+        let count = file.read(buf)?;
+        if count == 0 && !buf.is_empty() {
+            self.file = None;
+        }
+        Ok(count)
+    }
+}
 
 /// A name, and the paths of the file that it leads to, of its lock file and of a new one.
 #[derive(Drop)]
@@ -114,12 +156,8 @@ fn is_at<R: Files<File = File>>(rt: &R, file: &File, path: &str) -> io::Result<b
 /// Gives a new file the old one's group, owner and permissions, as far as the system allows.
 fn copy_owner_and_mode(new: &File, old: &Metadata) -> io::Result<()> {
     let own = new.metadata()?;
-    if let Some(group) = given(own.gid(), old.gid()) {
-        let _ = fchown(new, None, Some(group));
-    }
-    if let Some(owner) = given(own.uid(), old.uid()) {
-        let _ = fchown(new, Some(owner), None);
-    }
+    let _ = fchown(new, None, given(own.gid(), old.gid()));
+    let _ = fchown(new, given(own.uid(), old.uid()), None);
     let is_of_group = new.metadata()?.gid() == old.gid();
     new.set_permissions(Permissions::from_mode(permissions_after(old.mode(), is_of_group)))
 }
@@ -184,11 +222,11 @@ impl<'a, R: Files<File = File> + Input + Alloc<A = Global>> Folder for &'a R {
     }
 
     fn open(&mut self, name: &str) -> io::Result<Synced> {
-        Ok(Synced::new(fs::open(*self, name)?))
+        fs::open(*self, name).map(Synced::new)
     }
 
     fn create(&mut self, name: &str) -> io::Result<Synced> {
-        Ok(Synced::new(fs::create(*self, name)?))
+        fs::create(*self, name).map(Synced::new)
     }
 
     fn close(&mut self, file: Synced) {
@@ -236,20 +274,18 @@ impl<'a, R: Files<File = File> + Input + Alloc<A = Global>> Folder for &'a R {
 
     fn see(&mut self, held: &Held) -> io::Result<Option<Metadata>> {
         let path = held.place.path.as_str();
-        match regular(fs::metadata(*self, path)) {
-            Ok(Some(_)) => {
-                let old = OpenOptions::new().write(true).open(*self, path)?;
-                Ok(Some(old.metadata()?))
-            }
-            found => found,
+        if regular(fs::metadata(*self, path))?.is_none() {
+            return Ok(None);
         }
+        let file = OpenOptions::new().write(true).open(*self, path)?;
+        Ok(Some(file.metadata()?))
     }
 
     fn open_seen(&mut self, held: &Held, seen: &Option<Metadata>) -> io::Result<Synced> {
         let path = held.place.path.as_str();
         let file = unless(ErrorKind::NotFound, fs::open(*self, path))?;
         let there = file.as_ref().map(own_identity);
-        Ok(Synced::new(opened(identity_of(seen), file, there)?))
+        opened(identity_of(seen), file, there).map(Synced::new)
     }
 
     fn check_not_held(
@@ -258,10 +294,10 @@ impl<'a, R: Files<File = File> + Input + Alloc<A = Global>> Folder for &'a R {
         held: &Held,
         seen: &Option<Metadata>,
     ) -> io::Result<()> {
-        let there = unless(ErrorKind::NotFound, fs::metadata(*self, name))?;
+        let there = identity_of(&unless(ErrorKind::NotFound, fs::metadata(*self, name))?);
         let is_link = is_link(*self, name)?;
         let is_place = is_one_place(*self, name, held.place.path.as_str())?;
-        if leads(identity_of(seen), identity_of(&there), is_link, is_place) {
+        if leads(identity_of(seen), there, is_link, is_place) {
             return Err(io::Error::from(ErrorKind::ResourceBusy));
         }
         Ok(())

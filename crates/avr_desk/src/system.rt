@@ -2,6 +2,7 @@ ghost use Rattle.std.specs.Prelude.{◌≡◌, ◌≤◌, length, IfOk, OnOk, On
 ghost use Rattle.std.specs.IoError.{error_kind};
 ghost use Rattle.ghosts.specs.Failures.{OneFailureCounted};
 ghost use Rattle.ghosts.specs.Preserves.{Preserves};
+ghost use Rattle.avr_desk.specs.Calls.{after_call};
 ghost use Rattle.avr_desk.specs.Fault.{CountsFailure, IsCall};
 ghost use Rattle.avr_desk.specs.Named.{is_dash};
 ghost use Rattle.avr_desk.specs.Journal.{ReleasesHeld, CrashLeavesNoMore, IsUncounted};
@@ -16,7 +17,7 @@ ghost use Rattle.avr_desk.specs.declared.system.OpenFile.TheVariants.{Nothing};
 use crate::desk::{ChipDesk, Desk, DeskFault};
 use crate::file_system::FileSystem;
 use crate::journal::{Call, Journal};
-use crate::replacing::replace_named;
+use crate::replacement::replace_named;
 use crate::stream::Stream;
 use ghosts::Outlet;
 use ghosts::retry::{flush, read_some, write_some};
@@ -90,18 +91,32 @@ fn read_opened<F: Read, I: Read>(opened: &mut OpenFile<F, I>, buf: &mut [u8]) ->
     }
 }
 
-/// Replaces the open file by `next`. A written file is closed.
+/// Replaces the open file, and notes the call that did so. A written file is closed.
 fn open_next<R: FileSystem>(
     system: &mut R,
     opened: &mut OpenFile<R::File, R::Input>,
-    next: OpenFile<R::File, R::Input>,
+    journal: &mut Journal,
+    next: (OpenFile<R::File, R::Input>, Call<'_>),
 )
-    ensures opened { opened.new ≡ next }
+    ensures opened { opened.new ≡ next.entry.0 }
+    ensures noted { journal.new.kept ≡ after_call next.entry.1 journal.old.kept }
     ensures closed { IsClosed R.closed opened.old }
     ensures stays { IsUncounted R.has_done R.left system.old system.new }
 {
-    if let OpenFile::ToWrite(file) = mem::replace(opened, next) {
+    if let OpenFile::ToWrite(file) = mem::replace(opened, next.0) {
         system.close_file(file);
+    }
+    *journal = journal.then(&next.1);
+}
+
+/// Unlocks the held file, if there is one.
+fn release_held<R: FileSystem>(system: &mut R, held: &mut Option<R::Hold>)
+    ensures none { held.new ≡ None }
+    ensures left { ReleasesHeld R.has_done held.old system.old system.new }
+    ensures keeps { CrashLeavesNoMore R.left system.old system.new }
+{
+    if let Some(hold) = held.take() {
+        system.leave_held(hold);
     }
 }
 
@@ -172,17 +187,6 @@ impl<R: FileSystem + Drop, O: Write + Drop, E: Write + Drop> SystemDesk<R, O, E>
     {
         self.last_error
     }
-
-    /// Unlocks the held file, if there is one.
-    fn leave_replacement(&mut self)
-        ensures none { self.new ≡ record self.old { system = self.new.system; hold = None } }
-        ensures left { ReleasesHeld R.has_done self.old.hold self.old.system self.new.system }
-        ensures keeps { CrashLeavesNoMore R.left self.old.system self.new.system }
-    {
-        if let Some(hold) = self.replacement.take() {
-            self.system.leave_held(hold);
-        }
-    }
 }
 
 impl<R: FileSystem + Drop, O: Outlet + Drop, E: Outlet + Drop> Desk for SystemDesk<R, O, E> {
@@ -200,21 +204,21 @@ impl<R: FileSystem + Drop, O: Outlet + Drop, E: Outlet + Drop> Desk for SystemDe
         ensures error { KeepsLastError self.old.last_error self.new.last_error result }
         ensures stays { Preserves ⟦<Self as Desk>⟧.started_as self.old self.new }
     {
+        let call = Call::Opened(name.as_bytes());
         if name == "-" {
-            let input = self.system.input();
-            open_next(&mut self.system, &mut self.opened, OpenFile::Input(input));
-            self.journal = self.journal.then(&Call::Opened(name.as_bytes()));
+            let next = (OpenFile::Input(self.system.input()), call);
+            open_next(&mut self.system, &mut self.opened, &mut self.journal, next);
             return Ok(());
         }
         match self.system.open_named(name, self.replacement.as_ref()) {
             Ok(file) => {
-                open_next(&mut self.system, &mut self.opened, OpenFile::ToRead(file));
-                self.journal = self.journal.then(&Call::Opened(name.as_bytes()));
+                let next = (OpenFile::ToRead(file), call);
+                open_next(&mut self.system, &mut self.opened, &mut self.journal, next);
                 Ok(())
             }
             Err(error) if error.kind() == ErrorKind::NotFound => {
-                open_next(&mut self.system, &mut self.opened, OpenFile::Nothing);
-                self.journal = self.journal.then(&Call::Absent(name.as_bytes()));
+                let next = (OpenFile::Nothing, Call::Absent(name.as_bytes()));
+                open_next(&mut self.system, &mut self.opened, &mut self.journal, next);
                 Err(DeskFault::NotFound)
             }
             Err(error) => Err(fail(&mut self.failures, &mut self.last_error, &error)),
@@ -230,15 +234,16 @@ impl<R: FileSystem + Drop, O: Outlet + Drop, E: Outlet + Drop> Desk for SystemDe
             ≡ (if is_ok result then is_dash name.now else writes_to_output self.old) }
         ensures error { KeepsLastError self.old.last_error self.new.last_error result }
     {
+        let call = Call::Created(name.as_bytes());
         if name == "-" {
-            open_next(&mut self.system, &mut self.opened, OpenFile::Output);
-            self.journal = self.journal.then(&Call::Created(name.as_bytes()));
+            let next = (OpenFile::Output, call);
+            open_next(&mut self.system, &mut self.opened, &mut self.journal, next);
             return Ok(());
         }
         match self.system.create_named(name, self.replacement.as_ref()) {
             Ok(file) => {
-                open_next(&mut self.system, &mut self.opened, OpenFile::ToWrite(file));
-                self.journal = self.journal.then(&Call::Created(name.as_bytes()));
+                let next = (OpenFile::ToWrite(file), call);
+                open_next(&mut self.system, &mut self.opened, &mut self.journal, next);
                 Ok(())
             }
             Err(error) => Err(fail(&mut self.failures, &mut self.last_error, &error)),
@@ -323,12 +328,8 @@ impl<R: FileSystem + Drop, O: Outlet + Drop, E: Outlet + Drop> Desk for SystemDe
             { messages = self.new.messages; message_failures = self.new.message_failures } }
         ensures error { KeepsLastError self.old.last_error self.new.last_error result }
     {
-        match write_through(
-            &mut self.messages,
-            Stream::Messages,
-            bytes,
-            &mut self.journal,
-        ) {
+        let journal = &mut self.journal;
+        match write_through(&mut self.messages, Stream::Messages, bytes, journal) {
             Ok(count) => Ok(count),
             Err(error) => {
                 self.message_failures = self.message_failures.saturating_add(1);
@@ -349,7 +350,7 @@ impl<R: FileSystem + Drop, O: Outlet + Drop, E: Outlet + Drop> ChipDesk for Syst
     {
         match self.system.hold_named(name) {
             Ok(Some(hold)) => {
-                self.leave_replacement();
+                release_held(&mut self.system, &mut self.replacement);
                 self.replacement = Some(hold);
                 self.journal = self.journal.then(&Call::Held(name.as_bytes()));
                 Ok(true)
@@ -367,7 +368,7 @@ impl<R: FileSystem + Drop, O: Outlet + Drop, E: Outlet + Drop> ChipDesk for Syst
         ensures quiet { self.new ≡ record self.old { system = self.new.system; hold = None; kept = self.new.kept } }
         ensures stays { Preserves ⟦<Self as Desk>⟧.started_as self.old self.new }
     {
-        self.leave_replacement();
+        release_held(&mut self.system, &mut self.replacement);
         self.journal = self.journal.then(&Call::Released);
     }
 
@@ -383,9 +384,9 @@ impl<R: FileSystem + Drop, O: Outlet + Drop, E: Outlet + Drop> ChipDesk for Syst
     {
         match replace_named(&mut self.system, &mut self.replacement, name, bytes) {
             Ok(()) => {
-                self.leave_replacement();
-                open_next(&mut self.system, &mut self.opened, OpenFile::Nothing);
-                self.journal = self.journal.then(&Call::Replaced(name.as_bytes(), bytes));
+                release_held(&mut self.system, &mut self.replacement);
+                let next = (OpenFile::Nothing, Call::Replaced(name.as_bytes(), bytes));
+                open_next(&mut self.system, &mut self.opened, &mut self.journal, next);
                 Ok(())
             }
             Err(error) => {

@@ -8,9 +8,10 @@ ghost use Rattle.ghosts.specs.Preserves.{Preserves};
 
 use crate::desk::{ChipDesk, Desk, DeskFault};
 use crate::stream::Stream;
+use std::fmt;
 
 /// A finished call of a desk: its arguments and its result.
-#[derive(Clone, Copy, Debug)]
+#[derive(Clone, Copy)]
 pub enum DeskCall<'a> {
     /// The file of this name was opened for reading.
     Opened(&'a str, Result<(), DeskFault>),
@@ -26,6 +27,21 @@ pub enum DeskCall<'a> {
     Read(&'a [u8], Result<usize, DeskFault>),
     /// The returned number of these bytes was written to the stream.
     Wrote(Stream, &'a [u8], Result<usize, DeskFault>),
+}
+
+/// Shows the call's name.
+impl fmt::Debug for DeskCall<'_> {
+    fn fmt<F: fmt::Write>(&self, f: &mut fmt::Formatter<F>) -> fmt::Result {
+        f.write_str(match self {
+            DeskCall::Opened(..) => "Opened",
+            DeskCall::Created(..) => "Created",
+            DeskCall::Held(..) => "Held",
+            DeskCall::Released => "Released",
+            DeskCall::Replaced(..) => "Replaced",
+            DeskCall::Read(..) => "Read",
+            DeskCall::Wrote(..) => "Wrote",
+        })
+    }
 }
 
 /// Receives the calls of a desk, for example to show a run's progress. A watcher can't change the desk or a result.

@@ -1,5 +1,5 @@
--- The lemmas that proofs of other crates may cite: one for each clause of the laws in src/laws.rt. The others are the
--- crate's own.
+-- The lemmas that proofs of other crates may cite: for clauses of the laws in src/laws.rt. The others are the crate's
+-- own.
 use Rattle.std.proofs.Common.{◌≡◌, ◌≢◌, refl, ℕ, ◌+◌, ◌-◌, ◌<◌, ◌≤◌, ◌⊎◌, ◌↔◌, List, [], ◌∷◌, ◌++◌, length, take, drop, min, All, true, Option, Some, None, Ok, Err, is_some}
 use Rattle.std.specs.Prelude.{slice_index_or, IsTrue}
 use Rattle.std.specs.List.{enumerate_from, flat_map, slice_range}

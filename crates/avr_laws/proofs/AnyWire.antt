@@ -2,7 +2,7 @@
 use Rattle.std.proofs.Common.{◌≡◌, ◌≤◌, ℕ, [], List, All, length, sym, ap, ◌∙◌, subst, arith, inl, inr, length-append, rules}
 use Rattle.std.proofs.lemmas.List.{append-nil}
 use Rattle.ghosts.specs.Preserves.{Preserves}
-use Rattle.avr_cli.specs.declared.settings.Settings.{Settings}
+use Rattle.avr_plan.specs.declared.settings.Settings.{Settings}
 use Rattle.avr_desk.specs.Record.{Bytes, DeskState, ChangesRecord}
 use Rattle.avr_desk.specs.OutputEvents.{OutputEvent, after_events}
 use Rattle.avr_part.specs.Sound.{IsSoundChip}

@@ -9,6 +9,7 @@ pub mod SecondRun
 pub mod ReportsOverExchanges
 pub mod AnyLink
 pub mod AnyWire
+pub mod Held
 pub mod Plans
 pub mod KnownFiles
 pub mod Outcomes

@@ -1,7 +1,8 @@
 -- What status 0 means, and outcomes that are refused.
 pub mod Alike
-pub mod Saved
+pub mod SavedTexts
 pub mod ByTasks
+pub mod Saved
 pub mod Promise
 pub mod OtherPart
 pub mod OwnSignature

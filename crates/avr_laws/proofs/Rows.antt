@@ -1,5 +1,6 @@
 -- Worked rows, each a value that computes.
 pub mod Planning
+pub mod Held
 pub mod Lines
 pub mod Runs
 pub mod Kept

@@ -1,21 +1,20 @@
 -- The plan that settings and files ask for. It is a relation, which leaves open in which order files are read.
-use Rattle.std.specs.Prelude.{◌≡◌, ◌≤◌, ℕ, List, [], ◌∷◌, Contains, drop, length, Option, Some, None, Ok, true}
-use Rattle.avr_cli.specs.declared.settings.Settings.{Settings}
-use Rattle.avr_cli.specs.declared.update.Format.{Format}
-use Rattle.avr_cli.specs.declared.update.Format.TheVariants.{Immediate}
-use Rattle.avr_cli.specs.declared.update.Op.TheVariants as op
-use Rattle.avr_cli.specs.declared.update.Update.{Update}
+use Rattle.std.specs.Prelude.{◌≡◌, ◌≤◌, ℕ, List, [], ◌∷◌, ◌++◌, Contains, drop, find, length, Option, Some, None, true}
+use Rattle.avr_plan.specs.declared.settings.Settings.{Settings}
+use Rattle.avr_plan.specs.declared.update.Format.{Format}
+use Rattle.avr_plan.specs.declared.update.Format.TheVariants.{Immediate}
+use Rattle.avr_plan.specs.declared.update.Op.TheVariants as op
+use Rattle.avr_plan.specs.declared.update.Update.{Update}
 use Rattle.avr_desk.specs.Record.{Bytes, Record, all_openings}
 use Rattle.avr_desk.specs.declared.record.Opening.TheVariants.{Found}
-use Rattle.avr_image.specs.Values.{image_of_values}
-use Rattle.avr_part.specs.BuiltIn.{part_of_id}
+use Rattle.avr_part.specs.BuiltIn.{built_in_parts, has_id}
 use Rattle.avr_part.specs.Part.{Part, size_of}
-use Rattle.avr_part.specs.PartFile.{parts_of}
-use Rattle.avr_plan.specs.ImageFile.{kind_of, image_of_file}
+use Rattle.avr_laws.specs.HeldImage.{HoldsImageAs, HoldsValues}
+use Rattle.avr_laws.specs.HeldParts.{HoldsParts}
+use Rattle.avr_plan.specs.ImageFile.{kind_of}
 use Rattle.avr_plan.specs.Plan.{Plan}
 use Rattle.avr_plan.specs.declared.planned.Task.{Task}
 use Rattle.avr_plan.specs.declared.planned.Task.TheVariants as task
-use Rattle.avr_records.specs.declared.kind.Ending.{Ending}
 
 -- The text under each name; `-` is standard input.
 abbrev pub Files : Type 0
@@ -35,12 +34,11 @@ FileGave old new name text =
     Contains (drop (length (all_openings old)) (all_openings new))
     (Found (record { name = name; bytes = text; ended = true }))
 
--- The image of an update: the values on the command line, or what its file holds in its format, if that isn't too long.
+-- The image of an update: the values on the command line, or what its file holds in its format, if it isn't too long.
 abbrev pub HasImage : GivesText → Bytes → Format → ℕ → List (Option ℕ) → Type 0
-HasImage Gives name Immediate size image = image_of_values name size ≡ Ok image
+HasImage Gives name Immediate size image = HoldsValues name size image
 HasImage Gives name format size image =
-    (text : Bytes) × (ending : Ending) × Gives name text × (length text ≤ 4194304)
-    × (image_of_file (kind_of format text) text size ≡ Ok (image, ending))
+    (text : Bytes) × Gives name text × (length text ≤ 4194304) × HoldsImageAs (kind_of format text) text size image
 
 -- The task of this update.
 abbrev pub IsTaskOf : GivesText → Part → Update → Task → Type 0
@@ -60,12 +58,12 @@ AreTasksOf Gives part updates tasks = ⊥
 -- The parts of a part file, if one is named.
 abbrev pub ArePartsOf : GivesText → Option Bytes → List Part → Type 0
 ArePartsOf Gives None parts = parts ≡ []
-ArePartsOf Gives (Some name) parts = (text : Bytes) × Gives name text × (parts_of text ≡ Ok parts)
+ArePartsOf Gives (Some name) parts = (text : Bytes) × Gives name text × HoldsParts text parts
 
 -- THE PLAN that these settings and these files ask for.
 pub record IsAsked (settings : Settings) (Gives : GivesText) (plan : Plan) : Type 0 where
   pub parts : List Part
   pub are_parts : ArePartsOf Gives settings.parts parts
-  pub part : part_of_id settings.part parts ≡ Ok plan.part
+  pub part : find (has_id settings.part) (parts ++ built_in_parts) ≡ Some plan.part
   pub tasks : AreTasksOf Gives plan.part settings.updates plan.tasks
   pub switches : plan.switches ≡ settings.switches

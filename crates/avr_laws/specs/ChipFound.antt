@@ -2,7 +2,7 @@
 use Rattle.std.specs.Prelude.{◌≡◌, length, Option, Some, None}
 use Rattle.avr_desk.specs.Memory.{Stock, content_of_name}
 use Rattle.avr_desk.specs.Record.{Bytes, Record, all_files}
-use Rattle.avr_part.specs.ChipFile.{chip_file_size, state_from_file}
+use Rattle.avr_part.specs.ChipFile.{chip_file}
 use Rattle.avr_part.specs.Part.{Part}
 use Rattle.avr_part.specs.State.{ChipState as Chip, fresh_state}
 
@@ -10,7 +10,16 @@ use Rattle.avr_part.specs.State.{ChipState as Chip, fresh_state}
 abbrev pub contents_held : Stock → Record → Bytes → Option Bytes
 contents_held stock kept name = content_of_name stock (all_files kept) name
 
--- The chip in a file of the part's length, or a fresh chip if the file doesn't exist.
+-- The chip whose memories are in the file, with empty page buffers; or a fresh chip, if the file doesn't exist.
 abbrev pub IsChipInFile : Part → Option Bytes → Chip → Type 0
 IsChipInFile part None chip = chip ≡ fresh_state part
-IsChipInFile part (Some bytes) chip = (length bytes ≡ chip_file_size part) × (chip ≡ state_from_file part bytes)
+IsChipInFile part (Some bytes) chip =
+    (chip_file chip ≡ bytes) × (length chip.flash ≡ part.flash_size) × (length chip.eeprom ≡ part.eeprom_size)
+    × (chip ≡ record (fresh_state part) {
+      flash = chip.flash;
+      eeprom = chip.eeprom;
+      lfuse = chip.lfuse;
+      hfuse = chip.hfuse;
+      efuse = chip.efuse;
+      lock = chip.lock;
+    })

@@ -1,11 +1,11 @@
 -- The files that planning reads, and planning over them.
 use Rattle.std.specs.Prelude.{true, List, [], ◌∷◌, ◌++◌, map, Option, Some, None, if◌then◌else◌}
-use Rattle.avr_cli.specs.declared.settings.Settings.{Settings}
-use Rattle.avr_cli.specs.declared.update.Format.{Format}
-use Rattle.avr_cli.specs.declared.update.Format.TheVariants.{Immediate}
-use Rattle.avr_cli.specs.declared.update.Op.{Op}
-use Rattle.avr_cli.specs.declared.update.Op.TheVariants as op
-use Rattle.avr_cli.specs.declared.update.Update.{Update}
+use Rattle.avr_plan.specs.declared.settings.Settings.{Settings}
+use Rattle.avr_plan.specs.declared.update.Format.{Format}
+use Rattle.avr_plan.specs.declared.update.Format.TheVariants.{Immediate}
+use Rattle.avr_plan.specs.declared.update.Op.{Op}
+use Rattle.avr_plan.specs.declared.update.Op.TheVariants as op
+use Rattle.avr_plan.specs.declared.update.Update.{Update}
 use Rattle.avr_desk.specs.Memory.{Stock, content_of_name}
 use Rattle.avr_desk.specs.Record.{Bytes}
 use Rattle.avr_desk.specs.OutputEvents.{OutputEvent, Opens, PrintsLine}

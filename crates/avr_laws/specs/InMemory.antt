@@ -2,7 +2,7 @@
 -- are known.
 use Rattle.std.specs.Io.KnownBytes.{Appends, Consumes}
 use Rattle.std.specs.Prelude.{◌≡◌, ℕ, List, [], ◌++◌, replicate, Option, Some, option_map}
-use Rattle.avr_cli.specs.declared.settings.Settings.{Settings}
+use Rattle.avr_plan.specs.declared.settings.Settings.{Settings}
 use Rattle.avr_desk.specs.Memory.{MemDeskState, Stock}
 use Rattle.avr_desk.specs.Record.{Bytes, Record, all_files, nothing_kept}
 use Rattle.avr_desk.specs.OutputEvents.{OutputEvent, after_events}

@@ -1,10 +1,10 @@
 -- THE PROMISE OF THE PROGRAM: what status 0 means, by the port that the command line names.
 use Rattle.std.specs.Prelude.{◌≡◌, true, List, [], ◌∷◌, ◌++◌, Option, Some, Ok}
 use Rattle.clap.specs.Words.{takes}
-use Rattle.avr_cli.specs.Command.{settings_from_arguments, avrstk}
-use Rattle.avr_cli.specs.declared.settings.Port.{Port}
-use Rattle.avr_cli.specs.declared.settings.Port.TheVariants.{Stdio, Emulated, Network, Served}
-use Rattle.avr_cli.specs.declared.settings.Settings.{Settings}
+use Rattle.avr_plan.specs.Command.{settings_from_arguments, avrstk}
+use Rattle.avr_plan.specs.declared.settings.Port.{Port}
+use Rattle.avr_plan.specs.declared.settings.Port.TheVariants.{Stdio, Emulated, Network, Served}
+use Rattle.avr_plan.specs.declared.settings.Settings.{Settings}
 use Rattle.avr_desk.specs.Record.{Bytes, Record, all_openings, with_replaced}
 use Rattle.avr_desk.specs.declared.record.Opening.{Opening}
 use Rattle.avr_laws.specs.AskedPlan.{FileGave, IsAsked}

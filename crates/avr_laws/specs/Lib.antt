@@ -1,10 +1,13 @@
 -- planning
 pub mod OnlyReading
 pub mod FilesRead
+pub mod HeldImage
+pub mod HeldParts
 pub mod AskedPlan
 -- what a link does to a conversation with the emulated programmer, and what holds along it
 pub mod AnyTape
 pub mod NoForgedFrame
+pub mod SavedText
 pub mod Kept
 pub mod Damaged
 pub mod FewBadFrames

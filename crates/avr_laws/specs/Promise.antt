@@ -1,9 +1,8 @@
 -- The promise over the emulator, to be read alone: what the files hold after a run with status 0.
 use Rattle.std.specs.Prelude.{◌≡◌, false, Some}
-use Rattle.avr_cli.specs.declared.settings.Settings.{Settings}
+use Rattle.avr_plan.specs.declared.settings.Settings.{Settings}
 use Rattle.avr_desk.specs.Named.{newest}
 use Rattle.avr_desk.specs.Record.{Bytes}
-use Rattle.avr_tool.specs.ComparisonsAgree.{ComparisonsAgree}
 use Rattle.avr_tool.specs.Items.{asked_items}
 use Rattle.avr_tool.specs.Written.{IsWritten}
 use Rattle.avr_part.specs.ChipFile.{chip_file}
@@ -11,7 +10,7 @@ use Rattle.avr_part.specs.State.{ChipState as Chip}
 use Rattle.avr_laws.specs.AskedPlan.{Files, FileHolds, IsAsked}
 use Rattle.avr_plan.specs.Plan.{Plan}
 use Rattle.avr_laws.specs.ChipFound.{IsChipInFile}
-use Rattle.avr_laws.specs.Kept.{named_files, saved_files}
+use Rattle.avr_laws.specs.Kept.{PlanAgrees, named_files, saved_files}
 use Rattle.stk_emu.specs.Effect.{effects, memories_of}
 
 -- `files` and `after` are what each file holds before and after a run over the chip file `file`. The settings and
@@ -27,7 +26,7 @@ pub record Promised (settings : Settings) (file : Bytes) (files after : Files) :
   pub was : IsChipInFile plan.part (files file) chip
   pub is : after file ≡ Some (chip_file left)
   pub made : memories_of left ≡ effects plan.part (asked_items plan) (memories_of chip)
-  pub agrees : ComparisonsAgree plan (memories_of chip)
+  pub agrees : PlanAgrees plan (memories_of chip)
   pub images : plan.switches.no_verify ≡ false
       → IsWritten plan.part (asked_items plan) (memories_of chip) (memories_of left)
   pub others : (name : Bytes) → (name ≡ file → ⊥)

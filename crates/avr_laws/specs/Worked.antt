@@ -1,8 +1,8 @@
 -- Worked runs: `-p m328p` over a programmer that replies at once, and with a part file that doesn't exist. Also a
 -- session over a link that forges a frame.
 use Rattle.std.specs.Prelude.{ℕ, List, [], ◌∷◌, ◌++◌, Some, None, false, codes}
-use Rattle.avr_cli.specs.declared.settings.Settings.{Settings}
-use Rattle.avr_cli.specs.declared.settings.Port.TheVariants.{Stdio}
+use Rattle.avr_plan.specs.declared.settings.Settings.{Settings}
+use Rattle.avr_plan.specs.declared.settings.Port.TheVariants.{Stdio}
 use Rattle.avr_desk.specs.Lines.{information, not_opened_line, spaced_digits}
 use Rattle.avr_desk.specs.Memory.{Stock}
 use Rattle.avr_desk.specs.OutputEvents.{OutputEvent}

@@ -2,7 +2,7 @@
 #![tactic(auto)]
 
 ghost use Rattle.std.specs.Prelude.{◌≡◌, ◌*◌, ◌++◌, ℕ, List, [], All, Some, take};
-ghost use Rattle.avr_cli.specs.declared.settings.Settings.{Settings};
+ghost use Rattle.avr_plan.specs.declared.settings.Settings.{Settings};
 ghost use Rattle.avr_desk.specs.Record.{Bytes, DeskState};
 ghost use Rattle.avr_desk.specs.OutputEvents.{OutputEvent, IsPartOfEvent};
 ghost use Rattle.avr_part.specs.Part.{IsPart};

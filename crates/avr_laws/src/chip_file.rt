@@ -1,7 +1,7 @@
 //! Laws of runs over the emulator and its chip file.
 
 ghost use Rattle.std.specs.Prelude.{◌≡◌, ◌⊎◌, ℕ, true, false, [], Some};
-ghost use Rattle.avr_cli.specs.declared.settings.Settings.{Settings};
+ghost use Rattle.avr_plan.specs.declared.settings.Settings.{Settings};
 ghost use Rattle.avr_desk.specs.Memory.{MemDeskState, Stock, memory_state, content_of_name};
 ghost use Rattle.avr_desk.specs.Named.{is_dash};
 ghost use Rattle.avr_desk.specs.Truth.{HoldsTrue};

@@ -2,7 +2,7 @@
 #![tactic(auto)]
 
 ghost use Rattle.std.specs.Prelude.{◌≡◌, true, ℕ, List, [], Bool, All};
-ghost use Rattle.avr_cli.specs.declared.settings.Settings.{Settings};
+ghost use Rattle.avr_plan.specs.declared.settings.Settings.{Settings};
 ghost use Rattle.avr_desk.specs.Stage.{Produced};
 ghost use Rattle.avr_part.specs.Sound.{IsSoundChip};
 ghost use Rattle.avr_plan.specs.Plan.{Plan};

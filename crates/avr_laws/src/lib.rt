@@ -52,7 +52,7 @@ pub use damaged_frames::{
 pub use few_bad_frames::a_run_with_few_bad_frames_is_its_expected_run;
 pub use planning::{
     a_plan_fits_its_part, a_plan_is_of_whole_files, a_plan_is_the_one_asked_for,
-    a_plan_only_reads_and_warns, a_sound_plan_is_refused_aloud,
+    a_plan_only_reads_and_warns, a_sound_plan_is_refused_aloud, what_is_promised_is_what_runs_do,
 };
 pub use program::a_program_with_status_0_kept_its_plan;
 pub use runs::{

@@ -1,12 +1,16 @@
 //! Laws of planning, over the definitions alone.
-ghost use Rattle.std.specs.Prelude.{◌≡◌, ◌++◌, ℕ, List, [], All, Err};
-ghost use Rattle.avr_cli.specs.declared.settings.Settings.{Settings};
+ghost use Rattle.std.specs.Prelude.{◌≡◌, ◌++◌, ◌↔◌, ℕ, length, List, [], All, Option, Some, Ok, Err};
+ghost use Rattle.avr_plan.specs.declared.settings.Settings.{Settings};
 ghost use Rattle.ghosts.specs.Failures.{NoFailureCounted};
 ghost use Rattle.avr_desk.specs.Record.{Record, showing, Bytes};
 ghost use Rattle.avr_desk.specs.declared.record.Opening.{Opening};
 ghost use Rattle.avr_desk.specs.Lines.{memory_line};
 ghost use Rattle.avr_desk.specs.Memory.{Stock, content_of_name};
 ghost use Rattle.avr_laws.specs.AskedPlan.{FileHolds, IsAsked};
+ghost use Rattle.avr_laws.specs.ChipFound.{IsChipInFile};
+ghost use Rattle.avr_laws.specs.HeldImage.{HoldsImageAs, HoldsValues};
+ghost use Rattle.avr_laws.specs.HeldParts.{HoldsParts};
+ghost use Rattle.avr_laws.specs.Kept.{PlanAgrees};
 ghost use Rattle.avr_laws.specs.FilesRead.{AreTrueOpenings, lines_in, planned_from_files};
 ghost use Rattle.avr_laws.specs.OnlyReading.{OnlyReadsAndPrints};
 ghost use Rattle.avr_plan.specs.Planning.{planned};
@@ -14,6 +18,16 @@ ghost use Rattle.avr_plan.specs.AllocationPoints.{AtAllocatingUpdate};
 ghost use Rattle.avr_desk.specs.StageRuns.{RunsStage, StageRefused};
 ghost use Rattle.avr_desk.specs.Stage.{Produced, NotReadToEnd, all_events_of};
 ghost use Rattle.avr_plan.specs.Plan.{Plan, IsFitted};
+ghost use Rattle.avr_plan.specs.ImageFile.{image_of_file};
+ghost use Rattle.avr_image.specs.Values.{image_of_values};
+ghost use Rattle.avr_part.specs.ChipFile.{chip_file_size, state_from_file};
+ghost use Rattle.avr_part.specs.Part.{Part};
+ghost use Rattle.avr_part.specs.PartFile.{parts_of};
+ghost use Rattle.avr_part.specs.State.{ChipState};
+ghost use Rattle.avr_records.specs.declared.kind.Ending.{Ending};
+ghost use Rattle.avr_records.specs.declared.kind.Found.{Found};
+ghost use Rattle.avr_tool.specs.ComparisonsAgree.{ComparisonsAgree};
+ghost use Rattle.stk_emu.specs.Effect.{Memories};
 
 /// States that planning only opens files for reading and prints lines, whatever the files give. Nothing is created,
 /// written or output. By its type a stage has no link, so it sends nothing.
@@ -53,4 +67,18 @@ pub fn a_plan_is_the_one_asked_for()
     ensures { (s : Settings) (stock : Stock) (openings : List Opening) (plan : Plan)
         → AreTrueOpenings stock (planned s openings).output_events → (planned s openings).stage_outcome ≡ Produced plan
         → IsAsked s (FileHolds (content_of_name stock [])) plan }
+{}
+
+/// States that the promise's own definitions agree with what runs do: about values, image files, part files, chip files
+/// and comparisons.
+pub fn what_is_promised_is_what_runs_do()
+    ensures values { (text : Bytes) (size : ℕ) (image : List (Option ℕ)) → HoldsValues text size image
+        ↔ (image_of_values text size ≡ Ok image) }
+    ensures images { (kind : Found) (text : Bytes) (size : ℕ) (image : List (Option ℕ))
+        → HoldsImageAs kind text size image
+        ↔ ((ending : Ending) × (image_of_file kind text size ≡ Ok (image, ending))) }
+    ensures parts { (text : Bytes) (parts : List Part) → HoldsParts text parts ↔ (parts_of text ≡ Ok parts) }
+    ensures chips { (part : Part) (bytes : Bytes) (chip : ChipState) → IsChipInFile part (Some bytes) chip
+        ↔ ((length bytes ≡ chip_file_size part) × (chip ≡ state_from_file part bytes)) }
+    ensures comparisons { (plan : Plan) (m : Memories) → PlanAgrees plan m ↔ ComparisonsAgree plan m }
 {}

@@ -1,7 +1,7 @@
 //! What status 0 means. Laws of few bad frames, of a further run, and of worked outcomes.
 
 ghost use Rattle.std.specs.Prelude.{◌≡◌, ◌<◌, ◌*◌, ◌⊎◌, ℕ, true, false, List, [], All, Some, map};
-ghost use Rattle.avr_cli.specs.declared.settings.Settings.{Settings};
+ghost use Rattle.avr_plan.specs.declared.settings.Settings.{Settings};
 ghost use Rattle.avr_desk.specs.Memory.{MemDeskState, Stock, memory_state, stock_of};
 ghost use Rattle.avr_desk.specs.Truth.{HoldsTrue};
 ghost use Rattle.avr_session.specs.Run.{RunsBetween};
@@ -47,8 +47,8 @@ ghost use Rattle.stk_host.specs.Dialog.{Event, played, bytes_sent, outputs};
 ghost use Rattle.stk_host.specs.Transcript.{Transcript, heard, sent};
 ghost use Rattle.stk_host.specs.Tape.{Tape};
 
-use avr_cli::Settings;
 use avr_desk::Desk;
+use avr_plan::Settings;
 use avr_tool::run;
 use std::alloc::Global;
 use std::io::{Read, Write};

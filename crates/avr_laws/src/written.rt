@@ -2,7 +2,7 @@
 #![tactic(auto)]
 
 ghost use Rattle.std.specs.Prelude.{◌≡◌, ◌↔◌, ◌<◌, ◌++◌, ◌∷◌, [], ℕ, false, List, All, length, map};
-ghost use Rattle.avr_cli.specs.declared.settings.Switches.{Switches};
+ghost use Rattle.avr_plan.specs.declared.settings.Switches.{Switches};
 ghost use Rattle.avr_image.specs.Image.{HoldsBytes};
 ghost use Rattle.avr_part.specs.Part.{Part, IsPart};
 ghost use Rattle.avr_part.specs.declared.part.Mem.{Mem};

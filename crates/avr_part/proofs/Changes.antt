@@ -1,7 +1,7 @@
 -- Lists whose bytes are changed one by one.
 use Rattle.std.proofs.Common.{◌≡◌, ◌∙◌, ap, refl, arith, ℕ, suc, ◌+◌, ◌-◌, ◌<◌, ◌≤◌, List, [], ◌∷◌, length, get_or, bit_and, Option, None, unwrap_or, rules}
 use Rattle.std.proofs.lemmas.Bool.Decides.{nat_tests}
-use Rattle.avr_part.specs.Memory.{map_indexed, map_indexed_from, byte_and_page, overlaid_byte}
+use Rattle.avr_part.specs.Memory.{map_indexed_from, byte_and_page, overlaid_byte}
 
 pub changed_from_is : (k : ℕ) (f : ℕ → ℕ → ℕ) (xs ys : List ℕ) → length ys ≡ length xs
     → ((i : ℕ) → i < length xs → get_or ys i 0 ≡ f (k + i) (get_or xs i 0)) → ys ≡ map_indexed_from k f xs
@@ -14,7 +14,7 @@ changed_from_is k f (x ∷ xs) (y ∷ ys) len each =
     (λ i l. each (suc i) (omega arith) ∙ ap (λ (n : ℕ). f n (get_or xs i 0)) (omega arith)) in search rules
 
 pub changed_is : (f : ℕ → ℕ → ℕ) (xs ys : List ℕ) → length ys ≡ length xs
-    → ((i : ℕ) → i < length xs → get_or ys i 0 ≡ f i (get_or xs i 0)) → ys ≡ map_indexed f xs
+    → ((i : ℕ) → i < length xs → get_or ys i 0 ≡ f i (get_or xs i 0)) → ys ≡ map_indexed_from 0 f xs
 changed_is f xs ys len each = search (rules, changed_from_is)
 
 -- a byte of a memory into which a page was ANDed

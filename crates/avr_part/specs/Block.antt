@@ -1,9 +1,9 @@
 -- Blocks of flash: what instructions do one by one, for the low and then the high byte of each word.
 use Rattle.std.specs.Prelude.{ℕ, Bool, true, false, zero, suc, ◌+◌, ◌*◌, ◌/◌, ◌%◌, ◌==◌, ◌&&◌, nat_le, List, [], ◌∷◌, length, Option, Some, None, if◌then◌else◌}
-use Rattle.avr_part.specs.State.{ChipState, after_instruction, flash_byte, word_address}
+use Rattle.avr_part.specs.State.{ChipState, after_instruction, output_byte, word_address}
 use Rattle.avr_part.specs.declared.instruction.Half.{Half}
 use Rattle.avr_part.specs.declared.instruction.Half.TheVariants as half
-use Rattle.avr_part.specs.declared.instruction.Instruction.TheVariants.{LoadFlash}
+use Rattle.avr_part.specs.declared.instruction.Instruction.TheVariants.{LoadFlash, ReadFlash}
 
 -- whether byte i of a block is a low or a high one
 abbrev pub half_at : ℕ → Half
@@ -27,7 +27,8 @@ load_block word bytes s =
 -- what n instructions read; the first reads byte i of the block that begins at `word`
 abbrev pub read_one_by_one : ℕ → ℕ → ℕ → ChipState → List ℕ
 read_one_by_one word i zero s = []
-read_one_by_one word i (suc n) s = flash_byte (half_at i) (word + i / 2) s ∷ read_one_by_one word (suc i) n s
+read_one_by_one word i (suc n) s =
+    output_byte (ReadFlash (half_at i) (word + i / 2)) 0 s ∷ read_one_by_one word (suc i) n s
 
 -- a block of n bytes ends within one extended address and within flash
 abbrev pub is_in_flash : ℕ → ℕ → ChipState → Bool

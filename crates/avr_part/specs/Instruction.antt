@@ -5,17 +5,6 @@ use Rattle.avr_part.specs.declared.instruction.Fuse.TheVariants as fuse
 use Rattle.avr_part.specs.declared.instruction.Instruction.{Instruction}
 use Rattle.avr_part.specs.declared.instruction.Instruction.TheVariants.{Enable, Erase, LoadFlash, WriteFlashPage, ReadFlash, ReadEeprom, WriteEeprom, LoadEeprom, WriteEepromPage, WriteFuse, WriteLock, ReadFuse, ReadLock, ReadSignature, ReadCalibration, Poll, Extend, Nothing}
 
--- instructions that begin with AC, by their second byte
-abbrev pub decode_write : ℕ → ℕ → Instruction
-decode_write b d =
-    if b == 0x53 then Enable
-    else if b == 0x80 then Erase
-    else if b == 0xA0 then WriteFuse fuse.Low d
-    else if b == 0xA8 then WriteFuse fuse.High d
-    else if b == 0xA4 then WriteFuse fuse.Extended d
-    else if b == 0xE0 then WriteLock d
-    else Nothing
-
 -- the instruction of four bytes; any others are `Nothing`
 abbrev pub instruction_of : List ℕ → Instruction
 instruction_of x =
@@ -23,7 +12,12 @@ instruction_of x =
     let b = slice_index x 1 in
     let c = slice_index x 2 in
     let d = slice_index x 3 in
-    if a == 0xAC then decode_write b d
+    if a == 0xAC && b == 0x53 then Enable
+    else if a == 0xAC && b == 0x80 then Erase
+    else if a == 0xAC && b == 0xA0 then WriteFuse fuse.Low d
+    else if a == 0xAC && b == 0xA8 then WriteFuse fuse.High d
+    else if a == 0xAC && b == 0xA4 then WriteFuse fuse.Extended d
+    else if a == 0xAC && b == 0xE0 then WriteLock d
     else if a == 0x40 then LoadFlash half.Low c d
     else if a == 0x48 then LoadFlash half.High c d
     else if a == 0x4C then WriteFlashPage (b * 256 + c)

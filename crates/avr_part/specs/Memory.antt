@@ -1,5 +1,5 @@
 -- The bytes of a memory, and how they change.
-use Rattle.std.specs.Prelude.{◌≡◌, ℕ, suc, ◌+◌, ◌-◌, ◌&&◌, nat_le, nat_lt, List, [], ◌∷◌, ◌++◌, length, take, drop, slice_index, bit_and, Option, None, unwrap_or, slice_index_or, replicate, All, IfSome, ◌<◌, if◌then◌else◌}
+use Rattle.std.specs.Prelude.{◌≡◌, ℕ, suc, Bool, ◌+◌, ◌-◌, ◌*◌, ◌/◌, ◌&&◌, nat_le, nat_lt, List, [], ◌∷◌, ◌++◌, length, take, drop, slice_index, bit_and, Option, None, unwrap_or, slice_index_or, replicate, All, IfSome, ◌<◌, if◌then◌else◌}
 
 -- each is a byte
 abbrev pub AreBytes : List ℕ → Type 0
@@ -15,18 +15,18 @@ pub record Becomes {A : Type 0} (IsSound : List A → Type 0) (items : List A) (
   pub len : length new ≡ size
   pub small : IsSound new
 
--- each item changed by its index, which begins at i; below, at 0
+-- each item changed by its index, which begins at i
 abbrev pub map_indexed_from : ℕ → (ℕ → ℕ → ℕ) → List ℕ → List ℕ
 map_indexed_from i f [] = []
 map_indexed_from i f (x ∷ xs) = f i x ∷ map_indexed_from (suc i) f xs
 
-abbrev pub map_indexed : (ℕ → ℕ → ℕ) → List ℕ → List ℕ
-map_indexed f xs = map_indexed_from 0 f xs
+-- `i` is one of `n` addresses from `start` on
+abbrev pub is_in_span : ℕ → ℕ → ℕ → Bool
+is_in_span start n i = nat_le start i && nat_lt i (start + n)
 
 -- within the page each byte becomes itself AND the page's
 abbrev pub byte_and_page : ℕ → List ℕ → ℕ → ℕ → ℕ
-byte_and_page start page i x =
-    if nat_le start i && nat_lt i (start + length page) then bit_and x (slice_index page (i - start)) else x
+byte_and_page start page i x = if is_in_span start (length page) i then bit_and x (slice_index page (i - start)) else x
 
 -- FF at each address: memory after an erase
 abbrev pub blank : List ℕ → List ℕ
@@ -39,7 +39,11 @@ nothing_loaded loads = replicate (length loads) None
 -- within the page each byte becomes the one loaded for its place, if any
 abbrev pub overlaid_byte : ℕ → List (Option ℕ) → ℕ → ℕ → ℕ
 overlaid_byte start loads i x =
-    if nat_le start i && nat_lt i (start + length loads) then unwrap_or (slice_index_or loads (i - start) None) x else x
+    if is_in_span start (length loads) i then unwrap_or (slice_index_or loads (i - start) None) x else x
+
+-- the first address of the page that holds this one
+abbrev pub page_start : ℕ → ℕ → ℕ
+page_start page i = i / page * page
 
 -- these bytes in place of those from `start` on
 abbrev pub with_bytes_at : ℕ → List ℕ → List ℕ → List ℕ

@@ -1,7 +1,7 @@
 -- The state of a chip, and what each instruction does to it.
 use Rattle.std.specs.Prelude.{ℕ, Bool, ◌+◌, ◌*◌, ◌/◌, ◌%◌, ◌==◌, List, [], ◌∷◌, Option, Some, None, replicate, slice_index, slice_set, bit_and, if◌then◌else◌}
 use Rattle.std.specs.Int.{bit_at}
-use Rattle.avr_part.specs.Memory.{map_indexed, byte_and_page, overlaid_byte, blank, nothing_loaded}
+use Rattle.avr_part.specs.Memory.{map_indexed_from, byte_and_page, overlaid_byte, blank, nothing_loaded, page_start}
 use Rattle.avr_part.specs.Instruction.{instruction_of}
 use Rattle.avr_part.specs.Part.{Part}
 use Rattle.avr_part.specs.declared.part.Mem.{Mem}
@@ -52,7 +52,7 @@ with_erased s =
     let eeprom = if bit_at s.hfuse s.part.eesave_bit == 0 then s.eeprom else blank s.eeprom in
     record s { flash = blank s.flash; lock = 255; eeprom = eeprom }
 
--- lock bit 0 is 0: only a chip erase changes flash, EEPROM and fuses
+-- lock bit 0 is 0: only a chip erase changes flash and EEPROM, and nothing changes the fuses
 abbrev pub is_locked : ChipState → Bool
 is_locked s = bit_at s.lock 0 == 0
 
@@ -60,11 +60,6 @@ is_locked s = bit_at s.lock 0 == 0
 abbrev pub half_offset : Half → ℕ
 half_offset half.Low = 0
 half_offset half.High = 1
-
--- a byte loaded into the flash buffer, at the place of this half of the word
-abbrev pub with_load : Half → ℕ → ℕ → ChipState → ChipState
-with_load h word byte s =
-    record s { flash_buffer = slice_set s.flash_buffer (word % (s.part.flash_page / 2) * 2 + half_offset h) byte }
 
 -- the address of a word's low byte
 abbrev pub word_address : ChipState → ℕ → ℕ
@@ -78,26 +73,16 @@ eeprom_address s address = address % s.part.eeprom_size
 abbrev pub with_flash_page : ℕ → ChipState → ChipState
 with_flash_page word s = record s {
   flash = if is_locked s then s.flash
-      else map_indexed (byte_and_page (word_address s word / s.part.flash_page * s.part.flash_page)
+      else map_indexed_from 0 (byte_and_page (page_start s.part.flash_page (word_address s word))
       s.flash_buffer) s.flash;
   flash_buffer = blank s.flash_buffer;
 }
 
--- one byte is written to EEPROM, unless the chip is locked
-abbrev pub with_eeprom_byte : ℕ → ℕ → ChipState → ChipState
-with_eeprom_byte address byte s =
-    record s { eeprom = if is_locked s then s.eeprom else slice_set s.eeprom (eeprom_address s address) byte }
-
--- a byte is loaded into the EEPROM buffer
-abbrev pub with_eeprom_load : ℕ → ℕ → ChipState → ChipState
-with_eeprom_load place byte s =
-    record s { eeprom_buffer = slice_set s.eeprom_buffer (place % s.part.eeprom_page) (Some byte) }
-
 -- The loaded bytes are written to their page of EEPROM, unless the chip is locked. The buffer is empty afterwards.
 abbrev pub with_eeprom_page : ℕ → ChipState → ChipState
 with_eeprom_page address s = record s {
-  eeprom = if is_locked s then s.eeprom else map_indexed (overlaid_byte
-      (eeprom_address s address / s.part.eeprom_page * s.part.eeprom_page) s.eeprom_buffer) s.eeprom;
+  eeprom = if is_locked s then s.eeprom else map_indexed_from 0 (overlaid_byte
+      (page_start s.part.eeprom_page (eeprom_address s address)) s.eeprom_buffer) s.eeprom;
   eeprom_buffer = nothing_loaded s.eeprom_buffer;
 }
 
@@ -111,38 +96,35 @@ with_fuse fuse.Extended byte s = record s { efuse = if is_locked s then s.efuse 
 abbrev pub with_lock : ℕ → ChipState → ChipState
 with_lock byte s = record s { lock = bit_and s.lock byte }
 
--- a byte of flash, by its word and half
-abbrev pub flash_byte : Half → ℕ → ChipState → ℕ
-flash_byte h word s = slice_index s.flash (word_address s word + half_offset h)
-
-abbrev pub fuse_of : Fuse → ChipState → ℕ
-fuse_of fuse.Low s = s.lfuse
-fuse_of fuse.High s = s.hfuse
-fuse_of fuse.Extended s = s.efuse
-
 -- the signature at places 0 to 2, FF at 3; places repeat after that
 abbrev pub signature_byte : ℕ → ChipState → ℕ
 signature_byte place s = if place % 4 == 3 then 255 else slice_index s.part.signature (place % 4)
 
 -- the byte that an instruction reads, or its third byte if it reads none
 abbrev pub output_byte : Instruction → ℕ → ChipState → ℕ
-output_byte (ReadFlash h word) third s = flash_byte h word s
+output_byte (ReadFlash h word) third s = slice_index s.flash (word_address s word + half_offset h)
 output_byte (ReadEeprom address) third s = slice_index s.eeprom (eeprom_address s address)
-output_byte (ReadFuse f) third s = fuse_of f s
+output_byte (ReadFuse fuse.Low) third s = s.lfuse
+output_byte (ReadFuse fuse.High) third s = s.hfuse
+output_byte (ReadFuse fuse.Extended) third s = s.efuse
 output_byte ReadLock third s = s.lock
 output_byte (ReadSignature place) third s = signature_byte place s
 output_byte ReadCalibration third s = 255
 output_byte Poll third s = 0
 output_byte i third s = third
 
--- the chip after an instruction; one that isn't here changes nothing
+-- The chip after an instruction; one that isn't here changes nothing. A byte is loaded at its place in the buffer.
+-- A byte of EEPROM is written at its address, unless the chip is locked.
 abbrev pub after_instruction : Instruction → ChipState → ChipState
 after_instruction Enable s = with_empty_buffers s
 after_instruction Erase s = with_erased s
-after_instruction (LoadFlash h word byte) s = with_load h word byte s
+after_instruction (LoadFlash h word byte) s =
+    record s { flash_buffer = slice_set s.flash_buffer (word % (s.part.flash_page / 2) * 2 + half_offset h) byte }
 after_instruction (WriteFlashPage word) s = with_flash_page word s
-after_instruction (WriteEeprom address byte) s = with_eeprom_byte address byte s
-after_instruction (LoadEeprom place byte) s = with_eeprom_load place byte s
+after_instruction (WriteEeprom address byte) s =
+    record s { eeprom = if is_locked s then s.eeprom else slice_set s.eeprom (eeprom_address s address) byte }
+after_instruction (LoadEeprom place byte) s =
+    record s { eeprom_buffer = slice_set s.eeprom_buffer (place % s.part.eeprom_page) (Some byte) }
 after_instruction (WriteEepromPage address) s = with_eeprom_page address s
 after_instruction (WriteFuse f byte) s = with_fuse f byte s
 after_instruction (WriteLock byte) s = with_lock byte s

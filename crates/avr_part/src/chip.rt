@@ -1,5 +1,5 @@
 //! The chip, which executes serial programming instructions.
-ghost use Rattle.std.specs.Prelude.{◌≡◌, ◌+◌, ◌*◌, ◌%◌, ◌<◌, ◌≤◌, IfOk, slice_get, Ok, length, ◌/◌};
+ghost use Rattle.std.specs.Prelude.{◌≡◌, ℕ, ◌+◌, ◌*◌, ◌%◌, ◌<◌, ◌≤◌, IfOk, slice_get, Ok, length, ◌/◌};
 ghost use Rattle.std.specs.Option.{option_copied};
 
 use crate::fault::PartFault;
@@ -49,7 +49,8 @@ impl Model for Chip {
 }
 
 impl Chip {
-    ghost use Rattle.avr_part.specs.State.{fresh_state, with_empty_buffers, with_erased, with_load, with_flash_page, with_eeprom_byte, with_eeprom_load, with_eeprom_page, with_fuse, word_address, eeprom_address, flash_byte, signature_byte, fuse_of, output_byte, after_instruction, spi_of, is_locked, memory_of};
+    ghost use Rattle.avr_part.specs.State.{fresh_state, with_empty_buffers, with_erased, with_flash_page, with_eeprom_page, with_fuse, word_address, eeprom_address, signature_byte, output_byte, after_instruction, spi_of, is_locked, memory_of};
+    ghost use Rattle.avr_part.specs.declared.instruction.Instruction.{Instruction};
     ghost use Rattle.avr_part.specs.Block.{load_block, is_in_page, flash_block, is_in_flash};
     ghost use Rattle.avr_part.specs.Sound.{IsSoundChip};
     ghost use Rattle.avr_part.specs.PartFile.{GivesPartUnlessOutOfMemory};
@@ -172,7 +173,7 @@ impl Chip {
 
     /// Loads a byte into the flash buffer.
     fn load(&mut self, half: Half, word: u8, byte: u8)
-        ensures { self.new ≡ with_load half word byte self.old }
+        ensures { self.new ≡ after_instruction (Instruction.LoadFlash half word byte) self.old }
     {
         let place = self.buffer_place(word);
         match half {
@@ -198,7 +199,7 @@ impl Chip {
         usize::from(address) % self.part.size_of(Mem::Eeprom) as usize
     }
 
-    /// Returns whether LB1 is programmed. Then only a chip erase changes flash, EEPROM and fuses.
+    /// Returns whether LB1 is programmed. Then only a chip erase changes flash and EEPROM, and nothing the fuses.
     fn is_locked(&self) -> bool
         ensures { result ≡ is_locked self.now }
     {
@@ -219,7 +220,7 @@ impl Chip {
     }
 
     fn read_flash(&self, half: Half, word: u16) -> u8
-        ensures { result ≡ flash_byte half word self.now }
+        ensures { result ≡ output_byte (Instruction.ReadFlash half word) 0 self.now }
     {
         let at = self.word_address(word);
         match half {
@@ -229,7 +230,7 @@ impl Chip {
     }
 
     fn write_eeprom(&mut self, address: u16, byte: u8)
-        ensures { self.new ≡ with_eeprom_byte address byte self.old }
+        ensures { self.new ≡ after_instruction (Instruction.WriteEeprom address byte) self.old }
     {
         if !self.is_locked() {
             let at = self.eeprom_address(address);
@@ -238,7 +239,7 @@ impl Chip {
     }
 
     fn load_eeprom(&mut self, place: u8, byte: u8)
-        ensures { self.new ≡ with_eeprom_load place byte self.old }
+        ensures { self.new ≡ after_instruction (Instruction.LoadEeprom place byte) self.old }
     {
         let place = usize::from(place) % self.eeprom_page();
         self.eeprom_buffer.load(place, byte);
@@ -271,7 +272,7 @@ impl Chip {
     }
 
     fn read_fuse(&self, fuse: Fuse) -> u8
-        ensures { result ≡ fuse_of fuse self.now }
+        ensures { (third : ℕ) → result ≡ output_byte (Instruction.ReadFuse fuse) third self.now }
     {
         match fuse {
             Fuse::Low => self.lfuse,

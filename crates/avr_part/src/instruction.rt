@@ -1,6 +1,6 @@
 //! The serial programming instructions.
-ghost use Rattle.std.specs.Prelude.{◌≡◌};
-ghost use Rattle.avr_part.specs.Instruction.{instruction_of, decode_write};
+ghost use Rattle.std.specs.Prelude.{◌≡◌, ◌∷◌, []};
+ghost use Rattle.avr_part.specs.Instruction.{instruction_of};
 
 use std::fmt;
 
@@ -176,7 +176,7 @@ impl fmt::Debug for Instruction {
 
 /// Decodes an instruction that begins with AC.
 fn decode_write(second: u8, last: u8) -> Instruction
-    ensures { result ≡ decode_write second last }
+    ensures { result ≡ instruction_of (0xAC ∷ second ∷ 0 ∷ last ∷ []) }
 {
     match second {
         0x53 => Instruction::Enable,

@@ -9,7 +9,6 @@
 //! ```
 #![tactic(auto)]
 
-mod built_in;
 mod part;
 mod parts;
 // the part file

@@ -1,6 +1,6 @@
 //! The bytes of a memory, and a page buffer whose bytes are loaded one by one.
 ghost use Rattle.std.specs.Prelude.{◌≡◌, ◌<◌, ℕ, List, Option, Some, None, IfOk, length, replicate, slice_set, ◌+◌, ◌≤◌};
-ghost use Rattle.avr_part.specs.Memory.{AreLoads, AreBytes, Becomes, nothing_loaded, map_indexed, byte_and_page, overlaid_byte, blank, with_bytes_at};
+ghost use Rattle.avr_part.specs.Memory.{AreLoads, AreBytes, Becomes, nothing_loaded, map_indexed_from, byte_and_page, overlaid_byte, blank, with_bytes_at};
 
 use std::alloc::{AllocError, Global};
 use std::marker::Model;
@@ -49,7 +49,8 @@ impl Loads {
 // It takes a slice, because a loop over a vector loads its pointer anew for each byte.
 fn and_bytes(bytes: &mut [u8], start: usize, page: &[u8])
     requires { start + length page.now ≤ length bytes.old }
-    ensures { Becomes AreBytes (map_indexed (byte_and_page start page.now) bytes.old) (length bytes.old) bytes.new }
+    ensures { Becomes AreBytes (map_indexed_from 0 (byte_and_page start page.now) bytes.old) (length bytes.old)
+        bytes.new }
 {
     for (i, byte) in page.iter().enumerate() {
         bytes[start + i] &= *byte;
@@ -112,7 +113,8 @@ impl Memory {
 
     pub fn and_page(&mut self, start: usize, page: &[u8])
         requires { start + length page.now ≤ length self.old }
-        ensures { Becomes AreBytes (map_indexed (byte_and_page start page.now) self.old) (length self.old) self.new }
+        ensures { Becomes AreBytes (map_indexed_from 0 (byte_and_page start page.now) self.old) (length self.old)
+            self.new }
     {
         and_bytes(self.bytes.as_mut_slice(), start, page);
     }
@@ -120,7 +122,8 @@ impl Memory {
     /// Overwrites the bytes from `start` on with the loaded ones.
     pub fn overlay_page(&mut self, start: usize, loads: &Loads)
         requires { start + length loads.now ≤ length self.old }
-        ensures { Becomes AreBytes (map_indexed (overlaid_byte start loads.now) self.old) (length self.old) self.new }
+        ensures { Becomes AreBytes (map_indexed_from 0 (overlaid_byte start loads.now) self.old) (length self.old)
+            self.new }
     {
         for place in 0..loads.bytes.len() {
             if let Some(byte) = loads.bytes[place] {

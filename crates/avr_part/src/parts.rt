@@ -1,12 +1,12 @@
 //! The parts of a file and the built-in ones.
-ghost use Rattle.std.specs.Prelude.{◌≡◌, ◌++◌, [], IfOk};
+ghost use Rattle.std.specs.Prelude.{◌≡◌, ◌++◌, [], IfOk, ◌≤◌, length, slice_get};
 ghost use Rattle.std.specs.Iterator.{YieldsFirst, item_count};
 ghost use Rattle.avr_part.specs.BuiltIn.{built_in_parts, part_of_id};
 ghost use Rattle.avr_part.specs.Part.{IsPart};
 
-use crate::built_in::built_in_at;
 use crate::fault::PartFault;
 use crate::part::Part;
+use arrayvec::ArrayString;
 use std::marker::Model;
 
 /// The parts of a part file, if there is one, in the byte order of their ids; then the built-in parts.
@@ -130,5 +130,50 @@ impl<'a> Iterator for PartIter<'a> {
         let part = built_in_at(self.passed)?;
         self.passed += 1;
         Some(part)
+    }
+}
+
+fn id_from(id: &str) -> ArrayString<31>
+    requires { length id.now ≤ 31 }
+    ensures { result.bytes ≡ id.now }
+{
+    let mut text = ArrayString::new();
+    text.push_str(id);
+    text
+}
+
+/// Returns the built-in part at this place, counted from 0.
+pub fn built_in_at(place: usize) -> Option<Part>
+    ensures { result ≡ slice_get built_in_parts place }
+{
+    match place {
+        0 => Some(Part {
+            id: id_from("m328p"),
+            signature: [0x1E, 0x95, 0x0F],
+            flash_size: 32_768,
+            flash_page: 128,
+            eeprom_size: 1024,
+            eeprom_page: 4,
+            eesave_bit: 3,
+        }),
+        1 => Some(Part {
+            id: id_from("t85"),
+            signature: [0x1E, 0x93, 0x0B],
+            flash_size: 8192,
+            flash_page: 64,
+            eeprom_size: 512,
+            eeprom_page: 4,
+            eesave_bit: 3,
+        }),
+        2 => Some(Part {
+            id: id_from("m2560"),
+            signature: [0x1E, 0x98, 0x01],
+            flash_size: 262_144,
+            flash_page: 256,
+            eeprom_size: 4096,
+            eeprom_page: 8,
+            eesave_bit: 3,
+        }),
+        _ => None,
     }
 }

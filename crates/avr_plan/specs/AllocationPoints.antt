@@ -1,12 +1,12 @@
 -- When a failed allocation may stop a plan while no file is open. If a file is open, the break is `NoMemoryForFile`.
 use Rattle.std.specs.Prelude.{◌≡◌, Bool, true, false, List, [], ◌∷◌, ◌++◌, if◌then◌else◌}
-use Rattle.avr_cli.specs.declared.settings.Settings.{Settings}
-use Rattle.avr_cli.specs.declared.settings.Switches.{Switches}
-use Rattle.avr_cli.specs.declared.update.Format.{Format}
-use Rattle.avr_cli.specs.declared.update.Format.TheVariants.{Immediate}
-use Rattle.avr_cli.specs.declared.update.Op.{Op}
-use Rattle.avr_cli.specs.declared.update.Op.TheVariants as op
-use Rattle.avr_cli.specs.declared.update.Update.{Update}
+use Rattle.avr_plan.specs.declared.settings.Settings.{Settings}
+use Rattle.avr_plan.specs.declared.settings.Switches.{Switches}
+use Rattle.avr_plan.specs.declared.update.Format.{Format}
+use Rattle.avr_plan.specs.declared.update.Format.TheVariants.{Immediate}
+use Rattle.avr_plan.specs.declared.update.Op.{Op}
+use Rattle.avr_plan.specs.declared.update.Op.TheVariants as op
+use Rattle.avr_plan.specs.declared.update.Update.{Update}
 use Rattle.avr_desk.specs.OutputEvents.{OutputEvent}
 use Rattle.avr_desk.specs.Stage.{Stage, Produced}
 use Rattle.avr_desk.specs.declared.record.Opening.{Opening}

@@ -1,5 +1,10 @@
--- The numbers of the faults of a plan: of files, values, parts and tasks.
+-- The numbers of faults, which never change: of updates and settings, and of a plan's files, values, parts and tasks.
 use Rattle.std.specs.Prelude.{ℕ}
+use Rattle.avr_plan.specs.declared.update.UpdateFault.{UpdateFault}
+use Rattle.avr_plan.specs.declared.update.UpdateFault.TheVariants as update
+use Rattle.avr_plan.specs.declared.settings.SettingsFault.{SettingsFault}
+use Rattle.avr_plan.specs.declared.settings.SettingsFault.TheVariants.{NoPart, BadProgrammer, BadPort, NoChip, TooMany, BadUpdate}
+use Rattle.avr_plan.specs.declared.settings.SettingsFault.TheVariants.{StandardTaken, Memory}
 use Rattle.avr_plan.specs.declared.intake.BadFile.{BadFile}
 use Rattle.avr_plan.specs.declared.intake.BadFile.TheVariants.{Record, Raw, Elf, TooLong}
 use Rattle.avr_plan.specs.declared.image_file.ReadFault.{ReadFault}
@@ -10,6 +15,23 @@ use Rattle.avr_plan.specs.declared.plan_fault.TaskFault.{TaskFault}
 use Rattle.avr_plan.specs.declared.plan_fault.TaskFault.TheVariants as of_task
 use Rattle.avr_plan.specs.declared.plan_fault.PlanFault.{PlanFault}
 use Rattle.avr_plan.specs.declared.plan_fault.PlanFault.TheVariants as of_plan
+
+abbrev pub update_fault_number : UpdateFault → ℕ
+update_fault_number update.BadMemory = 1
+update_fault_number update.BadOp = 2
+update_fault_number update.BadFormat = 3
+update_fault_number update.NoFile = 4
+update_fault_number update.Memory = 5
+
+abbrev pub settings_fault_number : SettingsFault → ℕ
+settings_fault_number NoPart = 1
+settings_fault_number (BadProgrammer name) = 2
+settings_fault_number (BadPort text) = 3
+settings_fault_number TooMany = 4
+settings_fault_number (BadUpdate n fault) = 5
+settings_fault_number StandardTaken = 6
+settings_fault_number Memory = 7
+settings_fault_number NoChip = 8
 
 abbrev pub bad_file_number : BadFile → ℕ
 bad_file_number (Record fault) = 1

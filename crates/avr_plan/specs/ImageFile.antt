@@ -1,8 +1,8 @@
 -- The image that the bytes of a file are.
 use Rattle.std.specs.Prelude.{ℕ, List, length, take, nat_le, Option, option_map, unwrap_or, Result, Err, if◌then◌else◌}
 use Rattle.std.specs.Result.{result_map_both}
-use Rattle.avr_cli.specs.declared.update.Format.{Format}
-use Rattle.avr_cli.specs.declared.update.Format.TheVariants as letter
+use Rattle.avr_plan.specs.declared.update.Format.{Format}
+use Rattle.avr_plan.specs.declared.update.Format.TheVariants as letter
 use Rattle.avr_image.specs.Raw as raw_file
 use Rattle.avr_desk.specs.Record.{Bytes}
 use Rattle.avr_records.specs.Closed.{ended_lines_fault}

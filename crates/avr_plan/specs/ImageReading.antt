@@ -1,6 +1,6 @@
 -- What a desk records while an image file is read.
 use Rattle.std.specs.Prelude.{◌≡◌, ◌≤◌, ℕ, List, ◌++◌, length, Option, Bool, false, Result, Ok, Err, MatchBool}
-use Rattle.avr_cli.specs.declared.update.Format.{Format}
+use Rattle.avr_plan.specs.declared.update.Format.{Format}
 use Rattle.avr_desk.specs.Fault.{HasSameCounts}
 use Rattle.avr_desk.specs.Files.{after_reading, with_read, FileBreaks, CountsFileFault, EndsOrExceedsLimit}
 use Rattle.avr_desk.specs.Record.{DeskState, ChangesRecord, Bytes}

@@ -1,4 +1,10 @@
--- what contracts of public calls cite
+-- what contracts of public calls cite: of the command line, and of plans
+pub mod Split
+pub mod Update
+pub mod Port
+pub mod Standard
+pub mod Settings
+pub mod Command
 pub mod Faults
 pub mod Lines
 pub mod ImageFile

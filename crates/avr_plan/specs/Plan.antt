@@ -1,6 +1,6 @@
 -- The work of a run, after all that it needs was read and checked.
 use Rattle.std.specs.Prelude.{◌≡◌, true, List, length}
-use Rattle.avr_cli.specs.declared.settings.Switches.{Switches}
+use Rattle.avr_plan.specs.declared.settings.Switches.{Switches}
 use Rattle.avr_part.specs.Mem.{is_writable}
 use Rattle.avr_part.specs.Part.{Part, size_of}
 use Rattle.avr_plan.specs.declared.planned.Task.{Task}

@@ -1,8 +1,8 @@
 -- The line that is printed for each fault of a plan.
 use Rattle.std.specs.Prelude.{◌≡◌, ℕ, List, Option, Some, None, Result, slice_get}
 use Rattle.std.specs.Result.{result_map_both}
-use Rattle.avr_cli.specs.declared.settings.Settings.{Settings}
-use Rattle.avr_cli.specs.declared.update.Update.{Update}
+use Rattle.avr_plan.specs.declared.settings.Settings.{Settings}
+use Rattle.avr_plan.specs.declared.update.Update.{Update}
 use Rattle.avr_desk.specs.Fault.{CountsNeverFall, HasFailedToReport}
 use Rattle.avr_desk.specs.Lines.{file_fault_line, memory_line, too_long_line}
 use Rattle.avr_desk.specs.Record.{DeskState, Bytes}

@@ -2,13 +2,13 @@
 use Rattle.std.specs.Prelude.{ℕ, Bool, false, nat_le, nat_lt, List, [], ◌∷◌, ◌++◌, length, Option, Some, None, Result, Ok, Err, IsErr, if◌then◌else◌}
 use Rattle.std.specs.Result.{result_map_both}
 use Rattle.avr_desk.specs.Record.{DeskState, Bytes}
-use Rattle.avr_cli.specs.declared.settings.Settings.{Settings}
-use Rattle.avr_cli.specs.declared.settings.Switches.{Switches}
-use Rattle.avr_cli.specs.declared.update.Format.{Format}
-use Rattle.avr_cli.specs.declared.update.Format.TheVariants.{Immediate}
-use Rattle.avr_cli.specs.declared.update.Op.{Op}
-use Rattle.avr_cli.specs.declared.update.Op.TheVariants as op
-use Rattle.avr_cli.specs.declared.update.Update.{Update}
+use Rattle.avr_plan.specs.declared.settings.Settings.{Settings}
+use Rattle.avr_plan.specs.declared.settings.Switches.{Switches}
+use Rattle.avr_plan.specs.declared.update.Format.{Format}
+use Rattle.avr_plan.specs.declared.update.Format.TheVariants.{Immediate}
+use Rattle.avr_plan.specs.declared.update.Op.{Op}
+use Rattle.avr_plan.specs.declared.update.Op.TheVariants as op
+use Rattle.avr_plan.specs.declared.update.Update.{Update}
 use Rattle.avr_image.specs.Values.{image_of_values}
 use Rattle.avr_desk.specs.Lines.{too_long_line}
 use Rattle.avr_desk.specs.OutputEvents.{OutputEvent, PrintsLine, ReportsLine}

@@ -1,5 +1,5 @@
-//! Reads an image file over a desk in pieces, and checks it once its end or the limit is reached.
-ghost use Rattle.std.specs.Prelude.{◌≡◌, ◌+◌, ◌<◌, ◌^◌, ℕ, IfErr, OnOk, length};
+//! The image of an update: of a file in one of the formats, or of values.
+ghost use Rattle.std.specs.Prelude.{◌≡◌, ◌+◌, ◌<◌, ◌^◌, ℕ, IfErr, OnOk, length, false, IfOk, vec_len, vec_capacity};
 ghost use Rattle.avr_desk.specs.Fault.{CountsNeverFall, HasSameCounts};
 ghost use Rattle.avr_desk.specs.Record.{DeskState, Bytes};
 ghost use Rattle.avr_records.specs.declared.kind.Found.{Found as AnyFound};
@@ -9,12 +9,24 @@ ghost use Rattle.avr_desk.specs.Files.{CountsFileFault};
 ghost use Rattle.avr_plan.specs.ImageReading.{IsImageResult, FirstBytesAreRead, RestIsRead, ImageIsRead, CountsReadFault};
 ghost use Rattle.avr_plan.specs.Intake.{WasFed, record_bytes_fed};
 ghost use Rattle.ghosts.specs.Preserves.{Preserves};
+ghost use Rattle.avr_part.specs.Part.{size_of};
+ghost use Rattle.avr_plan.specs.declared.update.Update.{Update as AnyUpdate};
+ghost use Rattle.avr_plan.specs.PlanFaults.{ReportsTaskFault, with_status};
+ghost use Rattle.avr_plan.specs.Planning.{is_warned, warning_events, file_image_stage, update_image as update_image_stage};
+ghost use Rattle.avr_plan.specs.AllocationPoints.{has_immediate_values};
+ghost use Rattle.avr_desk.specs.StageRuns.{OnlyAtStart, RunsStage};
+ghost use Rattle.avr_desk.specs.Stage.{output_stage};
 
 use crate::intake::{BadFile, Intake};
+use crate::messages::{image_message, values_message};
+use crate::plan_fault::TaskFault;
+use crate::planned::Task;
+use crate::settings::Switches;
+use crate::update::{Format, Update};
 use arrayvec::ArrayVec;
-use avr_cli::Format;
-use avr_desk::{Desk, DeskFault, FileFault};
-use avr_image::Image;
+use avr_desk::{Desk, DeskFault, FileFault, Piece, memory_message, print_warning, refuse};
+use avr_image::{Image, parse_immediate};
+use avr_part::Part;
 use avr_records::{Ending, FIRST_BYTES, Found, detect};
 use std::alloc::Global;
 use thiserror::Error;
@@ -187,4 +199,109 @@ pub fn read_image<D: Desk>(
         return finish(intake);
     }
     read_rest(desk, intake, LARGEST_IMAGE_FILE - bytes.len())
+}
+
+/// Returns whether a warning about this ending is due.
+fn is_warned(switches: Switches, ending: Ending) -> bool
+    ensures { result ≡ is_warned switches ending }
+{
+    match ending {
+        Ending::Ended => false,
+        Ending::NoEnd => switches.quiet < 2,
+    }
+}
+
+/// Warns about a missing end record, unless warnings are off.
+fn warn_of_ending<D: Desk>(
+    desk: &mut D,
+    switches: Switches,
+    file: &str,
+    ending: Ending,
+) -> Result<(), TaskFault>
+    ensures goes { RunsStage (OnlyAtStart false) (output_stage (warning_events switches file.now ending))
+        (D.view desk.old) (D.view desk.new) (with_status result) }
+    ensures notice { (update : AnyUpdate) → IfErr result (ReportsTaskFault update (D.view desk.old) (D.view desk.new)) }
+    ensures stays { Preserves D.started_as desk.old desk.new }
+{
+    let warns = is_warned(switches, ending);
+    if !warns {
+        return Ok(());
+    }
+    match print_warning(desk, &[Piece::Text(file), Piece::Text(": no end record")]) {
+        Ok(()) => Ok(()),
+        Err(_) => Err(TaskFault::Unwarned),
+    }
+}
+
+/// Reads the image in a file and makes room for its task, and then warns about a missing end record.
+fn file_image<D: Desk>(
+    alloc: Global,
+    desk: &mut D,
+    tasks: &mut Vec<Task>,
+    switches: Switches,
+    file: &str,
+    format: Format,
+    size: u32,
+) -> Result<Image, TaskFault>
+    ensures goes { RunsStage (OnlyAtStart false) (file_image_stage switches file.now format size)
+        (D.view desk.old) (D.view desk.new) (with_status result) }
+    ensures notice { (update : AnyUpdate) → update.file ≡ file.now
+        → IfErr result (ReportsTaskFault update (D.view desk.old) (D.view desk.new)) }
+    ensures sized { IfOk result (λ image. length image ≡ size) }
+    ensures same { tasks.new.items ≡ tasks.old.items }
+    ensures room { OnOk result (vec_len tasks.new < vec_capacity tasks.new) }
+    ensures stays { Preserves D.started_as desk.old desk.new }
+{
+    match read_image(alloc, desk, file, format, size) {
+        Ok((image, ending)) => {
+            if tasks.reserve(1).is_err() {
+                refuse(desk, &memory_message());
+                return Err(TaskFault::Memory);
+            }
+            match warn_of_ending(desk, switches, file, ending) {
+                Ok(()) => Ok(image),
+                Err(fault) => Err(fault),
+            }
+        }
+        Err(fault) => {
+            refuse(desk, &image_message(file, fault));
+            Err(TaskFault::File(fault))
+        }
+    }
+}
+
+/// Reads the image of an update, and makes room for its task in `tasks`. For values, allocation fails before anything
+/// is printed; for a file, while it is read.
+pub(crate) fn update_image<D: Desk>(
+    alloc: Global,
+    desk: &mut D,
+    tasks: &mut Vec<Task>,
+    switches: Switches,
+    part: &Part,
+    update: &Update,
+) -> Result<Image, TaskFault>
+    ensures goes { RunsStage (OnlyAtStart (has_immediate_values update.now.format))
+        (update_image_stage switches part.now update.now) (D.view desk.old) (D.view desk.new) (with_status result) }
+    ensures notice { IfErr result (ReportsTaskFault update.now (D.view desk.old) (D.view desk.new)) }
+    ensures sized { IfOk result (λ image. length image ≡ size_of update.now.memory part.now) }
+    ensures same { tasks.new.items ≡ tasks.old.items }
+    ensures room { OnOk result (vec_len tasks.new < vec_capacity tasks.new) }
+    ensures stays { Preserves D.started_as desk.old desk.new }
+{
+    let size = part.size_of(update.memory);
+    let text = update.file.as_str();
+    let Format::Immediate = update.format else {
+        return file_image(alloc, desk, tasks, switches, text, update.format, size);
+    };
+    if tasks.reserve(1).is_err() {
+        refuse(desk, &memory_message());
+        return Err(TaskFault::Memory);
+    }
+    match parse_immediate(alloc, text, size) {
+        Ok(image) => Ok(image),
+        Err(fault) => {
+            refuse(desk, &values_message(update.memory, fault));
+            Err(TaskFault::Values(fault))
+        }
+    }
 }

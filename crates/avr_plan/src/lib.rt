@@ -1,7 +1,12 @@
-//! The plan of a run: reads and checks all that the settings ask for, before any frame is sent or file created.
+//! What a run is to do: settings, from the arguments of the command line, and the plan that they make with files.
 //!
-//! The rules are those of AVRDUDE's `-U`. A part is looked up in the part file, then in the built-in parts. The file of
-//! each update becomes an image of its memory. A plan is a function of what the openings of files give.
+//! Options and their meaning are those of the AVRDUDE manual, as far as `avrstk` has them. `clap` splits the
+//! arguments into options. What the options ask for is a function of their texts, which names the first fault.
+//! `let matches = read_words(alloc, &words)?;` and then `read_settings(alloc, &matches)` makes settings.
+//!
+//! `plan` reads and checks all that the settings ask for, before any frame is sent or file created. A part is looked up
+//! in the part file, then in the built-in parts. The file of each update becomes an image of its memory. A plan is a
+//! function of what the openings of files give.
 //!
 //! ```text
 //! let mut desk = MemDesk::empty(alloc);
@@ -12,6 +17,15 @@
 //! ```
 #![tactic(auto)]
 
+// the command line: its options, and the settings that they make
+mod command;
+mod from_options;
+mod laws;
+mod ports;
+mod settings;
+mod text;
+mod update;
+// the plan
 mod image_file;
 mod intake;
 mod messages;
@@ -19,8 +33,16 @@ mod part_choice;
 mod plan_fault;
 mod planned;
 mod planning;
-mod update_image;
 
+// the command line: its options, and the settings that they make
+pub use command::{make_command, read_words};
+pub use from_options::read_settings;
+pub use laws::{a_written_update_is_read, an_address_is_cut_at_its_last_colon};
+pub use ports::port_number;
+pub use settings::{Port, Settings, SettingsFault, Switches};
+pub use text::Text;
+pub use update::{Format, Op, Update, UpdateFault, Updates, parse_update};
+// the plan
 pub use image_file::{ReadFault, read_image};
 pub use intake::BadFile;
 pub use messages::read_only_message;

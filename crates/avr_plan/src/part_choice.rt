@@ -7,7 +7,7 @@ ghost use Rattle.ghosts.specs.Preserves.{Preserves};
 
 use crate::messages::{no_part_message, part_file_message};
 use crate::plan_fault::PartsFault;
-use avr_cli::Text;
+use crate::text::Text;
 use avr_desk::{Desk, file_message, read_file, refuse, too_long_message};
 use avr_part::{Part, Parts, parse_part_file};
 use std::alloc::Global;

@@ -1,7 +1,9 @@
 ghost use Rattle.std.specs.Prelude.{◌≡◌, All};
 ghost use Rattle.avr_plan.specs.Plan.{IsFitted};
 
-use avr_cli::{Format, Switches, Text};
+use crate::settings::Switches;
+use crate::text::Text;
+use crate::update::Format;
 use avr_image::Image;
 use avr_part::{Mem, Part};
 use std::marker::Model;

@@ -6,12 +6,14 @@ ghost use Rattle.avr_plan.specs.AllocationPoints.{AtAllocatingUpdate, AtAllocati
 ghost use Rattle.avr_desk.specs.StageRuns.{OnlyAtStart, RunsStage};
 ghost use Rattle.ghosts.specs.Preserves.{Preserves};
 
+use crate::image_file::update_image;
 use crate::messages::read_only_message;
 use crate::part_choice::{chosen_part, given_parts};
 use crate::plan_fault::{PlanFault, TaskFault};
 use crate::planned::{Plan, Task, Tasks};
-use crate::update_image::update_image;
-use avr_cli::{Op, Settings, Switches, Text, Update};
+use crate::settings::{Settings, Switches};
+use crate::text::Text;
+use crate::update::{Op, Update};
 use avr_desk::{Desk, memory_message, refuse};
 use avr_part::Part;
 use std::alloc::Global;

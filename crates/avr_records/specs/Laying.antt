@@ -5,7 +5,7 @@ use Rattle.avr_records.specs.Needed.{end_after}
 use Rattle.avr_records.specs.Reading.{first_outside}
 use Rattle.avr_records.specs.declared.kind.AddressBase.{AddressBase}
 use Rattle.avr_records.specs.declared.kind.AddressBase.TheVariants.{Linear, Segment}
-use Rattle.avr_records.specs.declared.spans.Spans.{Spans}
+use Rattle.avr_records.specs.declared.progress.Spans.{Spans}
 
 -- All bytes with their addresses.
 abbrev pub spans_places : Spans → List (ℕ × ℕ)

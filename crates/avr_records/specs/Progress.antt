@@ -4,7 +4,7 @@ use Rattle.std.specs.List.{list_any}
 use Rattle.avr_image.specs.Image.{image_of_pairs}
 use Rattle.avr_records.specs.Needed.{end_of_bytes}
 use Rattle.avr_records.specs.Reading.{LineResult, is_end_record, is_data_record, up_to_end, with_lines_before, bytes_of_lines, first_fault, base_after}
-use Rattle.avr_records.specs.declared.extent.Extent.{Extent}
+use Rattle.avr_records.specs.declared.progress.Extent.{Extent}
 use Rattle.avr_records.specs.declared.progress.Progress.{Progress}
 
 -- The size of the memory that is read into.

@@ -5,7 +5,7 @@ use Rattle.avr_records.specs.Fault.{fault_line_number}
 use Rattle.avr_records.specs.Needed.{end_after}
 use Rattle.avr_records.specs.Progress.{image_size}
 use Rattle.avr_records.specs.Reading.{LineResult, is_end_record, is_data_record, next_base, bytes_under_base, fault_under_base, in_line, line_result, ok_unless}
-use Rattle.avr_records.specs.declared.extent.Extent.{Extent}
+use Rattle.avr_records.specs.declared.progress.Extent.{Extent}
 use Rattle.avr_records.specs.declared.kind.Kind.{Kind}
 use Rattle.avr_records.specs.declared.kind.Kind.TheVariants.{Ihex, Srec}
 use Rattle.avr_records.specs.declared.kind.Ending.{Ending}

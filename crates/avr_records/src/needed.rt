@@ -4,10 +4,10 @@ ghost use Rattle.avr_records.specs.Reading.{image_in_text};
 ghost use Rattle.avr_records.specs.declared.kind.Ending.{Ending};
 
 use crate::bytes::ROOM;
-use crate::extent::Extent;
 use crate::fault::RecordFault;
 use crate::kind::Kind;
 use crate::line::split_line;
+use crate::progress::Extent;
 
 /// Returns the size in bytes of the smallest memory that a record file can be read into. It is one more than the
 /// file's highest byte address, or 0 for a file without bytes. The call allocates nothing, so a size can be checked

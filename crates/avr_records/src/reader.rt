@@ -5,11 +5,10 @@ ghost use Rattle.avr_records.specs.Reader.{ReaderState, MayHaveRead, IsNewReader
 ghost use Rattle.avr_records.specs.Reading.{image_in_text, ok_unless};
 
 use crate::bytes::ROOM;
-use crate::extent::Extent;
 use crate::fault::RecordFault;
 use crate::kind::{Ending, Kind};
 use crate::line_reader::LineReader;
-use crate::progress::Progress;
+use crate::progress::{Extent, Progress};
 use arrayvec::ArrayVec;
 use avr_image::Image;
 use std::alloc::Global;

@@ -1,8 +1,8 @@
 -- The actions of a plan, in order: the only place that decides what switches and tasks lead to.
 use Rattle.std.specs.Prelude.{ℕ, Bool, true, false, ◌&&◌, ◌||◌, not, List, [], ◌∷◌, ◌++◌, Option, if◌then◌else◌}
 use Rattle.std.specs.List.{list_any}
-use Rattle.avr_cli.specs.declared.settings.Switches.{Switches}
-use Rattle.avr_cli.specs.declared.update.Format.{Format}
+use Rattle.avr_plan.specs.declared.settings.Switches.{Switches}
+use Rattle.avr_plan.specs.declared.update.Format.{Format}
 use Rattle.avr_desk.specs.Record.{Bytes}
 use Rattle.avr_part.specs.declared.part.Mem.{Mem}
 use Rattle.avr_part.specs.declared.part.Mem.TheVariants.{Flash}

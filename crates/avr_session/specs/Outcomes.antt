@@ -5,8 +5,8 @@ use Rattle.avr_part.specs.Part.{Part}
 use Rattle.avr_plan.specs.Plan.{Plan}
 use Rattle.avr_session.specs.declared.ending.End.{End}
 use Rattle.avr_session.specs.declared.ending.End.TheVariants as ends
-use Rattle.avr_session.specs.declared.outcome.Outcome.{Outcome}
-use Rattle.avr_session.specs.declared.outcome.Outcome.TheVariants as outcome
+use Rattle.avr_session.specs.declared.ending.Outcome.{Outcome}
+use Rattle.avr_session.specs.declared.ending.Outcome.TheVariants as outcome
 use Rattle.avr_session.specs.Lines.{fault_line}
 use Rattle.avr_session.specs.Run.{StopsSession}
 use Rattle.avr_session.specs.Runs.{Devices}

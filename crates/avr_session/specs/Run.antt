@@ -1,6 +1,6 @@
 -- A run, from settings to status.
 use Rattle.std.specs.Prelude.{ℕ, ◌≡◌, ◌⊎◌, [], None, Err}
-use Rattle.avr_cli.specs.declared.settings.Settings.{Settings}
+use Rattle.avr_plan.specs.declared.settings.Settings.{Settings}
 use Rattle.avr_desk.specs.Record.{DeskState}
 use Rattle.avr_plan.specs.Plan.{Plan}
 use Rattle.avr_plan.specs.Planning.{LacksPart, planned}

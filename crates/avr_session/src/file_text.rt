@@ -3,9 +3,9 @@ ghost use Rattle.avr_session.specs.FileText.{file_text, trimmed};
 ghost use Rattle.avr_session.specs.Saving.{SendsText};
 
 use arrayvec::ArrayVec;
-use avr_cli::Format;
 use avr_desk::{Desk, DeskFault, Stream, write_all};
 use avr_image::{Base, ListWriter, Pieces};
+use avr_plan::Format;
 use avr_records::{Kind, Run, Writer};
 
 /// Writes all pieces of a text, collected into larger writes. After a fault a prefix of it was written.

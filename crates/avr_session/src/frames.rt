@@ -6,11 +6,10 @@ ghost use Rattle.stk_host.specs.Bound.{commands_in};
 ghost use Rattle.stk_host.specs.ReadSteps.{read_steps};
 ghost use Rattle.stk_host.specs.WriteSteps.{write_steps};
 
-use crate::performing::is_erase_due;
-use avr_cli::Switches;
+use crate::session::is_erase_due;
 use avr_image::Image;
 use avr_part::{Mem, Part};
-use avr_plan::{Plan, Task};
+use avr_plan::{Plan, Switches, Task};
 
 /// Signing on, entering programming mode, and three bytes of the signature.
 const OPENING: u64 = 5;

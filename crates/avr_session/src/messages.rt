@@ -5,10 +5,9 @@ ghost use Rattle.avr_session.specs.Lines.{bad_reply_pieces, differs_pieces, faul
 ghost use Rattle.avr_session.specs.Refusal.{in_update_pieces, port_pieces, refusal_line, refusal_pieces, unknown_pieces, update_pieces};
 ghost use Rattle.ghosts.specs.Preserves.{Preserves};
 
-use avr_cli::{SettingsFault, Text, UpdateFault};
 use avr_desk::{Desk, Message, Piece, memory_message};
 use avr_part::{Mem, Part};
-use avr_plan::read_only_message;
+use avr_plan::{SettingsFault, Text, UpdateFault, read_only_message};
 use stk_host::HostFault;
 
 fn refused_message<'a>(command: u8, status: u8) -> Message<'a>

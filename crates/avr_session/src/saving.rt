@@ -9,10 +9,9 @@ ghost use Rattle.ghosts.specs.Preserves.{Preserves};
 
 use crate::file_text::{trimmed, write_text};
 use crate::reports::{Done, report_bytes, report_fault};
-use avr_cli::Format;
 use avr_desk::{Desk, DeskFault, Stream, not_created_message, not_written_message, refuse};
 use avr_part::Mem;
-use avr_plan::Plan;
+use avr_plan::{Format, Plan};
 use stk_host::HostFault;
 
 /// The name of a file, or `-` for standard output, and the format.

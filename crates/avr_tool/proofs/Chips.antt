@@ -18,7 +18,7 @@ use Rattle.avr_desk.proofs.Stages.Openings.{runs_open, runs_content}
 use Rattle.avr_desk.proofs.Stages.Played.{went_settled, goes_unsettled}
 use Rattle.avr_desk.specs.StageRuns.{OnlyAtStart, RunsStage, StageCompleted}
 use Rattle.avr_desk.specs.Stage.{Produced, result_stage}
-use Rattle.avr_tool.specs.declared.loading.TheConstants.{LARGEST_CHIP_FILE}
+use Rattle.avr_tool.specs.declared.chip_files.TheConstants.{LARGEST_CHIP_FILE}
 use Rattle.avr_tool.specs.Lines.{length_line}
 use Rattle.avr_tool.specs.Loading.{AtOpened, chip_or_line, checked_chip, chip_given, chip_stage}
 

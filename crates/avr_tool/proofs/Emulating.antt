@@ -1,7 +1,7 @@
 -- A run over the emulated programmer, from its stages.
 use Rattle.std.proofs.Common.{◌≡◌, ℕ, [], All, subst, rules}
 use Rattle.avr_tool.specs.Holding.{LockedAndLoaded}
-use Rattle.avr_cli.specs.declared.settings.Settings.{Settings}
+use Rattle.avr_plan.specs.declared.settings.Settings.{Settings}
 use Rattle.avr_desk.specs.Fault.{CountsNeverFall}
 use Rattle.avr_desk.specs.Record.{DeskState, Bytes}
 use Rattle.avr_part.specs.ChipFile.{chip_file}

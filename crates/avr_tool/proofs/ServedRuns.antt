@@ -1,6 +1,6 @@
 -- A fresh emulator that served, from settings to status.
 use Rattle.std.proofs.Common.{◌≡◌, ℕ, false, List, [], ap₂, Result}
-use Rattle.avr_cli.specs.declared.settings.Settings.{Settings}
+use Rattle.avr_plan.specs.declared.settings.Settings.{Settings}
 use Rattle.avr_desk.specs.Record.{DeskState, Bytes}
 use Rattle.avr_part.specs.Part.{Part}
 use Rattle.avr_part.specs.State as chips

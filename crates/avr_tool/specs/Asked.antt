@@ -3,16 +3,16 @@ use Rattle.std.specs.Prelude.{◌≡◌, ◌≢◌, ℕ, true, List, [], Result,
 use Rattle.clap.specs.Words.{takes, fault_of, kind_of, HasKind}
 use Rattle.clap.specs.declared.error.Error.{Error}
 use Rattle.clap.specs.declared.error.kind.ErrorKind.TheVariants.{OutOfMemory}
-use Rattle.avr_cli.specs.Command.{avrstk, settings_from_arguments}
-use Rattle.avr_cli.specs.Settings.{GivesUnlessOutOfMemory, ReportsAnyway}
-use Rattle.avr_cli.specs.declared.settings.Settings.{Settings}
-use Rattle.avr_cli.specs.declared.settings.SettingsFault.{SettingsFault}
-use Rattle.avr_cli.specs.declared.settings.SettingsFault.TheVariants.{Memory}
+use Rattle.avr_plan.specs.Command.{avrstk, settings_from_arguments}
+use Rattle.avr_plan.specs.Settings.{GivesUnlessOutOfMemory, ReportsAnyway}
+use Rattle.avr_plan.specs.declared.settings.Settings.{Settings}
+use Rattle.avr_plan.specs.declared.settings.SettingsFault.{SettingsFault}
+use Rattle.avr_plan.specs.declared.settings.SettingsFault.TheVariants.{Memory}
 use Rattle.avr_desk.specs.Record.{DeskState, Bytes}
 use Rattle.avr_desk.specs.OutputEvents.{ReportsLine}
 use Rattle.avr_session.specs.Refusal.{refusal_line}
-use Rattle.avr_tool.specs.declared.asking.NotAsked.{NotAsked}
-use Rattle.avr_tool.specs.declared.asking.NotAsked.TheVariants.{Words, Refused}
+use Rattle.avr_tool.specs.declared.command_line.NotAsked.{NotAsked}
+use Rattle.avr_tool.specs.declared.command_line.NotAsked.TheVariants.{Words, Refused}
 
 -- A fault of the settings, or a failed allocation, was reported, and the status is 1.
 pub record IsRefused (words : List Bytes) (old new : DeskState) (status : ℕ) : Type 0 where

@@ -1,6 +1,6 @@
 -- How many write operations of a plan were completed over a link, each by all of its commands.
 use Rattle.std.specs.Prelude.{ℕ, suc, List, [], ◌∷◌, Ok}
-use Rattle.avr_cli.specs.declared.settings.Switches.{Switches}
+use Rattle.avr_plan.specs.declared.settings.Switches.{Switches}
 use Rattle.avr_part.specs.Part.{Part}
 use Rattle.avr_plan.specs.Plan.{Plan}
 use Rattle.avr_session.specs.Actions.{Action, actions}

@@ -1,6 +1,6 @@
 -- The expected run: what a run over a perfect link outputs, returns and leaves in the memories.
 use Rattle.std.specs.Prelude.{ℕ, List, [], ◌∷◌, ◌++◌, Result, Ok}
-use Rattle.avr_cli.specs.declared.settings.Switches.{Switches}
+use Rattle.avr_plan.specs.declared.settings.Switches.{Switches}
 use Rattle.avr_desk.specs.OutputEvents.{OutputEvent}
 use Rattle.avr_part.specs.Part.{Part}
 use Rattle.avr_plan.specs.Plan.{Plan}

@@ -3,7 +3,7 @@
 -- forges no frame. Beside this page are specs/OverFaultyLink (what a session leaves), specs/Program (from a command
 -- line) and specs/Emulated (over a chip file). docs/PROOFS.md lists what is not proved.
 use Rattle.std.specs.Prelude.{ℕ, ◌≡◌, ◌≤◌, ◌⊎◌, List, [], ◌∷◌, ◌++◌, map, length, Some, None}
-use Rattle.avr_cli.specs.declared.settings.Settings.{Settings}
+use Rattle.avr_plan.specs.declared.settings.Settings.{Settings}
 use Rattle.avr_desk.specs.Record.{DeskState, ChangesRecord, Bytes, after_err}
 use Rattle.avr_desk.specs.declared.record.Opening.{Opening}
 use Rattle.avr_desk.specs.declared.record.Opening.TheVariants.{Found}

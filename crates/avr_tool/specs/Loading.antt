@@ -10,7 +10,7 @@ use Rattle.avr_part.specs.State.{ChipState, fresh_state}
 use Rattle.avr_desk.specs.StageRuns.{AllocationPoints}
 use Rattle.avr_desk.specs.OutputEvents.{Opens}
 use Rattle.avr_desk.specs.Stage.{Stage, ◌>>=◌, result_stage, open_stage, content_stage}
-use Rattle.avr_tool.specs.declared.loading.TheConstants.{LARGEST_CHIP_FILE}
+use Rattle.avr_tool.specs.declared.chip_files.TheConstants.{LARGEST_CHIP_FILE}
 use Rattle.avr_tool.specs.Lines.{length_line}
 
 -- The chip with these bytes; any length but the part's is refused.

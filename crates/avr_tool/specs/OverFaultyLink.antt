@@ -1,7 +1,7 @@
 -- What the session of a plan did over a link, whatever the link loses, delays and corrupts. It is stated first by the
 -- exchanges of its frames, then over a wire to the emulated programmer, by their fates.
 use Rattle.std.specs.Prelude.{ℕ, ◌+◌, ◌*◌, ◌≡◌, ◌≤◌, ◌⊎◌, false, List, [], ◌∷◌, ◌++◌, map, length}
-use Rattle.avr_cli.specs.declared.settings.Switches.{Switches}
+use Rattle.avr_plan.specs.declared.settings.Switches.{Switches}
 use Rattle.avr_desk.specs.Record.{DeskState, ChangesRecord}
 use Rattle.avr_desk.specs.OutputEvents.{OutputEvent, after_events}
 use Rattle.avr_part.specs.declared.part.Mem.{Mem}

@@ -1,7 +1,7 @@
 -- The kinds of ports that settings have, and what each names.
 use Rattle.std.specs.Prelude.{ℕ, List, []}
-use Rattle.avr_cli.specs.declared.settings.Port.{Port}
-use Rattle.avr_cli.specs.declared.settings.Port.TheVariants.{Emulated, Network, Served}
+use Rattle.avr_plan.specs.declared.settings.Port.{Port}
+use Rattle.avr_plan.specs.declared.settings.Port.TheVariants.{Emulated, Network, Served}
 
 -- The port is the emulator; below, a connection and a service.
 abbrev pub IsEmulated : Port → Type 0

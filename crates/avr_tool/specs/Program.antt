@@ -4,12 +4,12 @@ use Rattle.clap.specs.Words.{fault_of, kind_of, takes, HasKind}
 use Rattle.clap.specs.declared.error.Error.{Error}
 use Rattle.clap.specs.declared.error.kind.ErrorKind.{ErrorKind}
 use Rattle.clap.specs.declared.error.kind.ErrorKind.TheVariants.{OutOfMemory, DisplayHelp, DisplayVersion}
-use Rattle.avr_cli.specs.Command.{avrstk, settings_from_arguments}
-use Rattle.avr_cli.specs.Port.{port_number}
-use Rattle.avr_cli.specs.declared.settings.Port.{Port}
-use Rattle.avr_cli.specs.declared.settings.Port.TheVariants.{Stdio, Emulated, Network, Served}
-use Rattle.avr_cli.specs.declared.settings.Settings.{Settings}
-use Rattle.avr_cli.specs.declared.settings.SettingsFault.TheVariants.{Memory}
+use Rattle.avr_plan.specs.Command.{avrstk, settings_from_arguments}
+use Rattle.avr_plan.specs.Port.{port_number}
+use Rattle.avr_plan.specs.declared.settings.Port.{Port}
+use Rattle.avr_plan.specs.declared.settings.Port.TheVariants.{Stdio, Emulated, Network, Served}
+use Rattle.avr_plan.specs.declared.settings.Settings.{Settings}
+use Rattle.avr_plan.specs.declared.settings.SettingsFault.TheVariants.{Memory}
 use Rattle.avr_desk.specs.Record.{Bytes}
 use Rattle.avr_desk.specs.OutputEvents.{ReportsLine}
 use Rattle.avr_tool.specs.Emulated.{RunsEmulator}

@@ -1,6 +1,6 @@
 -- Serving an emulated programmer to a client at a port of this machine, from settings to status.
 use Rattle.std.specs.Prelude.{ℕ, ◌≡◌, ◌⊎◌, [], Option, Some, None, Ok, Err}
-use Rattle.avr_cli.specs.declared.settings.Settings.{Settings}
+use Rattle.avr_plan.specs.declared.settings.Settings.{Settings}
 use Rattle.avr_desk.specs.Record.{DeskState, Bytes}
 use Rattle.avr_desk.specs.OutputEvents.{ReportsLine}
 use Rattle.avr_tool.specs.ServedRun.{ChecksPart, ServesPart}

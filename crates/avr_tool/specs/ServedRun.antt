@@ -2,7 +2,7 @@
 use Rattle.std.specs.Prelude.{◌≡◌, ◌⊎◌, ℕ, false, List, [], ◌∷◌, Option, Some, None, Result, Ok, Err, codes}
 use Rattle.avr_tool.specs.Holding.{LocksAndLoads, LockedAndLoaded}
 use Rattle.avr_tool.specs.Saving.{SavesAfterRun}
-use Rattle.avr_cli.specs.declared.settings.Settings.{Settings}
+use Rattle.avr_plan.specs.declared.settings.Settings.{Settings}
 use Rattle.avr_desk.specs.Fault.{CountsNeverFall}
 use Rattle.avr_desk.specs.Record.{DeskState, Bytes, released}
 use Rattle.avr_desk.specs.Lines.{error}

@@ -1,6 +1,6 @@
 -- What the memories hold after a verified run with status 0, address by address.
 use Rattle.std.specs.Prelude.{ℕ, ◌≡◌, ◌==◌, ◌<◌, ◌&&◌, not, List, [], ◌∷◌, length, map, slice_index, None, if◌then◌else◌}
-use Rattle.avr_cli.specs.declared.settings.Switches.{Switches}
+use Rattle.avr_plan.specs.declared.settings.Switches.{Switches}
 use Rattle.avr_image.specs.Image.{empty, byte_at, over}
 use Rattle.avr_part.specs.Part.{Part, size_of}
 use Rattle.avr_part.specs.declared.part.Mem.{Mem}

@@ -1,7 +1,7 @@
 //! Laws of runs; no code. Those that no contract here needs are in avr_laws.
 
 ghost use Rattle.std.specs.Prelude.{◌≡◌, ◌⊎◌, ℕ, All};
-ghost use Rattle.avr_cli.specs.declared.settings.Settings.{Settings as AnySettings};
+ghost use Rattle.avr_plan.specs.declared.settings.Settings.{Settings as AnySettings};
 ghost use Rattle.avr_desk.specs.Fault.{CountsNeverFall};
 ghost use Rattle.avr_desk.specs.StageRuns.{StageCompleted};
 ghost use Rattle.avr_desk.specs.Record.{DeskState};

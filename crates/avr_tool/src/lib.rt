@@ -25,10 +25,8 @@
 //! ```
 #![tactic(auto)]
 
-mod holding;
-mod loading;
+mod chip_files;
 mod messages;
-mod saving;
 // the emulated programmer with its chip file: a run over it, and serving it
 mod ending;
 mod over_emulator;
@@ -39,8 +37,6 @@ mod network;
 mod over_net;
 mod ports;
 mod serving;
-// from a command line to settings
-mod asking;
 // from a command line to a status
 mod command_line;
 mod program;
@@ -52,13 +48,12 @@ mod laws;
 mod numbers;
 
 // from a command line to settings
-pub use asking::{NotAsked, asked};
-pub use avr_cli::{
+pub use avr_plan::{
     Format, Op, Port, Settings, SettingsFault, Switches, Text, Update, UpdateFault, Updates,
     make_command, parse_update, port_number, read_settings, read_settings as settings, read_words,
 };
 pub use avr_session::refuse;
-pub use command_line::CommandLine;
+pub use command_line::{CommandLine, NotAsked, asked};
 pub use laws::{a_run_is_one_function, a_session_over_a_wire, a_stop_is_a_prefix};
 // what a run reads and writes besides its link
 pub use avr_desk::{
@@ -81,9 +76,7 @@ pub use served_run::{READS, check_part, serve, serve_chip, serve_for, serve_part
 pub use serving::{serve_net, serve_on};
 pub use texts::refuse_text;
 // the emulated programmer and the chip file
-pub use holding::hold_chip;
-pub use loading::load_chip;
-pub use saving::save_chip;
+pub use chip_files::{hold_chip, load_chip, save_chip};
 pub use serving_link::{Served, serve_link};
 // parts, their chips and the contents of their memories
 pub use avr_image::Image;

@@ -1,9 +1,9 @@
 //! The numbers of files, frames and runs, in one law.
 
 ghost use Rattle.std.specs.Prelude.{◌≡◌, ◌∷◌, ◌+◌, ◌/◌, [], List, ℕ, length, nat_le, nat_lt, Err, if◌then◌else◌};
-ghost use Rattle.avr_cli.specs.Settings.{updates_from, updates_of};
-ghost use Rattle.avr_cli.specs.declared.settings.SettingsFault.TheVariants.{TooMany};
-ghost use Rattle.avr_cli.specs.declared.update.Format.{Format as AnyFormat};
+ghost use Rattle.avr_plan.specs.Settings.{updates_from, updates_of};
+ghost use Rattle.avr_plan.specs.declared.settings.SettingsFault.TheVariants.{TooMany};
+ghost use Rattle.avr_plan.specs.declared.update.Format.{Format as AnyFormat};
 ghost use Rattle.avr_desk.specs.Lines.{too_long_line};
 ghost use Rattle.avr_tool.specs.Loading.{chip_or_line, checked_chip};
 ghost use Rattle.avr_tool.specs.declared.served_run.TheConstants.{READS};

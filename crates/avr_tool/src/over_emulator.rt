@@ -10,12 +10,10 @@ ghost use Rattle.avr_part.specs.ChipFile.{chip_file};
 ghost use Rattle.avr_tool.specs.Emulated.{IsSavedIfSent, RunsEmulator};
 ghost use Rattle.avr_tool.specs.Ports.{IsEmulated, chip_file_of};
 
-use crate::holding::hold_chip;
+use crate::chip_files::{hold_chip, save_after};
 use crate::ports::chip_file as file_of;
-use crate::saving::save_after;
-use avr_cli::Settings;
 use avr_desk::{ChipDesk, Desk};
-use avr_plan::{Plan, plan};
+use avr_plan::{Plan, Settings, plan};
 use avr_session::drive;
 use std::alloc::Global;
 use stk_emu::{Fates, Recorder, Wired};
@@ -69,7 +67,7 @@ fn save_if_sent<D: ChipDesk, R: Recorder>(
 }
 
 /// Makes the plan of a run, and runs it over an emulated programmer. The port of the settings must be
-/// [`Port::Emulated`](avr_cli::Port::Emulated). The chip is loaded from its file, or fresh if the file doesn't exist,
+/// [`Port::Emulated`](avr_plan::Port::Emulated). The chip is loaded from its file, or fresh if the file doesn't exist,
 /// and saved to it if a frame was sent. The file is locked from loading to saving: another run is refused.
 ///
 /// Returns the status: 0 if there was no fault, otherwise 1. Every fault has its line, and a refusal is reported

@@ -6,14 +6,13 @@ ghost use Rattle.ghosts.specs.Preserves.{Preserves};
 use crate::messages::unopened_message;
 use crate::network::Network;
 use crate::ports::{close, connect, place_of};
-use avr_cli::Settings;
 use avr_desk::{Desk, refuse};
-use avr_plan::plan;
+use avr_plan::{Settings, plan};
 use avr_session::drive;
 use std::alloc::Global;
 
 /// Makes the plan of a run, and runs it over the programmer behind the `HOST:PORT` of the settings' port, which must
-/// be [`Port::Network`](avr_cli::Port::Network).
+/// be [`Port::Network`](avr_plan::Port::Network).
 ///
 /// Returns the status: 0 if there was no fault, otherwise 1. Every fault has its line, and a refusal is reported
 /// without a connection. A read times out after one second. A connection that was reset is a failure of the link.

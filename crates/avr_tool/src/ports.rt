@@ -4,7 +4,7 @@ ghost use Rattle.avr_tool.specs.Ports.{chip_file_of, port_address};
 ghost use Rattle.avr_tool.specs.Sockets.{IsNewLink};
 
 use crate::network::{Callers, Network, Side};
-use avr_cli::Port;
+use avr_plan::Port;
 use std::io;
 use stk_host::StreamLink;
 

@@ -9,16 +9,15 @@ ghost use Rattle.avr_tool.specs.Sockets.{peers_of};
 ghost use Rattle.stk_host.specs.Links.{TranscriptIsTrueSince, stream_state};
 ghost use Rattle.ghosts.specs.Preserves.{Preserves};
 
-use crate::asking::{NotAsked, asked};
-use crate::command_line::CommandLine;
+use crate::command_line::{CommandLine, NotAsked, asked};
 use crate::network::Network;
 use crate::over_emulator::run_emu;
 use crate::over_net::run_net;
 use crate::running::run;
 use crate::serving::serve_net;
 use crate::texts::{print_text, refuse_text};
-use avr_cli::{Port, Settings, SettingsFault};
 use avr_desk::{ChipDesk, Desk, DeskFault, FileSystem, Stream, SystemDesk};
+use avr_plan::{Port, Settings, SettingsFault};
 use avr_session::refuse;
 use clap::Error;
 use clap::error::ErrorKind;

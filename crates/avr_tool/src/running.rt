@@ -7,9 +7,8 @@ ghost use Rattle.stk_emu.specs.Wired.{IsFresh};
 ghost use Rattle.ghosts.specs.Preserves.{Preserves};
 
 use crate::over_emulator::drive_wired;
-use avr_cli::Settings;
 use avr_desk::Desk;
-use avr_plan::plan;
+use avr_plan::{Settings, plan};
 use avr_session::drive;
 use std::alloc::Global;
 use stk_emu::{Recorder, Wired};

@@ -8,15 +8,13 @@ ghost use Rattle.avr_tool.specs.Ports.{HasChip, chip_file_of};
 ghost use Rattle.avr_session.specs.Runs.{devices};
 ghost use Rattle.ghosts.specs.Preserves.{Preserves};
 
+use crate::chip_files::{hold_chip, save_after};
 use crate::ending::{report_end, status_of_served};
-use crate::holding::hold_chip;
 use crate::ports::chip_file;
-use crate::saving::save_after;
 use crate::serving_link::serve_link;
-use avr_cli::Settings;
 use avr_desk::{ChipDesk, Desk};
 use avr_part::{Chip, Part};
-use avr_plan::{chosen_part, given_parts};
+use avr_plan::{Settings, chosen_part, given_parts};
 use std::alloc::Global;
 use stk_emu::Emulator;
 use stk_host::Link;

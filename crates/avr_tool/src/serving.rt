@@ -1,5 +1,5 @@
 ghost use Rattle.std.specs.Prelude.{IfOk, OnErr};
-ghost use Rattle.avr_cli.specs.Port.{port_number as number_of};
+ghost use Rattle.avr_plan.specs.Port.{port_number as number_of};
 ghost use Rattle.avr_tool.specs.Ports.{IsServed, chip_file_of, port_address};
 ghost use Rattle.avr_tool.specs.ServedNet.{ServesNet, ServesOn};
 ghost use Rattle.avr_tool.specs.Sockets.{IsNewLink, IsOverClient, IsOverPort};
@@ -9,9 +9,9 @@ use crate::messages::unopened_message;
 use crate::network::{Callers, Network};
 use crate::ports::{accept, chip_file, close, listen, place_of};
 use crate::served_run::{READS, check_part, serve_part};
-use avr_cli::{Settings, port_number};
 use avr_desk::{ChipDesk, refuse};
 use avr_part::Part;
+use avr_plan::{Settings, port_number};
 use std::alloc::Global;
 use std::io;
 use stk_host::StreamLink;
@@ -42,7 +42,7 @@ fn serve_client<L: Callers, D: ChipDesk>(
 }
 
 /// Serves the emulated programmer of the settings' part to the first client of a listener, in at most 16,777,216
-/// reads. The port of the settings must be [`Port::Served`](avr_cli::Port::Served); the network is left unused.
+/// reads. The port of the settings must be [`Port::Served`](avr_plan::Port::Served); the network is left unused.
 ///
 /// The part and the chip file are checked before a connection is accepted; if they are refused, no client is waited
 /// for. The chip is loaded from the file when the client has connected, and saved to it when the client is gone. If
@@ -110,7 +110,7 @@ fn serve_at<N: Network, D: ChipDesk>(
 }
 
 /// Serves the emulated programmer of the settings' part at a port of 127.0.0.1, to the first client, as [`serve_on`]
-/// does. The port of the settings must be [`Port::Served`](avr_cli::Port::Served). The part and the chip file are
+/// does. The port of the settings must be [`Port::Served`](avr_plan::Port::Served). The part and the chip file are
 /// checked before the port is opened.
 ///
 /// The port is closed when the first client has connected, so a second one is refused. A port that can't be opened is

@@ -4,10 +4,10 @@ use Rattle.clap.specs.Words.{fault_of, kind_of, takes, HasKind}
 use Rattle.clap.specs.declared.error.Error.{Error}
 use Rattle.clap.specs.declared.error.kind.ErrorKind.{ErrorKind}
 use Rattle.clap.specs.declared.error.kind.ErrorKind.TheVariants.{DisplayHelp, OutOfMemory}
-use Rattle.avr_cli.specs.Command.{avrstk, settings_from_arguments}
-use Rattle.avr_cli.specs.declared.settings.Port.{Port}
-use Rattle.avr_cli.specs.declared.settings.Port.TheVariants.{Emulated, Stdio}
-use Rattle.avr_cli.specs.declared.settings.Settings.{Settings}
+use Rattle.avr_plan.specs.Command.{avrstk, settings_from_arguments}
+use Rattle.avr_plan.specs.declared.settings.Port.{Port}
+use Rattle.avr_plan.specs.declared.settings.Port.TheVariants.{Emulated, Stdio}
+use Rattle.avr_plan.specs.declared.settings.Settings.{Settings}
 use Rattle.avr_desk.specs.Lines.{error, memory_pieces}
 use Rattle.avr_desk.specs.Record.{Bytes, DeskState}
 use Rattle.avr_desk.specs.OutputEvents.{ReportsLine}

@@ -16,11 +16,10 @@ ghost use Rattle.ghosts.specs.Preserves.{Preserves};
 
 mod outline;
 
-use avr_cli::{Port, Settings};
 use avr_desk::{
     ChipDesk, Desk, FileSystem, Message, Stream, SystemDesk, memory_message, refuse, write_all,
 };
-use avr_plan::{Plan, plan};
+use avr_plan::{Plan, Port, Settings, plan};
 use avr_tool::{CommandLine, NotAsked, asked, check_part, serve};
 use clap::Error;
 use clap::error::ErrorKind;

@@ -4,9 +4,6 @@
 //! functions that make such a struct are proved step by step, from the lemmas kept here.
 #![tactic(auto)]
 
-mod inlet;
-mod outlet;
 pub mod retry;
 
-pub use inlet::Inlet;
-pub use outlet::Outlet;
+pub use retry::{Inlet, Outlet};

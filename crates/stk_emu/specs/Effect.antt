@@ -48,7 +48,7 @@ and_in image [] = []
 and_in [] (x ∷ xs) = x ∷ xs
 and_in (b ∷ image) (x ∷ xs) = and_with b x ∷ and_in image xs
 
--- Lock bit 0 is 0: only an erase changes flash, EEPROM and fuses.
+-- Lock bit 0 is 0: only an erase changes flash and EEPROM, and nothing changes the fuses.
 abbrev pub are_locked : Memories → Bool
 are_locked m = bit_at m.lock 0 == 0
 

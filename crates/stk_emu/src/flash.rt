@@ -1,8 +1,8 @@
 //! Blocks of flash.
 
 ghost use Rattle.std.specs.Prelude.{◌≡◌, ◌<◌, ◌≤◌, ◌+◌, ◌++◌, length};
-ghost use Rattle.stk_frame.specs.declared.protocol.TheConstants.{LARGEST_BODY};
-ghost use Rattle.stk_emu.specs.Programmer.{bit_31, after_instructions, flash_writes, block_loads, block_reads};
+ghost use Rattle.stk_frame.specs.declared.protocol.TheConstants.{EXTENDED_ADDRESS, LARGEST_BODY};
+ghost use Rattle.stk_emu.specs.Programmer.{after_instructions, page_writes, block_loads, block_reads};
 
 use crate::programmer::Body;
 use crate::spi::{at_address, extend, for_half, word_at};
@@ -24,7 +24,7 @@ pub(crate) struct Block {
 
 /// Loads the bytes of a page: all at once if the chip can, else byte by byte.
 pub(crate) fn load_page(chip: &mut Chip, block: Block, bytes: &[u8])
-    requires address { block.address < bit_31 }
+    requires address { block.address < EXTENDED_ADDRESS }
     requires count { length bytes.now < 65536 }
     ensures { chip.new ≡ after_instructions (block_loads block bytes.now) chip.old }
 {
@@ -44,7 +44,7 @@ pub(crate) fn load_page(chip: &mut Chip, block: Block, bytes: &[u8])
 
 /// Writes the page, if that is asked for.
 pub(crate) fn write_page(chip: &mut Chip, block: Block, is_asked: bool)
-    ensures { chip.new ≡ after_instructions (flash_writes block.wide block.command block.address is_asked) chip.old }
+    ensures { chip.new ≡ after_instructions (page_writes block.wide block.command block.address is_asked) chip.old }
 {
     if is_asked {
         extend(chip, block.wide, block.address);
@@ -54,7 +54,7 @@ pub(crate) fn write_page(chip: &mut Chip, block: Block, is_asked: bool)
 
 /// Reads `count` bytes and appends them to `out`: all at once if the chip can, else byte by byte.
 pub(crate) fn read(chip: &mut Chip, block: Block, count: u16, out: &mut Body)
-    requires address { block.address < bit_31 }
+    requires address { block.address < EXTENDED_ADDRESS }
     requires room { length out.old.items + count ≤ LARGEST_BODY }
     ensures bytes { out.new.items ≡ out.old.items ++ (block_reads block count chip.old).0 }
     ensures chip { chip.new ≡ (block_reads block count chip.old).1 }

@@ -1,8 +1,9 @@
 //! Executes each command of the protocol.
 
 ghost use Rattle.std.specs.Prelude.{◌≡◌, ◌<◌, ◌≤◌, ◌∷◌, [], ◌+◌, ◌%◌, length, false, true};
-ghost use Rattle.stk_frame.specs.declared.protocol.TheConstants.{LARGEST_BODY, STATUS_CMD_FAILED};
-ghost use Rattle.stk_emu.specs.Programmer.{fresh_programmer, restarted_programmer, set_parameter, get_parameter, load_address, enter_progmode, leave_progmode, chip_erase, program_byte, read_byte, program_flash, program_eeprom, is_paged, is_written, read_flash, read_eeprom, spi_multi, execute_command, is_known, execute, bit_31};
+ghost use Rattle.stk_frame.specs.declared.protocol.TheConstants.{EXTENDED_ADDRESS, LARGEST_BODY, STATUS_CMD_FAILED};
+ghost use Rattle.stk_frame.specs.declared.command.Command.{Command};
+ghost use Rattle.stk_emu.specs.Programmer.{fresh_programmer, restarted_programmer, enter_progmode, program_byte, read_byte, program_flash, program_eeprom, is_paged, is_written, read_flash, read_eeprom, spi_multi, execute_command, is_known, execute};
 
 use crate::flash::Block;
 use crate::{eeprom, flash};
@@ -46,7 +47,8 @@ pub(crate) struct Programmer {
 
 impl Model for Programmer {
     ghost use Rattle.std.specs.Prelude.{◌<◌};
-    ghost use Rattle.stk_emu.specs.Programmer.{Programmer as State, bit_31};
+    ghost use Rattle.stk_emu.specs.Programmer.{Programmer as State};
+    ghost use Rattle.stk_frame.specs.declared.protocol.TheConstants.{EXTENDED_ADDRESS};
 
     ghost Value = { State };
 
@@ -58,7 +60,7 @@ impl Model for Programmer {
       chip = p.chip;
     } };
 
-    ghost invariant = { λ p. p.address < bit_31 };
+    ghost invariant = { λ p. p.address < EXTENDED_ADDRESS };
 }
 
 /// Makes these bytes the body of the reply.
@@ -135,14 +137,14 @@ impl Programmer {
     }
 
     fn set_parameter(&mut self, number: u8, value: u8, out: &mut Body)
-        ensures { (out.new.items, self.new) ≡ set_parameter number value self.old }
+        ensures { (out.new.items, self.new) ≡ execute_command (Command.SetParameter number value) self.old }
     {
         self.parameters[usize::from(number)] = value;
         reply_with(out, &[CMD_SET_PARAMETER, STATUS_CMD_OK]);
     }
 
     fn get_parameter(&self, number: u8, out: &mut Body)
-        ensures { (out.new.items, self.now) ≡ get_parameter number self.now }
+        ensures { (out.new.items, self.now) ≡ execute_command (Command.GetParameter number) self.now }
     {
         reply_with(
             out,
@@ -155,7 +157,7 @@ impl Programmer {
     }
 
     fn load_address(&mut self, address: u32, out: &mut Body)
-        ensures { (out.new.items, self.new) ≡ load_address address self.old }
+        ensures { (out.new.items, self.new) ≡ execute_command (Command.LoadAddress address) self.old }
     {
         self.address = address % EXTENDED_ADDRESS;
         self.wide = EXTENDED_ADDRESS <= address;
@@ -180,15 +182,17 @@ impl Programmer {
         reply_with(out, &[CMD_ENTER_PROGMODE_ISP, STATUS_CMD_OK]);
     }
 
+    /// Leaves programming mode. The delays that the command asks for do nothing.
     fn leave_progmode(&mut self, out: &mut Body)
-        ensures { (out.new.items, self.new) ≡ leave_progmode self.old }
+        ensures { (out.new.items, self.new) ≡ execute_command (Command.LeaveProgmode 0 0) self.old }
     {
         self.mode = false;
         reply_with(out, &[CMD_LEAVE_PROGMODE_ISP, STATUS_CMD_OK]);
     }
 
+    /// Executes the erase instruction. The command's delay and poll method do nothing.
     fn chip_erase(&mut self, instruction: [u8; 4], out: &mut Body)
-        ensures { (out.new.items, self.new) ≡ chip_erase instruction self.old }
+        ensures { (out.new.items, self.new) ≡ execute_command (Command.ChipErase 0 0 instruction) self.old }
     {
         if !self.mode {
             return fail(out, CMD_CHIP_ERASE_ISP);
@@ -228,7 +232,7 @@ impl Programmer {
 
     /// Moves the address past a block.
     fn advance_address(&mut self, count: u16)
-        ensures { self.new ≡ record self.old { address = (self.old.address + count) % bit_31 } }
+        ensures { self.new ≡ record self.old { address = (self.old.address + count) % EXTENDED_ADDRESS } }
     {
         self.address = (self.address + u32::from(count)) % EXTENDED_ADDRESS;
     }

@@ -1,7 +1,8 @@
 //! Serial programming instructions for an address.
 
 ghost use Rattle.std.specs.Prelude.{◌≡◌, ◌<◌};
-ghost use Rattle.stk_emu.specs.Programmer.{bit_31, at_address, word_at, byte_address, for_half, extension, after_instructions};
+ghost use Rattle.stk_frame.specs.declared.protocol.TheConstants.{EXTENDED_ADDRESS};
+ghost use Rattle.stk_emu.specs.Programmer.{at_address, word_at, byte_address, for_half, extension, after_instructions};
 
 use avr_part::Chip;
 use stk_frame::protocol::EXTENDED_ADDRESS;
@@ -24,7 +25,7 @@ pub(crate) fn for_half(command: u8, place: u16) -> u8
 
 /// Returns the address of the word that holds the byte at `place`.
 pub(crate) fn word_at(address: u32, place: u16) -> u32
-    requires { address < bit_31 }
+    requires { address < EXTENDED_ADDRESS }
     ensures { result ≡ word_at address place }
 {
     (address + u32::from(place / 2)) % EXTENDED_ADDRESS
@@ -32,7 +33,7 @@ pub(crate) fn word_at(address: u32, place: u16) -> u32
 
 /// Returns the address of the byte at `place`.
 pub(crate) fn byte_at(address: u32, place: u16) -> u32
-    requires { address < bit_31 }
+    requires { address < EXTENDED_ADDRESS }
     ensures { result ≡ byte_address address place }
 {
     (address + u32::from(place)) % EXTENDED_ADDRESS

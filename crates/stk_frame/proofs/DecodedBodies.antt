@@ -6,7 +6,7 @@ use Rattle.byteorder.specs.Endian.{big_bytes, big_number}
 use Rattle.stk_frame.specs.declared.command.Command.{Command}
 use Rattle.stk_frame.specs.declared.command.Command.TheVariants.{ProgramFlash, ReadFlash, ProgramEeprom, ReadEeprom}
 use Rattle.stk_frame.specs.Commands.{body, program_block_fields, read_block_fields, read_byte_fields}
-use Rattle.stk_frame.specs.Decoding.{FieldsFit, command_of, with_fields, set_parameter_of, get_parameter_of, load_address_of, enter_progmode_of, leave_progmode_of, chip_erase_of, program_block_of, read_block_of, instruction, read_byte_of, spi_multi_of}
+use Rattle.stk_frame.specs.Decoding.{FieldsFit, command_of, enter_progmode_of, program_block_of, read_block_of, instruction, read_byte_of}
 
 abbrev IsReadBack : Command → Type 0
 IsReadBack c = command_of (body c) ≡ Some c
@@ -37,13 +37,13 @@ four_back : (a b c d : ℕ) → a < 256 → b < 256 → c < 256 → d < 256
     → big_bytes 4 (big_number 4 (a ∷ b ∷ c ∷ d ∷ [])) ≡ a ∷ b ∷ c ∷ d ∷ []
 four_back a b c d e f g h = search rules
 
-set_parameter_sound : (fields : List ℕ) → Sound 0x02 fields (set_parameter_of fields)
+set_parameter_sound : (fields : List ℕ) → Sound 0x02 fields (command_of (0x02 ∷ fields))
 set_parameter_sound fields = search rules
 
-get_parameter_sound : (fields : List ℕ) → Sound 0x03 fields (get_parameter_of fields)
+get_parameter_sound : (fields : List ℕ) → Sound 0x03 fields (command_of (0x03 ∷ fields))
 get_parameter_sound fields = search rules
 
-load_address_sound : (fields : List ℕ) → Below fields → Sound 0x06 fields (load_address_of fields)
+load_address_sound : (fields : List ℕ) → Below fields → Sound 0x06 fields (command_of (0x06 ∷ fields))
 load_address_sound (a ∷ b ∷ c ∷ d ∷ []) below =
     search (rules, four_back a b c d (below 0) (below 1) (below 2) (below 3))
 load_address_sound _ below = record { emits = tt }
@@ -51,10 +51,10 @@ load_address_sound _ below = record { emits = tt }
 enter_progmode_sound : (fields : List ℕ) → Sound 0x10 fields (enter_progmode_of fields)
 enter_progmode_sound fields = search rules
 
-leave_progmode_sound : (fields : List ℕ) → Sound 0x11 fields (leave_progmode_of fields)
+leave_progmode_sound : (fields : List ℕ) → Sound 0x11 fields (command_of (0x11 ∷ fields))
 leave_progmode_sound fields = search rules
 
-chip_erase_sound : (fields : List ℕ) → Sound 0x12 fields (chip_erase_of fields)
+chip_erase_sound : (fields : List ℕ) → Sound 0x12 fields (command_of (0x12 ∷ fields))
 chip_erase_sound fields = search rules
 
 program_block_back : (fields : List ℕ) → Below fields
@@ -73,7 +73,7 @@ instruction_back fields = search rules
 read_byte_back : (fields : List ℕ) → Back read_byte_fields (λ f. length f.instruction ≡ 4) fields (read_byte_of fields)
 read_byte_back fields = search rules
 
-spi_multi_sound : (fields : List ℕ) → Sound 0x1D fields (spi_multi_of fields)
+spi_multi_sound : (fields : List ℕ) → Sound 0x1D fields (command_of (0x1D ∷ fields))
 spi_multi_sound fields = search rules
 
 -- one row of the table
@@ -81,7 +81,7 @@ row : (own code : ℕ) (fields : List ℕ) (read others : Option Command) → So
     → Sound code fields (cond (code == own) read others)
 row own code fields read others is other = search (rules, cases_Bool, cond-true, eqb-true, cond-false)
 
-with_fields_sound : (code : ℕ) (fields : List ℕ) → Below fields → Sound code fields (with_fields code fields)
+with_fields_sound : (code : ℕ) (fields : List ℕ) → Below fields → Sound code fields (command_of (code ∷ fields))
 with_fields_sound code fields below =
     row 0x01 code fields _ _ (search rules)
     (row 0x02 code fields _ _ (set_parameter_sound fields)

@@ -8,19 +8,7 @@ use Rattle.stk_frame.specs.declared.command.ReadBlock.{ReadBlock}
 use Rattle.stk_frame.specs.declared.command.ReadByte.{ReadByte}
 use Rattle.stk_frame.specs.declared.protocol.TheConstants.{CMD_CHIP_ERASE_ISP, CMD_ENTER_PROGMODE_ISP, CMD_GET_PARAMETER, CMD_LEAVE_PROGMODE_ISP, CMD_LOAD_ADDRESS, CMD_PROGRAM_EEPROM_ISP, CMD_PROGRAM_FLASH_ISP, CMD_PROGRAM_FUSE_ISP, CMD_PROGRAM_LOCK_ISP, CMD_READ_EEPROM_ISP, CMD_READ_FLASH_ISP, CMD_READ_FUSE_ISP, CMD_READ_LOCK_ISP, CMD_READ_OSCCAL_ISP, CMD_READ_SIGNATURE_ISP, CMD_SET_PARAMETER, CMD_SIGN_ON, CMD_SPI_MULTI}
 
--- The fields of each command, from their bytes; `None` if there are too few or too many.
-abbrev pub set_parameter_of : List ℕ → Option Command
-set_parameter_of (number ∷ value ∷ []) = Some (SetParameter number value)
-set_parameter_of _ = None
-
-abbrev pub get_parameter_of : List ℕ → Option Command
-get_parameter_of (number ∷ []) = Some (GetParameter number)
-get_parameter_of _ = None
-
-abbrev pub load_address_of : List ℕ → Option Command
-load_address_of (a ∷ b ∷ c ∷ d ∷ []) = Some (LoadAddress (big_number 4 (a ∷ b ∷ c ∷ d ∷ [])))
-load_address_of _ = None
-
+-- The fields of commands, from their bytes; `None` if there are too few or too many.
 abbrev pub enter_progmode_of : List ℕ → Option Command
 enter_progmode_of (timeout ∷ stab_delay ∷ command_delay ∷ synch_loops ∷ byte_delay ∷ poll_value ∷ poll_index ∷ a ∷ b ∷ c
     ∷ d ∷ []) =
@@ -35,15 +23,6 @@ enter_progmode_of (timeout ∷ stab_delay ∷ command_delay ∷ synch_loops ∷ 
       instruction = a ∷ b ∷ c ∷ d ∷ [];
     }))
 enter_progmode_of _ = None
-
-abbrev pub leave_progmode_of : List ℕ → Option Command
-leave_progmode_of (pre_delay ∷ post_delay ∷ []) = Some (LeaveProgmode pre_delay post_delay)
-leave_progmode_of _ = None
-
-abbrev pub chip_erase_of : List ℕ → Option Command
-chip_erase_of (erase_delay ∷ poll_method ∷ a ∷ b ∷ c ∷ d ∷ []) =
-    Some (ChipErase erase_delay poll_method (a ∷ b ∷ c ∷ d ∷ []))
-chip_erase_of _ = None
 
 abbrev pub program_block_of : List ℕ → Option ProgramBlock
 program_block_of (high ∷ low ∷ mode ∷ delay ∷ cmd1 ∷ cmd2 ∷ cmd3 ∷ poll1 ∷ poll2 ∷ bytes) =
@@ -74,21 +53,23 @@ read_byte_of (return_address ∷ a ∷ b ∷ c ∷ d ∷ []) =
     Some (record { return_address = return_address; instruction = a ∷ b ∷ c ∷ d ∷ [] })
 read_byte_of _ = None
 
-abbrev pub spi_multi_of : List ℕ → Option Command
-spi_multi_of (send_count ∷ receive_count ∷ receive_start ∷ bytes) =
-    Some (SpiMulti send_count receive_count receive_start bytes)
-spi_multi_of _ = None
-
--- The command with this code and these fields.
-abbrev pub with_fields : ℕ → List ℕ → Option Command
-with_fields code bytes =
+-- The command of a body, by its code and its fields; what `Command::read` returns.
+abbrev pub command_of : List ℕ → Option Command
+command_of [] = None
+command_of (code ∷ bytes) =
     if code == CMD_SIGN_ON then elim bytes [ [] ↦ Some SignOn | _ ↦ None ]
-    else if code == CMD_SET_PARAMETER then set_parameter_of bytes
-    else if code == CMD_GET_PARAMETER then get_parameter_of bytes
-    else if code == CMD_LOAD_ADDRESS then load_address_of bytes
+    else if code == CMD_SET_PARAMETER then elim bytes [ n ∷ value ∷ [] ↦ Some (SetParameter n value) | _ ↦ None ]
+    else if code == CMD_GET_PARAMETER then elim bytes [ n ∷ [] ↦ Some (GetParameter n) | _ ↦ None ]
+    else if code == CMD_LOAD_ADDRESS then elim bytes [
+      | a ∷ b ∷ c ∷ d ∷ [] ↦ Some (LoadAddress (big_number 4 (a ∷ b ∷ c ∷ d ∷ [])))
+      | _ ↦ None
+    ]
     else if code == CMD_ENTER_PROGMODE_ISP then enter_progmode_of bytes
-    else if code == CMD_LEAVE_PROGMODE_ISP then leave_progmode_of bytes
-    else if code == CMD_CHIP_ERASE_ISP then chip_erase_of bytes
+    else if code == CMD_LEAVE_PROGMODE_ISP then elim bytes [ x ∷ y ∷ [] ↦ Some (LeaveProgmode x y) | _ ↦ None ]
+    else if code == CMD_CHIP_ERASE_ISP then elim bytes [
+      | delay ∷ poll ∷ a ∷ b ∷ c ∷ d ∷ [] ↦ Some (ChipErase delay poll (a ∷ b ∷ c ∷ d ∷ []))
+      | _ ↦ None
+    ]
     else if code == CMD_PROGRAM_FLASH_ISP then option_map ProgramFlash (program_block_of bytes)
     else if code == CMD_READ_FLASH_ISP then option_map ReadFlash (read_block_of bytes)
     else if code == CMD_PROGRAM_EEPROM_ISP then option_map ProgramEeprom (program_block_of bytes)
@@ -99,12 +80,11 @@ with_fields code bytes =
     else if code == CMD_READ_LOCK_ISP then option_map ReadLock (read_byte_of bytes)
     else if code == CMD_READ_SIGNATURE_ISP then option_map ReadSignature (read_byte_of bytes)
     else if code == CMD_READ_OSCCAL_ISP then option_map ReadOsccal (read_byte_of bytes)
-    else if code == CMD_SPI_MULTI then spi_multi_of bytes else None
-
--- What `Command::read` returns.
-abbrev pub command_of : List ℕ → Option Command
-command_of [] = None
-command_of (code ∷ bytes) = with_fields code bytes
+    else if code == CMD_SPI_MULTI then elim bytes [
+      | count ∷ receive_count ∷ receive_start ∷ x ↦ Some (SpiMulti count receive_count receive_start x)
+      | _ ↦ None
+    ]
+    else None
 
 -- The numbers of a command fit their bytes, and an instruction has four.
 abbrev pub FieldsFit : Command → Type 0

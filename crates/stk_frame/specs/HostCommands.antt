@@ -4,8 +4,8 @@ use Rattle.stk_frame.specs.declared.command.Command.{Command}
 use Rattle.stk_frame.specs.declared.command.Command.TheVariants.{EnterProgmode, LeaveProgmode, ChipErase, ProgramFlash, ReadFlash, ProgramEeprom, ReadEeprom, ProgramFuse, ReadFuse, ProgramLock, ReadLock, ReadSignature, ReadOsccal}
 use Rattle.stk_frame.specs.declared.command.ProgramBlock.{ProgramBlock}
 use Rattle.stk_frame.specs.declared.command.ReadByte.{ReadByte}
-use Rattle.stk_frame.specs.declared.host_command.Fuse.{Fuse}
-use Rattle.stk_frame.specs.declared.host_command.Fuse.TheVariants.{Low, High, Extended}
+use Rattle.stk_frame.specs.declared.command.Fuse.{Fuse}
+use Rattle.stk_frame.specs.declared.command.Fuse.TheVariants.{Low, High, Extended}
 
 -- Enters programming mode: `AC 53 00 00` is sent, and the third byte that returns has to be 53.
 abbrev pub enter : Command

@@ -1,7 +1,8 @@
 //! Reads commands from their bodies. Fields that several commands share have a function of their own.
-ghost use Rattle.std.specs.Prelude.{◌≡◌, ◌↔◌, Some, IfSome};
+ghost use Rattle.std.specs.Prelude.{◌∷◌, ◌≡◌, ◌↔◌, Some, IfSome};
 ghost use Rattle.stk_frame.specs.Commands.{body};
-ghost use Rattle.stk_frame.specs.Decoding.{FieldsFit, command_of, with_fields, set_parameter_of, load_address_of, enter_progmode_of, leave_progmode_of, chip_erase_of, program_block_of, read_block_of, instruction, read_byte_of, spi_multi_of};
+ghost use Rattle.stk_frame.specs.Decoding.{FieldsFit, command_of, enter_progmode_of, program_block_of, read_block_of, instruction, read_byte_of};
+ghost use Rattle.stk_frame.specs.declared.protocol.TheConstants.{CMD_CHIP_ERASE_ISP, CMD_LEAVE_PROGMODE_ISP, CMD_LOAD_ADDRESS, CMD_SET_PARAMETER, CMD_SPI_MULTI};
 
 use crate::command::{Command, Data, EnterProgmode, ProgramBlock, ReadBlock, ReadByte};
 use crate::protocol::{
@@ -14,7 +15,7 @@ use crate::protocol::{
 use byteorder::{BigEndian, ByteOrder};
 
 fn set_parameter(fields: &[u8]) -> Option<Command<'_>>
-    ensures { result ≡ set_parameter_of fields.now }
+    ensures { result ≡ command_of (CMD_SET_PARAMETER ∷ fields.now) }
 {
     match fields {
         [number, value] => Some(Command::SetParameter {
@@ -26,7 +27,7 @@ fn set_parameter(fields: &[u8]) -> Option<Command<'_>>
 }
 
 fn load_address(fields: &[u8]) -> Option<Command<'_>>
-    ensures { result ≡ load_address_of fields.now }
+    ensures { result ≡ command_of (CMD_LOAD_ADDRESS ∷ fields.now) }
 {
     match fields {
         [a, b, c, d] => Some(Command::LoadAddress {
@@ -67,7 +68,7 @@ fn enter_progmode(fields: &[u8]) -> Option<Command<'_>>
 }
 
 fn leave_progmode(fields: &[u8]) -> Option<Command<'_>>
-    ensures { result ≡ leave_progmode_of fields.now }
+    ensures { result ≡ command_of (CMD_LEAVE_PROGMODE_ISP ∷ fields.now) }
 {
     match fields {
         [pre_delay, post_delay] => Some(Command::LeaveProgmode {
@@ -79,7 +80,7 @@ fn leave_progmode(fields: &[u8]) -> Option<Command<'_>>
 }
 
 fn chip_erase(fields: &[u8]) -> Option<Command<'_>>
-    ensures { result ≡ chip_erase_of fields.now }
+    ensures { result ≡ command_of (CMD_CHIP_ERASE_ISP ∷ fields.now) }
 {
     match fields {
         [erase_delay, poll_method, a, b, c, d] => Some(Command::ChipErase {
@@ -155,7 +156,7 @@ fn read_byte(fields: &[u8]) -> Option<ReadByte>
 }
 
 fn spi_multi(fields: &[u8]) -> Option<Command<'_>>
-    ensures { result ≡ spi_multi_of fields.now }
+    ensures { result ≡ command_of (CMD_SPI_MULTI ∷ fields.now) }
 {
     match fields {
         [send_count, receive_count, receive_start, bytes @ ..] => Some(Command::SpiMulti {
@@ -170,7 +171,7 @@ fn spi_multi(fields: &[u8]) -> Option<Command<'_>>
 
 /// Reads the fields of the command with this byte.
 fn with_fields(code: u8, fields: &[u8]) -> Option<Command<'_>>
-    ensures { result ≡ with_fields code fields.now }
+    ensures { result ≡ command_of (code ∷ fields.now) }
 {
     match code {
         CMD_SIGN_ON => match fields {

@@ -13,15 +13,12 @@ mod command;
 mod cutting;
 mod decode;
 mod encode;
-mod frame;
-mod host_command;
 pub mod protocol;
 mod reader;
 
 pub use answer::{Answer, FrameFault, Shape};
-pub use command::{Command, Data, EnterProgmode, ProgramBlock, ReadBlock, ReadByte};
+pub use command::{Command, Data, EnterProgmode, Fuse, ProgramBlock, ReadBlock, ReadByte};
 pub use cutting::cutting_is_the_only_one;
-pub use frame::put_frame;
-pub use host_command::Fuse;
+pub use encode::put_frame;
 pub use protocol::{LARGEST_BODY, LARGEST_FRAME, command_name, status_name};
 pub use reader::{Event, FrameReader};

@@ -2,7 +2,7 @@ ghost use Rattle.std.specs.Prelude.{◌≡◌, [], ◌<◌, ◌≤◌, length, t
 ghost use Rattle.stk_frame.specs.Cut.{piece_size, is_header, body_size, seq_of, body_of};
 ghost use Rattle.stk_frame.specs.Reader.{Fed, HoldsFrame, frames_of_event, EventMatchesHeld};
 
-use crate::frame::xor_of;
+use crate::encode::xor_of;
 use crate::protocol::{HEADER_SIZE, LARGEST_BODY, LARGEST_FRAME, MESSAGE_START, TOKEN};
 use arrayvec::ArrayVec;
 use byteorder::{BigEndian, ByteOrder};

@@ -4,7 +4,7 @@ use Rattle.avr_part.specs.Part.{Part}
 use Rattle.stk_frame.specs.declared.protocol.TheConstants.{EXTENDED_ADDRESS}
 use Rattle.stk_frame.specs.declared.command.Command.{Command}
 use Rattle.stk_frame.specs.declared.command.Command.TheVariants.{LoadAddress}
-use Rattle.stk_host.specs.declared.places.TheConstants.{NARROW_FLASH}
+use Rattle.stk_host.specs.declared.writing.TheConstants.{NARROW_FLASH}
 
 -- The steps at `count` places, from this one on.
 abbrev pub each_from : (ℕ → List (List Command)) → ℕ → ℕ → List (List Command)

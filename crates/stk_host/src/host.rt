@@ -1,20 +1,21 @@
 //! The host: operations over a link, and the fault after which nothing more is sent.
-ghost use Rattle.std.specs.Prelude.{◌≡◌, ◌<◌, ◌≤◌, ◌^◌, ℕ, List, [], length, Some, None, Ok, Err, IfOk, OnOk, OnErr, MatchOption, true, false};
+ghost use Rattle.std.specs.Prelude.{◌≡◌, ◌<◌, ◌≤◌, ◌^◌, ℕ, List, [], length, Some, None, Ok, Err, IfOk, OnOk, OnErr, MatchOption, true, false, ◌∷◌};
 ghost use Rattle.std.specs.Result.{result_and};
 ghost use Rattle.avr_part.specs.Mem.{is_writable};
 ghost use Rattle.avr_part.specs.Part.{size_of};
 ghost use Rattle.stk_host.specs.declared.fault.HostFault.{HostFault};
 ghost use Rattle.stk_host.specs.declared.fault.HostFault.TheVariants as fault;
 ghost use Rattle.ghosts.specs.Preserves.{Preserves};
-ghost use Rattle.stk_host.specs.Operations.{opening, closing, erasing, writing, reading, comparison, verifying};
+ghost use Rattle.stk_host.specs.Operations.{opening, closing, erasing, writing, reading, comparison, verifying, handshake};
 ghost use Rattle.stk_host.specs.State.{lasting_fault};
-ghost use Rattle.stk_host.specs.Calls.{Calls, opening_result, emptied_on_fault};
+ghost use Rattle.stk_host.specs.Calls.{Calls, opening_result, emptied_on_fault, Converses, EndsSteps};
+ghost use Rattle.stk_frame.specs.HostCommands.{leave, read_signature};
+ghost use Rattle.stk_host.specs.Steps.{step};
 
 use crate::comparing::compare;
 use crate::conversation::{Conversation, play_step};
 use crate::fault::HostFault;
 use crate::link::Link;
-use crate::opening::{begin, end};
 use crate::reading::read_memory;
 use crate::writing::write_memory;
 use avr_image::Image;
@@ -367,4 +368,37 @@ impl fmt::Debug for Host {
             .field("broken", &self.broken)
             .finish_non_exhaustive()
     }
+}
+
+/// Reads one byte of the signature.
+fn signature_byte<L: Link>(
+    talk: &mut Conversation,
+    link: &mut L,
+    place: u8,
+) -> Result<u8, HostFault>
+    ensures { Converses L.Link (EndsSteps (step (read_signature place ∷ [])) (λ byte. byte ∷ []))
+        talk.old talk.new link.old link.new result }
+{
+    let command = Command::read_signature(place);
+    talk.step(link, &None, &command)?;
+    Ok(talk.data_read(&command)[0])
+}
+
+/// Signs on, enters programming mode and reads the signature, byte 0 first.
+pub(crate) fn begin<L: Link>(talk: &mut Conversation, link: &mut L) -> Result<[u8; 3], HostFault>
+    ensures { Converses L.Link (EndsSteps handshake (λ found. found)) talk.old talk.new link.old link.new result }
+{
+    talk.step(link, &None, &Command::SignOn)?;
+    talk.step(link, &None, &Command::enter())?;
+    let first = signature_byte(talk, link, 0)?;
+    let second = signature_byte(talk, link, 1)?;
+    let third = signature_byte(talk, link, 2)?;
+    Ok([first, second, third])
+}
+
+/// Leaves programming mode.
+pub(crate) fn end<L: Link>(talk: &mut Conversation, link: &mut L) -> Result<(), HostFault>
+    ensures { Converses L.Link (EndsSteps (step (leave ∷ [])) (λ done. [])) talk.old talk.new link.old link.new result }
+{
+    talk.step(link, &None, &Command::leave())
 }

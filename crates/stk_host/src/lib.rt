@@ -28,12 +28,10 @@ mod watched_link;
 mod conversation;
 mod fault;
 mod listen;
-mod places;
 // operations
 mod comparing;
 mod host;
 mod laws;
-mod opening;
 mod reading;
 mod writing;
 

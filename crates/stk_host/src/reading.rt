@@ -6,7 +6,7 @@ ghost use Rattle.avr_part.specs.Part as parts;
 use crate::conversation::{Conversation, read_step};
 use crate::fault::HostFault;
 use crate::link::Link;
-use crate::places::load_flash;
+use crate::writing::load_flash;
 use avr_part::{Mem, Part};
 use stk_frame::{Command, Fuse};
 

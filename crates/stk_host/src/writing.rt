@@ -3,15 +3,15 @@ ghost use Rattle.stk_frame.specs.HostCommands.{program_eeprom_block, program_fus
 ghost use Rattle.stk_host.specs.Calls.{Converses, CompletesSteps, RunsSteps};
 ghost use Rattle.avr_image.specs.Image.{filled_bytes};
 ghost use Rattle.stk_host.specs.WriteSteps.{page_step, begins_run, byte_steps, place_steps, place_count, write_steps};
-ghost use Rattle.stk_host.specs.Places.{each_from};
+ghost use Rattle.stk_host.specs.Places.{each_from, load_flash};
 ghost use Rattle.stk_host.specs.Places as places;
 
 use crate::conversation::{Conversation, play_step};
 use crate::fault::HostFault;
 use crate::link::Link;
-use crate::places::load_flash;
 use avr_image::Image;
 use avr_part::{Mem, Part};
+use stk_frame::protocol::EXTENDED_ADDRESS;
 use stk_frame::{Command, Fuse};
 
 /// Returns how many places a memory has: the pages of flash, or the bytes of EEPROM.
@@ -172,4 +172,21 @@ pub(crate) fn write_memory<L: Link>(
         },
         Mem::Signature | Mem::Calibration => Ok(()),
     }
+}
+
+/// The bytes of flash that 16-bit word addresses reach.
+const NARROW_FLASH: u32 = 131_072;
+
+/// Returns the command that loads the word address of a byte of flash.
+pub(crate) fn load_flash<'a>(part: &Part, start: u32) -> Command<'a>
+    requires { start < 2 ^ 20 }
+    ensures { result ≡ load_flash part.now start }
+{
+    let words = start / 2;
+    let address = if part.size_of(Mem::Flash) > NARROW_FLASH {
+        words + EXTENDED_ADDRESS
+    } else {
+        words
+    };
+    Command::LoadAddress { address }
 }

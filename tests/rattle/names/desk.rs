@@ -4,7 +4,7 @@
 ghost use Rattle.avr_desk.specs.Memory.{Stock, memory_state};
 ghost use Rattle.avr_desk.specs.Truth.{HoldsTrue};
 
-use avr_cli::Settings;
+use avr_plan::Settings;
 use avr_desk::{Bytes, Desk, DeskFault, FailingDesk, MemDesk, SystemDesk};
 use avr_tool::run;
 use std::test::Fail;

@@ -198,9 +198,6 @@ module _ {S F I H O E : Type 0} (system : Ghosts S F I H) (reads : Reads F) (wri
   pub from_inside : {inside now new : Desk} → inside ≡ now → Since inside new → Preserves Since now new
   from_inside {inside = inside} {new = new} is then = search (rules, append_assoc)
 
-  pub from_now : {now new : Desk} → Since now new → Preserves Since now new
-  from_now {now = now} {new = new} then = λ start first. search (rules, append_assoc)
-
   -- a desk after a call that sent nothing
   abbrev Next : Desk → S → ℕ → ℕ → Option ErrorKind → OpenFile F I → Option H → Record → Desk
   Next b s f u e o h k =
@@ -332,33 +329,29 @@ module _ {S F I H O E : Type 0} (system : Ghosts S F I H) (reads : Reads F) (wri
       (λ only. left_on (keeps (holds_as b is_hold only)) keeps_on))
 
   -- a file was replaced, and the held file released
-  pub replace_true : {b c : Desk} {s t u : S} {name own bytes : Bytes} (h : Option H) → own ≡ name → c.output ≡ b.output
-      → c.messages ≡ b.messages → c.hold ≡ None → c.opened ≡ open_file.Nothing → c.kept ≡ with_replaced own bytes b.kept
-      → system.replaced name bytes → ((name : Option Bytes) → IsHeldBy system b.hold name → IsHeldBy system h name)
-      → (o : OpenFile F I) → o ≡ b.opened → Closed o → ChangesCalls system.has_done (with_calls (made name)) b.system s
-      → ReleasesHeld system.has_done h s t → u ≡ t → Preserves system.has_done u c.system
+  pub replace_true : {b : Desk} {s t u : S} {f n : ℕ} {e : Option ErrorKind} {o : OpenFile F I} {g : Option H}
+      {k : Record} {name own bytes : Bytes} (h : Option H) → own ≡ name → g ≡ None → o ≡ open_file.Nothing
+      → k ≡ with_replaced own bytes b.kept → system.replaced name bytes
+      → ((name : Option Bytes) → IsHeldBy system b.hold name → IsHeldBy system h name) → Closed b.opened
+      → ChangesCalls system.has_done (with_calls (made name)) b.system s → ReleasesHeld system.has_done h s t
+      → Preserves system.has_done t u
       → CrashMayAlsoLeave system.left name (λ found. system.began name found ⊎ (found ≡ Some bytes)) b.system s
-      → NoMore s t → NoMore u c.system → Since b c
-  replace_true {b = b} {c = c} {u = u} {own = own} {bytes = bytes} h same output messages hold is_open kept replaced
-      still o was closed does leaves last stays also keeps keeps_on =
+      → NoMore s t → NoMore t u → Since b (Next b u f n e o g k)
+  replace_true {b = b} {u = u} {own = own} {bytes = bytes} h same none is_open kept replaced still closed does leaves
+      stays also keeps keeps_on =
       let x : Writing = record { name = own; bytes = bytes } in
       let files = ap has_dash (files_replaced own bytes b.kept) in
-      let now = Next b c.system c.failures c.message_failures c.last_error open_file.Nothing None
-      (with_replaced own bytes b.kept) in
-      let is : c ≡ now = rw (← output, ← messages, ← hold, ← is_open, ← kept) refl in
-      rw is (quiet refl refl
-      (λ none. no_dash_in_front (all_files b.kept) (x ∷ []) (sym files ∙ none)) (λ none was. refl)
+      rw (none, is_open, kept) (quiet refl refl
+      (λ no. no_dash_in_front (all_files b.kept) (x ∷ []) (sym files ∙ no)) (λ no was. refl)
       (λ are. record {
         uses = more_true b.system b.opened b.hold b.kept (Created x)
-            (inr (inr (subst (λ (n : Bytes). system.replaced n bytes) (sym same) replaced))) are
-            (subst Closed was closed);
+            (inr (inr (subst (λ (n : Bytes). system.replaced n bytes) (sym same) replaced))) are closed;
         current = refl;
         denied = are.denied;
         held = tt;
-        has_done = did_as None c.system (calls_replaced own bytes b.kept)
-            (stays _ (rw last (left_none h b.kept.held _ (still b.kept.held are.held) leaves
-            (rw same (does _ are.has_done)))));
-        crash = crash_kept _ keeps_on (rw last (crash_kept _ keeps (crash_tried _ same also are.crash)));
+        has_done = did_as None u (calls_replaced own bytes b.kept)
+            (stays _ (left_none h b.kept.held _ (still b.kept.held are.held) leaves (rw same (does _ are.has_done))));
+        crash = crash_kept _ keeps_on (crash_kept _ keeps (crash_tried _ same also are.crash));
       }))
 
   pub unreplaced_true : {b : Desk} {s : S} {f u : ℕ} {e : Option ErrorKind} {h : Option H} {k : Record}
@@ -377,24 +370,19 @@ module _ {S F I H O E : Type 0} (system : Ghosts S F I H) (reads : Reads F) (wri
       }))
 
   -- a file is held, and the one held before is released
-  pub held_true : {b c : Desk} {s t : S} {h : H} {name own : Bytes} → own ≡ name → c.output ≡ b.output
-      → c.messages ≡ b.messages → c.opened ≡ b.opened → c.hold ≡ Some h → c.kept ≡ record b.kept { held = Some own }
-      → c.system ≡ t → system.holds h name → ChangesCalls system.has_done with_one_more_held b.system s
-      → ReleasesHeld system.has_done b.hold s t → CrashMayAlsoLeave system.left name (system.began name) b.system s
-      → NoMore s t → Since b c
-  held_true {b = b} {c = c} {h = h} {own = own} same output messages is_open hold kept last holds does leaves also
-      keeps =
-      let now = Next b c.system c.failures c.message_failures c.last_error b.opened (Some h) (record b.kept {
-        held = Some own;
-      }) in
-      let is : c ≡ now = rw (← output, ← messages, ← hold, ← is_open, ← kept) refl in
-      rw is (quiet refl refl (λ none. none) (λ none was. was) (λ are. record {
+  pub held_true : {b : Desk} {s t : S} {f u : ℕ} {e : Option ErrorKind} {h : H} {k : Record} {name own : Bytes}
+      → own ≡ name → k ≡ record b.kept { held = Some own } → system.holds h name
+      → ChangesCalls system.has_done with_one_more_held b.system s → ReleasesHeld system.has_done b.hold s t
+      → CrashMayAlsoLeave system.left name (system.began name) b.system s → NoMore s t
+      → Since b (Next b t f u e b.opened (Some h) k)
+  held_true {b = b} {h = h} {own = own} same kept holds does leaves also keeps =
+      rw kept (quiet refl refl (λ none. none) (λ none was. was) (λ are. record {
         uses = are.uses;
         current = are.current;
         denied = are.denied;
         held = subst (system.holds h) (sym same) holds;
-        has_done = rw last (left_one b.hold b.kept.held _ own are.held leaves (does _ are.has_done));
-        crash = rw last (crash_kept _ keeps (crash_held _ also are.crash));
+        has_done = left_one b.hold b.kept.held _ own are.held leaves (does _ are.has_done);
+        crash = crash_kept _ keeps (crash_held _ also are.crash);
       }))
 
   pub denied_true : {b : Desk} {s : S} {f u : ℕ} {e : Option ErrorKind} {k : Record} {name own : Bytes} → own ≡ name
@@ -410,13 +398,10 @@ module _ {S F I H O E : Type 0} (system : Ghosts S F I H) (reads : Reads F) (wri
       → Since b (Next b s f u e b.opened b.hold b.kept)
   unheld_true stays also = search (rules, quiet)
 
-  pub released_true : {b c : Desk} {t : S} → c.output ≡ b.output → c.messages ≡ b.messages → c.opened ≡ b.opened
-      → c.hold ≡ None → c.kept ≡ with_none_held b.kept → c.system ≡ t
-      → ReleasesHeld system.has_done b.hold b.system t → NoMore b.system t → Since b c
-  released_true {b = b} {c = c} output messages is_open hold kept last leaves keeps =
-      let now = Next b c.system c.failures c.message_failures c.last_error b.opened None (with_none_held b.kept) in
-      let is : c ≡ now = rw (← output, ← messages, ← hold, ← is_open, ← kept) refl in
-      search (rules, quiet, left_none)
+  pub released_true : {b : Desk} {t : S} {f u : ℕ} {e : Option ErrorKind} {h : Option H} {k : Record} → h ≡ None
+      → k ≡ with_none_held b.kept → ReleasesHeld system.has_done b.hold b.system t → NoMore b.system t
+      → Since b (Next b t f u e b.opened h k)
+  released_true {b = b} none kept leaves keeps = rw (none, kept) (search (rules, quiet, left_none))
 
   pub read_true : {b : Desk} {f u : ℕ} {e : Option ErrorKind} {o : OpenFile F I} {k : Record} (buf : Bytes) (n : ℕ)
       → k ≡ after_read buf (Ok n) b.kept → is_output o ≡ is_output b.opened

@@ -2,7 +2,7 @@
 use Rattle.std.proofs.Common.{◌≡◌, ◌∙◌, ap, ℕ, List, [], ◌∷◌, ◌++◌, append_assoc, rules, arith}
 use Rattle.std.proofs.lemmas.Grind.{common_steps}
 use Rattle.avr_tool.specs.Loading.{chip_stage}
-use Rattle.avr_cli.specs.declared.settings.Settings.{Settings}
+use Rattle.avr_plan.specs.declared.settings.Settings.{Settings}
 use Rattle.avr_desk.proofs.Desks.InMemory.{all_true, true_behind}
 use Rattle.avr_desk.proofs.FileUses.Uses.{files_absent, files_append, files_used}
 use Rattle.avr_desk.specs.Memory.{MemDeskState, Stock, memory_state}
@@ -19,6 +19,7 @@ use Rattle.avr_desk.specs.declared.record.Writing.{Writing}
 use Rattle.avr_tool.specs.Emulated.{RunsOverEmulator}
 use Rattle.avr_part.specs.Part.{Part}
 use Rattle.avr_part.specs.State.{ChipState as Chip}
+use Rattle.avr_laws.proofs.Held.Chip.{IsReadFrom, in_file}
 use Rattle.avr_laws.proofs.Plans.OnlyReading.{only_reads}
 use Rattle.avr_laws.proofs.KnownFiles.PastUses.{ArePast, none_made, only_opened, opened, opened_past, past_shown, run_past, saved_past}
 use Rattle.avr_laws.specs.ChipFound.{IsChipInFile, contents_held}
@@ -104,5 +105,8 @@ module _ (settings : Settings) (file : Bytes) (stock : Stock) (old new : MemDesk
       let later : OpeningsAreTrue stock (files_among first_uses) (Opened opening ∷ ended.0) =
       true_behind stock [] first_uses (Opened opening ∷ ended.0) every in search (rules, first_files)
 
+  pub chip_read : IsReadFrom r.plan.part (contents_held stock old.kept file) r.chip
+  chip_read = grind (arith, common_steps, gave)
+
   pub chip_found : IsChipInFile r.plan.part (contents_held stock old.kept file) r.chip
-  chip_found = grind (arith, common_steps, gave)
+  chip_found = in_file r.plan.part (contents_held stock old.kept file) r.chip chip_read

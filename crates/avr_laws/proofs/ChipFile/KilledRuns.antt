@@ -2,7 +2,7 @@
 use Rattle.std.proofs.Common.{◌≡◌, ◌⊎◌, ◌∙◌, refl, inl, inr, arith, rules, ℕ, List, [], ◌∷◌, Option, None, Some, Err}
 use Rattle.std.specs.declared.io.Read.{Ghosts as Reads}
 use Rattle.std.specs.declared.io.Write.{Ghosts as Writes}
-use Rattle.avr_cli.specs.declared.settings.Settings.{Settings}
+use Rattle.avr_plan.specs.declared.settings.Settings.{Settings}
 use Rattle.avr_desk.specs.StageRuns.{RunsStage, AllocationPoints, StageCompleted}
 use Rattle.avr_desk.specs.Record.{Bytes, DeskState, Record}
 use Rattle.avr_desk.specs.OutputEvents.{OutputEvent, after, after_events}

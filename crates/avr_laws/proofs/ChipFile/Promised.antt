@@ -1,6 +1,6 @@
 -- A run over the emulator with status 0 leaves the images that the settings and files ask for in the chip file.
 use Rattle.std.proofs.Common.{◌≡◌, ◌∙◌, ap, subst, sym, refl, List, [], ◌++◌, false, rules}
-use Rattle.avr_cli.specs.declared.settings.Settings.{Settings}
+use Rattle.avr_plan.specs.declared.settings.Settings.{Settings}
 use Rattle.avr_desk.specs.Memory.{MemDeskState, Stock, memory_state, content_of_name}
 use Rattle.avr_desk.specs.Named.{is_dash, newest}
 use Rattle.avr_desk.specs.Record.{Bytes, ChangesRecord, Record, all_files, nothing_kept}
@@ -23,6 +23,7 @@ use Rattle.stk_host.specs.Dialog.{outputs}
 use Rattle.stk_host.specs.Transcript.{sent}
 use Rattle.avr_laws.proofs.ChipFile.Found.{chip_found, loaded_files, planned_true}
 use Rattle.avr_laws.proofs.ChipFile.Others.{stood_named, stood_saved}
+use Rattle.avr_laws.proofs.Outcomes.ByTasks.{tasks_agree}
 use Rattle.avr_laws.proofs.Outcomes.Saved.{WritesFiles, expected_writes, these_saved}
 use Rattle.avr_laws.proofs.ChipFile.SecondRun.{chip_left}
 use Rattle.avr_laws.proofs.KnownFiles.RunsInMemory.{seen}
@@ -84,7 +85,7 @@ module _ (settings : Settings) (file : Bytes) (stock : Stock) (old new : MemDesk
         (chip_found settings file stock old new 0 holds r);
     is = chip_left settings file stock old new 0 no_dash refl r;
     made = search (rules, items_by_tasks);
-    agrees = (came.0.done zero).agrees;
+    agrees = tasks_agree r.plan (memories_of r.chip) (came.0.done zero).agrees;
     images = came.0.images zero;
     others = kept;
   }

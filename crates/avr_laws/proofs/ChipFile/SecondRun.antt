@@ -1,7 +1,7 @@
 -- The same run again, over the chip file that the first one left.
 use Rattle.std.proofs.Common.{◌≡◌, ◌∙◌, ◌⊎◌, subst, sym, refl, inl, inr, arith, ℕ, ◌+◌, true, false, length, List, [], ◌∷◌, ◌++◌, take, Some, rules}
 use Rattle.ghosts.specs.Preserves.{Preserves}
-use Rattle.avr_cli.specs.declared.settings.Settings.{Settings}
+use Rattle.avr_plan.specs.declared.settings.Settings.{Settings}
 use Rattle.avr_desk.proofs.FileUses.Names.{newest_append}
 use Rattle.avr_desk.proofs.FileUses.Uses.{files_replaced}
 use Rattle.avr_desk.specs.Memory.{MemDeskState, Stock, memory_state}
@@ -34,8 +34,9 @@ use Rattle.stk_host.specs.Operations.{handshake, opening}
 use Rattle.stk_host.specs.Steps.{attempt, exchange, attempts_or_fault}
 use Rattle.stk_host.specs.Transcript.{heard, sent}
 use Rattle.stk_host.specs.Tape.{Tape}
-use Rattle.avr_laws.proofs.ChipFile.Found.{chip_found}
-use Rattle.avr_laws.specs.ChipFound.{IsChipInFile, contents_held}
+use Rattle.avr_laws.proofs.ChipFile.Found.{chip_read}
+use Rattle.avr_laws.proofs.Held.Chip.{IsReadFrom}
+use Rattle.avr_laws.specs.ChipFound.{contents_held}
 
 -- ---- the chip of a chip's own file has its memories
 
@@ -111,13 +112,13 @@ module _ (settings : Settings) (file : Bytes) (stock : Stock) (old mid new : Mem
   holds_mid : HoldsTrue stock mid
   holds_mid = first_stays stock began
 
-  first_chip : IsChipInFile plan.part (contents_held stock old.kept file) one.chip
-  first_chip = chip_found settings file stock old mid status holds_mid one
+  first_chip : IsReadFrom plan.part (contents_held stock old.kept file) one.chip
+  first_chip = chip_read settings file stock old mid status holds_mid one
 
-  second_chip : IsChipInFile plan.part (contents_held stock mid.kept file) two.chip
+  second_chip : IsReadFrom plan.part (contents_held stock mid.kept file) two.chip
   second_chip =
-      subst (λ (p : Plan). IsChipInFile p.part (contents_held stock mid.kept file) two.chip) same_plan
-      (chip_found settings file stock mid new further (then_stays stock holds_mid) two)
+      subst (λ (p : Plan). IsReadFrom p.part (contents_held stock mid.kept file) two.chip) same_plan
+      (chip_read settings file stock mid new further (then_stays stock holds_mid) two)
 
   is_part : IsPart plan.part
   is_part = subst IsPart one.part one.sound.part

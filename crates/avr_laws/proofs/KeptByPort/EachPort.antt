@@ -1,8 +1,8 @@
 -- Status 0 of the program means that its plan was kept, whatever its port.
 use Rattle.std.proofs.Common.{◌≡◌, ◌∙◌, inl, inr, refl, sym, subst, ℕ, [], Some}
-use Rattle.avr_cli.specs.declared.settings.Port.{Port}
-use Rattle.avr_cli.specs.declared.settings.Port.TheVariants.{Stdio, Emulated, Network, Served}
-use Rattle.avr_cli.specs.declared.settings.Settings.{Settings}
+use Rattle.avr_plan.specs.declared.settings.Port.{Port}
+use Rattle.avr_plan.specs.declared.settings.Port.TheVariants.{Stdio, Emulated, Network, Served}
+use Rattle.avr_plan.specs.declared.settings.Settings.{Settings}
 use Rattle.avr_desk.specs.Record.{Bytes, DeskState}
 use Rattle.avr_session.specs.Run.{RunsSession, WithPlan}
 use Rattle.avr_session.specs.Runs.{Devices, devices}

@@ -2,7 +2,7 @@
 use Rattle.std.proofs.Common.{◌≡◌, ◌∙◌, inl, inr, ap, subst, sym, refl, ℕ, List, [], ◌∷◌, ◌++◌, append-nil, Option, None, Some, arith, rules}
 use Rattle.std.proofs.lemmas.Grind.{common_steps}
 use Rattle.std.proofs.lemmas.Bool.Decides.{nat_tests}
-use Rattle.avr_cli.specs.declared.settings.Settings.{Settings}
+use Rattle.avr_plan.specs.declared.settings.Settings.{Settings}
 use Rattle.avr_desk.proofs.FileUses.Uses.{openings_append}
 use Rattle.avr_desk.proofs.Stages.Breaks.{openings_in, openings_shown}
 use Rattle.avr_desk.specs.Record.{Bytes, DeskState, ChangesRecord, Record, all_files, all_openings, with_replaced}
@@ -29,7 +29,8 @@ use Rattle.stk_host.specs.Transcript.{sent}
 use Rattle.avr_laws.proofs.AnyWire.{came_to, emulated_wire}
 use Rattle.avr_laws.proofs.ChipFile.Found.{found, found_kept}
 use Rattle.avr_laws.proofs.ChipFile.SecondRun.{no_silence}
-use Rattle.avr_laws.proofs.Outcomes.ByTasks.{made_by_tasks}
+use Rattle.avr_laws.proofs.Held.Chip.{IsReadFrom, in_file}
+use Rattle.avr_laws.proofs.Outcomes.ByTasks.{made_by_tasks, tasks_agree}
 use Rattle.avr_laws.proofs.Outcomes.Saved.{WritesFiles, expected_writes, reading_writes, these_saved}
 use Rattle.avr_laws.proofs.Plans.Given.{later_asked, went_asked}
 use Rattle.avr_laws.proofs.Plans.OnlyReading.{only_reads}
@@ -47,7 +48,7 @@ no_one e = cc
 
 gave_chip : (part : Part) (file : Bytes) (openings : List Opening) (chip : Chip)
     → (chip_stage part file openings).stage_outcome ≡ Produced chip
-    → (found : Option Bytes) × ((next_opening file openings ≡ read_whole file found) × IsChipInFile part found chip)
+    → (found : Option Bytes) × ((next_opening file openings ≡ read_whole file found) × IsReadFrom part found chip)
 gave_chip part file [] chip made = (None, (refl, (search rules)))
 gave_chip part file (Absent name ∷ openings) chip made = (None, (refl, (search rules)))
 gave_chip part file (Found reading ∷ openings) chip made =
@@ -132,8 +133,10 @@ module _ (settings : Settings) (file : Bytes) (old new : DeskState) (r : RunsOve
   opening = found r.plan.part file r.loaded.held_desk r.loaded_desk r.chip r.loaded.loaded
 
   gave : (found : Option Bytes) × ((opening ≡ read_whole file found) × IsChipInFile r.plan.part found r.chip)
-  gave = gave_chip r.plan.part file (r.loaded.loaded.passed ++ []) r.chip
-      (ap (λ (p : StageResult Chip). p.stage_outcome) (r.loaded.loaded.comes []))
+  gave =
+      let read = gave_chip r.plan.part file (r.loaded.loaded.passed ++ []) r.chip
+      (ap (λ (p : StageResult Chip). p.stage_outcome) (r.loaded.loaded.comes [])) in
+      (read.0, (read.1.0, in_file r.plan.part read.0 r.chip read.1.1))
 
   loads : r.loaded_desk.kept ≡ after_events (Opens opening ∷ []) r.loaded.held_desk.kept
   loads = found_kept r.plan.part file r.loaded.held_desk r.loaded_desk r.chip r.loaded.loaded
@@ -199,7 +202,7 @@ module _ (settings : Settings) (file : Bytes) (old new : DeskState) (r : RunsOve
         was = gave.1.1;
         keeps = record {
           made = made_by_tasks r.plan before (memories_of left) (came.0.done zero);
-          agrees = (came.0.done zero).agrees;
+          agrees = tasks_agree r.plan before (came.0.done zero).agrees;
           images = came.0.images zero;
           saved = saved;
         };

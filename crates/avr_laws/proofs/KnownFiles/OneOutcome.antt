@@ -1,7 +1,7 @@
 -- What a run leaves over known files and a known tape.
 use Rattle.std.proofs.Common.{◌≡◌, ◌∙◌, ℕ, ap, refl, List, [], ◌∷◌, ◌++◌, append_assoc, replicate, Option, Some, None, rules}
 use Rattle.std.proofs.lemmas.List.{replicate-append-replicate}
-use Rattle.avr_cli.specs.declared.settings.Settings.{Settings}
+use Rattle.avr_plan.specs.declared.settings.Settings.{Settings}
 use Rattle.avr_desk.specs.Memory.{Stock}
 use Rattle.avr_desk.specs.Record.{nothing_kept}
 use Rattle.avr_desk.specs.OutputEvents.{OutputEvent, after_events}

@@ -1,7 +1,7 @@
 -- Status 0 means the plan, by what was sent and received alone.
 use Rattle.std.proofs.Common.{◌≡◌, ◌⊎◌, ℕ, All, List, [], ◌∷◌, ◌++◌, take, sym, ap, arith, ◌∙◌, append-nil, inl, inr, refl, subst, Option, Some, None}
 use Rattle.std.specs.Prelude.{false}
-use Rattle.avr_cli.specs.declared.settings.Settings.{Settings}
+use Rattle.avr_plan.specs.declared.settings.Settings.{Settings}
 use Rattle.avr_desk.specs.OutputEvents.{OutputEvent}
 use Rattle.avr_desk.specs.Stage.{Produced}
 use Rattle.avr_part.specs.Sound.{IsSoundChip}

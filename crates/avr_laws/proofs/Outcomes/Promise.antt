@@ -1,7 +1,7 @@
 -- Status 0 means the images, over any link that forges no frame.
 use Rattle.std.proofs.Common.{◌≡◌, ℕ, All, List, [], ◌++◌, map, Option, Some, refl, sym, ap, ◌∙◌, subst, rules}
 use Rattle.std.proofs.lemmas.List.{append-nil}
-use Rattle.avr_cli.specs.declared.settings.Settings.{Settings}
+use Rattle.avr_plan.specs.declared.settings.Settings.{Settings}
 use Rattle.avr_desk.specs.Record.{ChangesRecord}
 use Rattle.avr_desk.specs.OutputEvents.{OutputEvent, after_events}
 use Rattle.avr_desk.specs.Stage.{Produced, StageOutcome, events_with_refusal}
@@ -30,7 +30,7 @@ use Rattle.avr_laws.specs.AskedPlan.{FileGave, IsAsked}
 use Rattle.avr_laws.specs.Kept.{FilesAreSaved, Keeps, saved_files}
 use Rattle.avr_laws.specs.OnlyReading.{OnlyReadsAndPrints}
 use Rattle.avr_laws.proofs.Outcomes.Alike.{AreAlike, alike, same_bytes, same_events, same_outcome}
-use Rattle.avr_laws.proofs.Outcomes.ByTasks.{made_by_tasks}
+use Rattle.avr_laws.proofs.Outcomes.ByTasks.{made_by_tasks, tasks_agree}
 use Rattle.avr_laws.proofs.Outcomes.Saved.{WritesFiles, both, expected_writes, reading_writes, these_saved, writes_alike}
 use Rattle.avr_laws.proofs.Plans.Given.{desk_asked}
 use Rattle.avr_laws.proofs.Plans.OnlyReading.{only_reads}
@@ -130,7 +130,7 @@ module _ (s : Settings) (x y : Devices) (r : IsRun s x y 0) where
           let expected = come.success refl in record {
             made = made_by_tasks other (memories_of p.chip)
                 (memories_of (after_received_bytes device got later p).chip) (come.done refl);
-            agrees = (come.done refl).agrees;
+            agrees = tasks_agree other (memories_of p.chip) (come.done refl).agrees;
             images = come.images refl;
             saved = keeps_files (memories_of p.chip) (sym expected.status_is) expected.emitted;
           }

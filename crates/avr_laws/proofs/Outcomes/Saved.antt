@@ -3,7 +3,7 @@ use Rattle.std.proofs.Common.{◌≡◌, ◌∙◌, sym, ap, subst, ℕ, Bool, t
 use Rattle.std.specs.Prelude.{codes, not}
 use Rattle.std.proofs.lemmas.Bool.{cases_Bool}
 use Rattle.std.proofs.lemmas.List.Elements.{filter-append}
-use Rattle.avr_cli.specs.declared.settings.Switches.{Switches}
+use Rattle.avr_plan.specs.declared.settings.Switches.{Switches}
 use Rattle.avr_desk.proofs.FileUses.Uses.{files_absent, files_opened, files_used}
 use Rattle.avr_desk.proofs.Stages.Outputs.{after_append}
 use Rattle.avr_desk.specs.Named.{is_dash}
@@ -24,7 +24,8 @@ use Rattle.stk_emu.specs.Effect.{Memories, effects}
 use Rattle.stk_host.specs.Dialog.{Event, Frame, Emitted, outputs}
 use Rattle.avr_tool.specs.ExpectedRun.{Expected, action_expected, actions_expected, ending_output, expected_run, then_from}
 use Rattle.avr_tool.specs.Items.{action_items}
-use Rattle.avr_laws.specs.Kept.{FilesAreSaved, action_files, actions_files, named_files, dash_output, saved_files}
+use Rattle.avr_laws.specs.Kept.{FilesAreSaved, named_files, dash_output, saved_files}
+use Rattle.avr_laws.proofs.Outcomes.ByTasks.{action_files, actions_files, files_by_tasks}
 use Rattle.avr_laws.specs.OnlyReading.{OnlyReadsAndPrints}
 use Rattle.avr_laws.proofs.Outcomes.Alike.{without_lines}
 
@@ -212,9 +213,10 @@ pub expected_writes : (plan : Plan) (m : Memories) → (expected_run plan m).sta
 expected_writes plan m zero =
     let working = actions_expected plan.part plan.switches (actions plan) m in
     let fine : working.standing ≡ NoFault = fine_by working.standing zero in
+    let files = actions_files plan.part plan.switches (actions plan) m in
     subst (λ (files : List Writing). WritesFiles (expected_run plan m).output_events files)
-    (append-nil (saved_files plan m)) (both working.output_events (ending_output plan working.standing)
-    (saved_files plan m) [] (of_actions plan.part plan.switches (actions plan) m fine)
+    (append-nil files ∙ files_by_tasks plan m) (both working.output_events (ending_output plan working.standing)
+    files [] (of_actions plan.part plan.switches (actions plan) m fine)
     (subst (λ (standing : Standing). WritesFiles (ending_output plan standing) []) (sym fine)
     (informed plan.switches.quiet (codes "done" ∷ []))))
 

@@ -1,27 +1,35 @@
 -- A plan that was made over some openings is the one that settings and these files ask for.
 use Rattle.std.proofs.Common.{rules}
 use Rattle.std.proofs.Common.{◌≡◌, ◌≤◌, ◌∙◌, sym, ap, subst, ℕ, List, [], ◌∷◌, ◌++◌, append_assoc, append-nil, refl, Some, None, Option, Result, Ok, true, inl, inr, length}
+use Rattle.std.specs.Prelude.{find, ok_or}
 use Rattle.std.proofs.lemmas.Bool.{cases_Bool}
 use Rattle.std.proofs.lemmas.Bool.Decides.{nat_tests}
-use Rattle.avr_cli.specs.declared.settings.Settings.{Settings}
-use Rattle.avr_cli.specs.declared.settings.Switches.{Switches}
-use Rattle.avr_cli.specs.declared.update.Format.{Format}
-use Rattle.avr_cli.specs.declared.update.Format.TheVariants as format
-use Rattle.avr_cli.specs.declared.update.Op.{Op}
-use Rattle.avr_cli.specs.declared.update.Op.TheVariants as op
-use Rattle.avr_cli.specs.declared.update.Update.{Update}
+use Rattle.avr_plan.specs.declared.settings.Settings.{Settings}
+use Rattle.avr_plan.specs.declared.settings.Switches.{Switches}
+use Rattle.avr_plan.specs.declared.update.Format.{Format}
+use Rattle.avr_plan.specs.declared.update.Format.TheVariants as format
+use Rattle.avr_plan.specs.declared.update.Op.{Op}
+use Rattle.avr_plan.specs.declared.update.Op.TheVariants as op
+use Rattle.avr_plan.specs.declared.update.Update.{Update}
 use Rattle.avr_desk.specs.Record.{Bytes}
 use Rattle.avr_desk.specs.OutputEvents.{OutputEvent, Opens}
 use Rattle.avr_desk.specs.Stage.{Stage, Produced, ◌>>=◌, result_stage, output_stage, file_stage}
 use Rattle.avr_desk.specs.declared.record.Opening.{Opening}
 use Rattle.avr_desk.specs.declared.record.Opening.TheVariants.{Absent, Found}
+use Rattle.avr_part.specs.BuiltIn.{built_in_parts, has_id}
 use Rattle.avr_part.specs.Mem.{is_writable}
 use Rattle.avr_part.specs.Part.{Part, size_of}
 use Rattle.avr_part.specs.PartFile.{parts_of}
 use Rattle.avr_part.specs.declared.fault.PartFault.{PartFault}
+use Rattle.avr_part.specs.declared.fault.PartFault.TheVariants.{NoSuchPart}
 use Rattle.avr_part.specs.declared.part.Mem.{Mem}
 use Rattle.avr_records.specs.declared.kind.Ending.{Ending}
+use Rattle.avr_laws.proofs.Held.Files.{held_file}
+use Rattle.avr_laws.proofs.Held.Parts.{held_parts}
+use Rattle.avr_laws.proofs.Held.Values.{held_values}
 use Rattle.avr_laws.proofs.Plans.Fitted.{Image, given, settled}
+use Rattle.avr_image.specs.Values.{image_of_values}
+use Rattle.avr_laws.specs.HeldImage.{HoldsImageAs}
 use Rattle.avr_laws.specs.AskedPlan.{GivesText, HasImage, IsTaskOf, AreTasksOf, ArePartsOf, IsAsked}
 use Rattle.avr_plan.specs.ImageFile.{image_within, kind_of, image_of_file}
 use Rattle.avr_plan.specs.Plan.{Plan}
@@ -97,8 +105,8 @@ module _ (Gives : GivesText) where
 
   file_image : (switches : Switches) (name : Bytes) (kind : Format) (size : ℕ) (openings : List Opening) (image : Image)
       → Saw (file_image_stage switches name kind size) openings image
-      → (text : Bytes) × (ending : Ending) × Gives name text × (length text ≤ LARGEST_IMAGE_FILE)
-      × (image_of_file (kind_of kind text) text size ≡ Ok (image, ending))
+      → (text : Bytes) × Gives name text × (length text ≤ LARGEST_IMAGE_FILE)
+      × HoldsImageAs (kind_of kind text) text size image
   file_image switches name kind size openings image saw =
       let judge = checked_image name kind size in
       let first = saw_first (file_stage name LARGEST_IMAGE_FILE judge)
@@ -108,12 +116,15 @@ module _ (Gives : GivesText) where
       openings first.0 first.1.0 in
       let same : first.0.0 ≡ image = cc in
       let is = within_checked name kind size file.0 first.0 file.1.1 in
-      (file.0, first.0.1, file.1.0, is.0, is.1 ∙ ap (λ (i : Image). Ok (i, first.0.1)) same)
+      let held = held_file (kind_of kind file.0) file.0 size image first.0.1
+      (is.1 ∙ ap (λ (i : Image). Ok (i, first.0.1)) same) in
+      (file.0, file.1.0, is.0, held)
 
   image : (switches : Switches) (memory : Mem) (size : ℕ) (name : Bytes) (kind : Format) (openings : List Opening)
       (made : Image) → Saw (image_stage switches memory size name kind) openings made
       → HasImage Gives name kind size made
-  image switches memory size name format.Immediate openings made saw = search rules
+  image switches memory size name format.Immediate openings made saw =
+      let is : image_of_values name size ≡ Ok made = search rules in held_values name size made is
   image switches memory size name kind openings made saw = file_image switches name kind size openings made saw
 
   module _ (switches : Switches) (part : Part) where
@@ -159,6 +170,10 @@ module _ (Gives : GivesText) where
         → Saw (tasks_stage switches part [] updates) openings made → AreTasksOf Gives part updates made
     all_tasks updates openings made saw = let all = tasks [] updates openings made saw in search rules
 
+  found : (o : Option Part) (part : Part) → ok_or o NoSuchPart ≡ Ok part → o ≡ Some part
+  found (Some part) other is = cc is
+  found None other is = absurd (cc is)
+
   part_given : (id : Bytes) (r : Result Part PartFault) (part : Part) → or_line (λ fault. no_part_line id) r ≡ Ok part
       → r ≡ Ok part
   part_given id r part is = search rules
@@ -172,7 +187,7 @@ module _ (Gives : GivesText) where
   parts_saw None openings parts saw = search rules
   parts_saw (Some name) openings parts saw =
       let file = file_saw name LARGEST_PART_FILE (checked_parts name) (limited_parts name) openings parts saw in
-      (file.0, file.1.0, parts_given name file.0 parts file.1.1)
+      (file.0, file.1.0, held_parts file.0 parts (parts_given name file.0 parts file.1.1))
 
   -- THE LAW
   pub plan_asked : (s : Settings) (openings : List Opening) (plan : Plan) → AreGiven (planned s openings).output_events
@@ -189,7 +204,7 @@ module _ (Gives : GivesText) where
       subst (IsAsked s Gives) same (record {
         parts = parts.0;
         are_parts = parts_saw s.parts openings parts.0 parts.1.0;
-        part = search (rules, part_given, settled);
+        part = found (find (has_id s.part) (parts.0 ++ built_in_parts)) part.0 (search (rules, part_given, settled));
         tasks = all_tasks s.switches part.0 s.updates _ done.0 done.1.0;
         switches = refl;
       })

@@ -1,12 +1,12 @@
 -- Lifts a fact about single stages of planning to the whole of it. The fact may name the files that a stage reads.
 use Rattle.std.proofs.Common.{ℕ, List, [], ◌∷◌, ◌++◌, append-nil, Bool, true, false, Option, Some, None, Result, Ok, Err, if◌then◌else◌, rules}
-use Rattle.avr_cli.specs.declared.settings.Settings.{Settings}
-use Rattle.avr_cli.specs.declared.settings.Switches.{Switches}
-use Rattle.avr_cli.specs.declared.update.Format.{Format}
-use Rattle.avr_cli.specs.declared.update.Format.TheVariants as format
-use Rattle.avr_cli.specs.declared.update.Op.{Op}
-use Rattle.avr_cli.specs.declared.update.Op.TheVariants as op
-use Rattle.avr_cli.specs.declared.update.Update.{Update}
+use Rattle.avr_plan.specs.declared.settings.Settings.{Settings}
+use Rattle.avr_plan.specs.declared.settings.Switches.{Switches}
+use Rattle.avr_plan.specs.declared.update.Format.{Format}
+use Rattle.avr_plan.specs.declared.update.Format.TheVariants as format
+use Rattle.avr_plan.specs.declared.update.Op.{Op}
+use Rattle.avr_plan.specs.declared.update.Op.TheVariants as op
+use Rattle.avr_plan.specs.declared.update.Update.{Update}
 use Rattle.avr_desk.specs.Record.{Bytes}
 use Rattle.avr_desk.specs.Stage.{Stage, ◌>>=◌, output_stage, result_stage, file_stage}
 use Rattle.avr_part.specs.BuiltIn.{part_of_id}

@@ -2,10 +2,10 @@
 use Rattle.std.proofs.Common.{◌≡◌, ◌∙◌, sym, ap, subst, ℕ, zero, suc, Bool, true, List, [], ◌∷◌, ◌++◌, append_assoc, append-nil, refl, length, drop, arith, rules, Option, Some, None}
 use Rattle.std.proofs.lemmas.List.Elements.{Contains-append_left, Contains-append_right}
 use Rattle.std.specs.Prelude.{Contains}
-use Rattle.avr_cli.specs.declared.settings.Settings.{Settings}
-use Rattle.avr_cli.specs.declared.update.Format.{Format}
-use Rattle.avr_cli.specs.declared.update.Format.TheVariants.{Immediate}
-use Rattle.avr_cli.specs.declared.update.Update.{Update}
+use Rattle.avr_plan.specs.declared.settings.Settings.{Settings}
+use Rattle.avr_plan.specs.declared.update.Format.{Format}
+use Rattle.avr_plan.specs.declared.update.Format.TheVariants.{Immediate}
+use Rattle.avr_plan.specs.declared.update.Update.{Update}
 use Rattle.avr_desk.proofs.Stages.Breaks.{openings_in, openings_shown}
 use Rattle.avr_desk.specs.Memory.{Stock, content_of_name}
 use Rattle.avr_desk.specs.Record.{Bytes, DeskState, ChangesRecord, Record, all_openings}
@@ -124,7 +124,7 @@ module _ (G H : GivesText) (each : (name text : Bytes) → G name text → H nam
   image_more : (name : Bytes) (kind : Format) (size : ℕ) (image : Image) → HasImage G name kind size image
       → HasImage H name kind size image
   image_more name Immediate size image has = has
-  image_more name kind size image has = (has.0, has.1, each name has.0 has.2, has.3, has.4)
+  image_more name kind size image has = (has.0, each name has.0 has.1, has.2, has.3)
 
   task_more : (part : Part) (u : Update) (task : Task) → IsTaskOf G part u task → IsTaskOf H part u task
   task_more part u (Write mem image) (op, memory, has) = (op, memory, image_more u.file u.format _ image has)

@@ -1,6 +1,6 @@
 -- Planning only reads and reports, stage by stage.
 use Rattle.std.proofs.Common.{ℕ, List, [], ◌∷◌, ◌++◌, Result, rules}
-use Rattle.avr_cli.specs.declared.settings.Settings.{Settings}
+use Rattle.avr_plan.specs.declared.settings.Settings.{Settings}
 use Rattle.avr_desk.specs.declared.record.Opening.{Opening}
 use Rattle.avr_desk.specs.Record.{Bytes}
 use Rattle.avr_desk.specs.OutputEvents.{OutputEvent, Opens, PrintsLine}

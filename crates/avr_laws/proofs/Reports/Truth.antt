@@ -5,7 +5,7 @@ use Rattle.std.proofs.lemmas.List.Elements.{Contains-append_right}
 use Rattle.std.specs.Prelude.{All, Contains, ⊤, codes, nat_lt, if◌then◌else◌}
 use Rattle.std.specs.Str.{bytes_eq}
 use Rattle.avr_desk.specs.Record.{Bytes}
-use Rattle.avr_cli.specs.declared.update.Format.{Format}
+use Rattle.avr_plan.specs.declared.update.Format.{Format}
 use Rattle.avr_image.specs.Image.{byte_count}
 use Rattle.avr_desk.specs.Lines.{information, warning}
 use Rattle.avr_desk.specs.OutputEvents.{OutputEvent, PrintsLine, CreatesFile, WritesFile, WritesOutput}

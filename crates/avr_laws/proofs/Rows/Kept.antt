@@ -2,7 +2,7 @@
 use Rattle.std.proofs.Common.{◌≡◌, ◌∙◌, ap, sym, subst, arith, ℕ, zero, suc, Bool, true, false, List, [], ◌∷◌, ◌++◌, length, drop, take, refl, inl, inr, Some}
 use Rattle.std.proofs.lemmas.Bool.{false≢true, true≢false}
 use Rattle.std.specs.Prelude.{Contains, codes, slice_index}
-use Rattle.avr_cli.specs.declared.update.Format.TheVariants.{Raw}
+use Rattle.avr_plan.specs.declared.update.Format.TheVariants.{Raw}
 use Rattle.avr_desk.specs.Record.{Bytes, Record, all_files, all_openings}
 use Rattle.avr_desk.specs.declared.record.Opening.{Opening}
 use Rattle.avr_desk.specs.declared.record.Opening.TheVariants.{Absent, Found}
@@ -10,7 +10,7 @@ use Rattle.avr_desk.specs.declared.record.Writing.{Writing}
 use Rattle.avr_part.specs.declared.part.Mem.TheVariants.{Lfuse}
 use Rattle.avr_plan.specs.Plan.{Plan}
 use Rattle.avr_plan.specs.declared.planned.Task.TheVariants.{Read}
-use Rattle.avr_session.specs.FileText.{file_text}
+use Rattle.avr_laws.specs.SavedText.{saved_text}
 use Rattle.stk_emu.specs.Effect.{Memories}
 use Rattle.avr_part.specs.BuiltIn.{m328p}
 use Rattle.avr_part.specs.State.{fresh_state}
@@ -155,7 +155,7 @@ reading_plan = record fuse_plan { tasks = Read Lfuse Raw (codes "fuse") ∷ [] }
 
 pub the_file_saved : (m : Memories)
     → saved_files reading_plan m ≡ record { name = codes "fuse"; bytes = m.lfuse ∷ [] } ∷ []
-unfolding file_text
+unfolding saved_text
 the_file_saved m = refl
 
 abbrev first_byte : List Writing → ℕ

@@ -3,7 +3,7 @@
 use Rattle.std.proofs.Common.{◌≡◌, ◌≢◌, ◌∙◌, ap, sym, arith, inl, inr, ℕ, Bool, true, false, List, [], ◌∷◌, ◌++◌, drop, refl, Some}
 use Rattle.std.proofs.lemmas.Bool.{true≢false}
 use Rattle.std.specs.Prelude.{codes, slice_index}
-use Rattle.avr_cli.specs.declared.update.Format.TheVariants.{Raw}
+use Rattle.avr_plan.specs.declared.update.Format.TheVariants.{Raw}
 use Rattle.avr_desk.specs.Record.{Bytes, Record, all_files}
 use Rattle.avr_desk.specs.declared.record.Writing.{Writing}
 use Rattle.avr_part.specs.BuiltIn.{m328p, t85}
@@ -11,7 +11,7 @@ use Rattle.avr_part.specs.Part.{Part}
 use Rattle.avr_part.specs.declared.part.Mem.TheVariants.{Signature}
 use Rattle.avr_plan.specs.Plan.{Plan}
 use Rattle.avr_plan.specs.declared.planned.Task.TheVariants.{Read}
-use Rattle.avr_session.specs.FileText.{file_text}
+use Rattle.avr_laws.specs.SavedText.{saved_text}
 use Rattle.avr_session.specs.Session.{session}
 use Rattle.stk_emu.specs.Device.{device}
 use Rattle.stk_emu.specs.Effect.{Memories}
@@ -123,7 +123,7 @@ reading = record (plan true) { tasks = Read Signature Raw (codes "found") ∷ []
 
 pub the_signature_saved : (m : Memories)
     → saved_files (on_part m328p reading) m ≡ record { name = codes "found"; bytes = 0x1E ∷ 0x95 ∷ 0x0F ∷ [] } ∷ []
-unfolding file_text
+unfolding saved_text
 the_signature_saved m = refl
 
 abbrev last_byte : List Writing → ℕ

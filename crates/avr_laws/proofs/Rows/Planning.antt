@@ -3,12 +3,12 @@
 -- exist.
 use Rattle.std.proofs.Common.{◌≡◌, ◌∙◌, ap, arith, ℕ, ◌+◌, ◌<◌, ◌-◌, ◌^◌, ◌⊎◌, inl, inr, List, [], ◌∷◌, ◌++◌, take, get_or, append-nil, refl, true, false, Option, Some, None, Ok, Err, rules}
 use Rattle.std.specs.Prelude.{codes}
-use Rattle.avr_cli.specs.Settings.{no_switches}
-use Rattle.avr_cli.specs.declared.settings.Port.TheVariants.{Stdio}
-use Rattle.avr_cli.specs.declared.settings.Settings.{Settings}
-use Rattle.avr_cli.specs.declared.update.Format.TheVariants.{Ihex, Immediate}
-use Rattle.avr_cli.specs.declared.update.Op.TheVariants as op
-use Rattle.avr_cli.specs.declared.update.Update.{Update}
+use Rattle.avr_plan.specs.Settings.{no_switches}
+use Rattle.avr_plan.specs.declared.settings.Port.TheVariants.{Stdio}
+use Rattle.avr_plan.specs.declared.settings.Settings.{Settings}
+use Rattle.avr_plan.specs.declared.update.Format.TheVariants.{Ihex, Immediate}
+use Rattle.avr_plan.specs.declared.update.Op.TheVariants as op
+use Rattle.avr_plan.specs.declared.update.Update.{Update}
 use Rattle.ghosts.specs.Failures.{NoFailureCounted}
 use Rattle.avr_desk.specs.Record.{DeskState, Record, after_err, showing, Bytes}
 use Rattle.avr_desk.specs.declared.record.Opening.{Opening}

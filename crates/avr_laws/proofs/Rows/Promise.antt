@@ -5,19 +5,19 @@ use Rattle.std.proofs.Common.{◌≡◌, ◌∙◌, ap, sym, subst, refl, arith,
 use lib.Utf8.{encode}
 use Rattle.std.proofs.lemmas.List.{length-replicate}
 use Rattle.std.proofs.lemmas.List.Elements.{All-cons, All-nil, All-replicate}
-use Rattle.std.specs.Prelude.{IfSome, codes, get_or}
+use Rattle.std.specs.Prelude.{IfSome, codes, find, get_or}
 use Rattle.std.specs.Str.{chars}
 use Rattle.std.specs.declared.io.Read.{Ghosts as Reads}
 use Rattle.std.specs.declared.io.Write.{Ghosts as Writes}
 use Rattle.clap.specs.Takes.{flags_pass, walk_passes}
 use Rattle.clap.specs.Walk.{bundle_met, walked}
 use Rattle.clap.specs.Words.{takes}
-use Rattle.avr_cli.specs.Command.{avrstk, file_rules, message_rules, run_rules, settings_from_arguments, target_rules, write_rules}
-use Rattle.avr_cli.specs.declared.settings.Port.TheVariants.{Stdio, Emulated, Network}
-use Rattle.avr_cli.specs.declared.settings.Settings.{Settings}
-use Rattle.avr_cli.specs.declared.settings.SettingsFault.{SettingsFault}
-use Rattle.avr_cli.specs.declared.update.Format.TheVariants.{Immediate}
-use Rattle.avr_cli.specs.declared.update.Op.TheVariants as op
+use Rattle.avr_plan.specs.Command.{avrstk, options, settings_from_arguments}
+use Rattle.avr_plan.specs.declared.settings.Port.TheVariants.{Stdio, Emulated, Network}
+use Rattle.avr_plan.specs.declared.settings.Settings.{Settings}
+use Rattle.avr_plan.specs.declared.settings.SettingsFault.{SettingsFault}
+use Rattle.avr_plan.specs.declared.update.Format.TheVariants.{Immediate}
+use Rattle.avr_plan.specs.declared.update.Op.TheVariants as op
 use Rattle.avr_desk.specs.Handles.{IsTrueRecord, IsTrueUse}
 use Rattle.avr_desk.specs.Journal.{SystemCalls, Opens, calls_of_record, no_calls}
 use Rattle.avr_desk.specs.OutputEvents.{after_events}
@@ -30,7 +30,7 @@ use Rattle.avr_desk.specs.declared.record.Opening.{Opening}
 use Rattle.avr_desk.specs.declared.record.Opening.TheVariants.{Absent, Found}
 use Rattle.avr_desk.specs.declared.record.Writing.{Writing}
 use Rattle.avr_desk.specs.declared.system.OpenFile.TheVariants.{Nothing}
-use Rattle.avr_part.specs.BuiltIn.{m328p, part_of_id}
+use Rattle.avr_part.specs.BuiltIn.{built_in_parts, has_id, m328p}
 use Rattle.avr_part.specs.ChipFile.{chip_file}
 use Rattle.avr_part.specs.Part.{Part, IsPart}
 use Rattle.avr_part.specs.Sound.{IsSoundChip}
@@ -40,7 +40,7 @@ use Rattle.avr_part.specs.declared.fault.PartFault.TheVariants.{NoSuchPart}
 use Rattle.avr_part.specs.declared.part.Mem.TheVariants.{Lfuse}
 use Rattle.avr_plan.specs.Plan.{Plan, IsFitted}
 use Rattle.avr_plan.specs.declared.planned.Task.TheVariants.{Write}
-use Rattle.avr_session.specs.FileText.{file_text}
+use Rattle.avr_laws.specs.SavedText.{saved_text}
 use Rattle.avr_session.specs.Runs.{devices}
 use Rattle.avr_session.specs.Session.{session}
 use Rattle.avr_session.specs.Stopping.{link_state}
@@ -59,7 +59,6 @@ use Rattle.stk_host.specs.Steps.{exchange, attempt, attempts_or_fault, play}
 use Rattle.stk_host.specs.Tape.{Replied, Tape, answer, bytes_on_tape, on_tape}
 use Rattle.stk_host.specs.Transcript.{LinkState, Transcript, Sent, Got, heard, sent}
 use Rattle.avr_tool.proofs.OverFaultyLink.FrameSizes.{session_asks}
-use Rattle.avr_tool.specs.ComparisonsAgree.{ComparisonsAgree}
 use Rattle.avr_tool.specs.Headline.{IsRun, run}
 use Rattle.avr_tool.specs.Items.{asked_items}
 use Rattle.avr_tool.specs.Sockets.{IsOverAddress}
@@ -68,13 +67,15 @@ use Rattle.avr_tool.specs.declared.network.Network.{Ghosts as Networks}
 use Rattle.avr_laws.proofs.KnownFiles.OneOutcome.{run_more}
 use Rattle.avr_laws.proofs.Lines.Damaged.{brings_no_frame}
 use Rattle.avr_laws.proofs.Outcomes.Kept.{its_none_forged, kept}
+use Rattle.avr_laws.proofs.Held.Chip.{from_file}
+use Rattle.avr_laws.proofs.Rows.Held.{one_value}
 use Rattle.avr_laws.proofs.Rows.Kept.{executed, programmer, reading_plan, worked_came, worked_forges_none}
 use Rattle.avr_laws.proofs.TwoProcesses.PerfectLine.{calls_of, host_in_turn}
 use Rattle.avr_laws.specs.AnyTape.{ReceivedSentFrames, after_received_bytes}
 use Rattle.avr_laws.specs.AskedPlan.{FileGave, GivesText, IsAsked}
 use Rattle.avr_laws.specs.ChipFound.{IsChipInFile}
 use Rattle.avr_laws.specs.Damaged.{Arrival, FrameArrives, BringsReplies, tape_of_arrivals}
-use Rattle.avr_laws.specs.Kept.{FilesAreSaved, HasGeometryOf, IsKept, Keeps, KeepsOnPart, NoneForged, saved_files}
+use Rattle.avr_laws.specs.Kept.{FilesAreSaved, HasGeometryOf, IsKept, Keeps, KeepsOnPart, NoneForged, PlanAgrees, saved_files}
 use Rattle.avr_laws.specs.KeptByPort.{ConnectionState, IsKeptInFile, KeepsCommandLine, KeepsPlanAt}
 use Rattle.avr_laws.specs.TwoProcesses.{host_transcript}
 use Rattle.avr_laws.specs.Worked.{fuse_plan, worked_frames, worked_replies, worked_settings}
@@ -201,14 +202,14 @@ kept_on_part = run_is_kept programmer (sent passed) [] executions chip_is_sound 
 pub plan_kept : Keeps plan fresh (memories_of left) nothing_kept reported.kept
 plan_kept = kept_on_part.keeps
 
-pub compared : ComparisonsAgree plan fresh
+pub compared : PlanAgrees plan fresh
 compared = plan_kept.agrees
 
 pub fuse_written : IsWritten m328p (asked_items plan) fresh (memories_of left)
 fuse_written = plan_kept.images refl
 
-pub another_fuse : (m : Memories) → (m.lfuse ≡ 0xE2 → ⊥) → ComparisonsAgree fuse_plan m → ⊥
-another_fuse m other agrees = other (agrees.1.0 0 0xE2 refl (omega arith))
+pub another_fuse : (m : Memories) → (m.lfuse ≡ 0xE2 → ⊥) → PlanAgrees fuse_plan m → ⊥
+another_fuse m other agrees = other (agrees.0 0 0xE2 refl (omega arith))
 
 pub fuse_unwritten : IsWritten m328p (asked_items plan) fresh fresh → ⊥
 fuse_unwritten written = let byte : 255 ≡ 0xE2 = written.images Lfuse 0 0xE2 refl (omega arith) in omega (arith, byte)
@@ -238,7 +239,7 @@ used uses = record nothing_kept { uses = uses }
 
 pub file_saved : (m : Memories) → FilesAreSaved (saved_files reading_plan m) nothing_kept
     (used (Created (record { name = codes "fuse"; bytes = m.lfuse ∷ [] }) ∷ []))
-unfolding file_text
+unfolding saved_text
 file_saved m = record { created = refl; output = refl }
 
 pub whole_read : (name text : Bytes) → FileGave nothing_kept
@@ -246,14 +247,19 @@ pub whole_read : (name text : Bytes) → FileGave nothing_kept
 whole_read name text = (0, omega arith, refl)
 
 pub plan_asked : (Gives : GivesText) → IsAsked settings Gives plan
-plan_asked Gives =
-    record { parts = []; are_parts = refl; part = refl; tasks = ((refl, refl, refl), tt); switches = refl }
+plan_asked Gives = record {
+  parts = [];
+  are_parts = refl;
+  part = refl;
+  tasks = ((refl, refl, one_value), tt);
+  switches = refl;
+}
 
 pub no_chip_file : IsChipInFile m328p None (fresh_state m328p)
 no_chip_file = refl
 
 pub short_chip_file : (chip : Chip) → IsChipInFile m328p (Some []) chip → ⊥
-short_chip_file chip is = let size : 0 ≡ 33796 = is.0 in omega (arith, size)
+short_chip_file chip is = let size : 0 ≡ 33796 = (from_file m328p (Some []) chip is).0 in omega (arith, size)
 
 -- ---- over the emulator, without a chip file
 
@@ -415,8 +421,9 @@ unknown = record worked_settings { part = codes "none" }
 pub part_unknown : (At : ConnectionState) (during : Transcript) (old new : Record)
     → KeepsPlanAt At Stdio unknown during old new → ⊥
 part_unknown At during old new (other, (asked, keeps)) =
-    let none : ◌≡◌ {A = Result Part PartFault} (Err NoSuchPart) (Ok other.part) =
-    subst (λ (parts : List Part). part_of_id (codes "none") parts ≡ Ok other.part) asked.are_parts asked.part in cc
+    let none : ◌≡◌ {A = Option Part} None (Some other.part) =
+    subst (λ (parts : List Part). find (has_id (codes "none")) (parts ++ built_in_parts) ≡ Some other.part)
+    asked.are_parts asked.part in cc
 
 pub not_connected : (At : ConnectionState) (name : Bytes) (s : Settings) (during : Transcript) (old new : Record)
     → ((link : LinkState) → At name (Some link) → ⊥) → KeepsPlanAt At (Network name) s during old new → ⊥
@@ -434,12 +441,11 @@ words = codes "avrstk" ∷ codes "-p" ∷ codes "m328p" ∷ codes "-P" ∷ codes
 
 -- a run, and no request for help
 pub words_taken : takes avrstk words ≡ true
-unfolding avrstk target_rules write_rules run_rules message_rules file_rules bundle_met walked chars encode
-    walk_passes flags_pass
+unfolding avrstk options bundle_met walked chars encode walk_passes flags_pass
 words_taken = refl
 
 words_read : settings_from_arguments words ≡ Ok settings
-unfolding avrstk target_rules write_rules run_rules message_rules file_rules bundle_met walked chars encode
+unfolding avrstk options bundle_met walked chars encode
 words_read = refl
 
 pub line_kept : KeepsCommandLine (λ given. given ≡ words) (λ name seen. ⊥) passed nothing_kept
@@ -450,12 +456,11 @@ abbrev other_words : List Bytes
 other_words = codes "avrstk" ∷ codes "-p" ∷ codes "none" ∷ codes "-P" ∷ codes "stdio:" ∷ []
 
 other_taken : takes avrstk other_words ≡ true
-unfolding avrstk target_rules write_rules run_rules message_rules file_rules bundle_met walked chars encode
-    walk_passes flags_pass
+unfolding avrstk options bundle_met walked chars encode walk_passes flags_pass
 other_taken = refl
 
 other_read : settings_from_arguments other_words ≡ Ok unknown
-unfolding avrstk target_rules write_rules run_rules message_rules file_rules bundle_met walked chars encode
+unfolding avrstk options bundle_met walked chars encode
 other_read = refl
 
 ok_is : (a b : Settings) → ◌≡◌ {A = Result Settings SettingsFault} (Ok a) (Ok b) → a ≡ b

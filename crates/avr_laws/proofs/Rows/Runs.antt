@@ -1,18 +1,18 @@
 -- What the promise refuses: worked wrong outcomes of its two laws. docs/CHECK.md lists them.
 use Rattle.std.proofs.Common.{◌≡◌, ◌∙◌, ap, refl, sym, arith, ℕ, suc, Bool, true, false, ◌≤◌, List, [], ◌∷◌, ◌++◌, length, Option, Some, None, Ok, subst, rules}
-use Rattle.std.specs.Prelude.{codes, get_or, if◌then◌else◌, unwrap_or}
+use Rattle.std.specs.Prelude.{codes, find, get_or, if◌then◌else◌, unwrap_or}
 use Rattle.std.specs.Str.{bytes_eq}
-use Rattle.avr_cli.specs.declared.settings.Settings.{Settings}
-use Rattle.avr_cli.specs.declared.settings.Switches.{Switches}
-use Rattle.avr_cli.specs.declared.update.Format.TheVariants.{Raw}
-use Rattle.avr_cli.specs.declared.update.Op.TheVariants as op
+use Rattle.avr_plan.specs.declared.settings.Settings.{Settings}
+use Rattle.avr_plan.specs.declared.settings.Switches.{Switches}
+use Rattle.avr_plan.specs.declared.update.Format.TheVariants.{Raw}
+use Rattle.avr_plan.specs.declared.update.Op.TheVariants as op
 use Rattle.avr_desk.specs.Named.{newest}
 use Rattle.avr_desk.specs.Record.{Bytes}
 use Rattle.avr_desk.specs.declared.record.Writing.{Writing}
 use Rattle.avr_desk.specs.Stage.{Produced}
 use Rattle.avr_desk.specs.declared.record.Opening.{Opening}
 use Rattle.avr_desk.specs.declared.record.Opening.TheVariants.{Found}
-use Rattle.avr_part.specs.BuiltIn.{m328p, part_of_id}
+use Rattle.avr_part.specs.BuiltIn.{built_in_parts, has_id, m328p}
 use Rattle.avr_part.specs.ChipFile.{chip_file}
 use Rattle.avr_part.specs.Part.{Part, IsPart}
 use Rattle.avr_part.specs.Sound.{IsSoundChip}
@@ -20,12 +20,11 @@ use Rattle.avr_part.specs.State.{ChipState as Chip, fresh_state}
 use Rattle.avr_part.specs.declared.part.Mem.TheVariants.{Flash, Lfuse}
 use Rattle.avr_laws.proofs.Plans.Fitted.{plan_fitted}
 use Rattle.avr_laws.specs.AskedPlan.{Files, HasImage, FileHolds, IsAsked}
-use Rattle.avr_plan.specs.ImageFile.{ImageOrBadFile}
 use Rattle.avr_plan.specs.Plan.{Plan}
 use Rattle.avr_plan.specs.Planning.{planned}
 use Rattle.avr_plan.specs.declared.planned.Task.{Task}
 use Rattle.avr_plan.specs.declared.planned.Task.TheVariants.{Read, Write}
-use Rattle.avr_session.specs.FileText.{file_text}
+use Rattle.avr_laws.specs.SavedText.{saved_text}
 use Rattle.avr_session.specs.Runs.{Devices}
 use Rattle.stk_emu.specs.Device.{device, after_frames}
 use Rattle.stk_emu.specs.Effect.{Memories, Image, effects, memories_of}
@@ -190,11 +189,6 @@ first_byte more = 0
 pub another_file : IsAsked (settings false) (FileHolds files) (fuse_plan 0x62) → ⊥
 another_file asked = search rules
 
--- whether it has a byte at address 0
-abbrev begins : ImageOrBadFile → ℕ
-begins (Ok (Some byte ∷ image, ending)) = 1
-begins given = 0
-
 -- and not at another address.
 pub another_address : HasImage (FileHolds files) (codes "low") Raw 2 (None ∷ Some 0xE2 ∷ []) → ⊥
 another_address has = search rules
@@ -213,7 +207,8 @@ fuse_in (x ∷ flash) eeprom more a b e = fuse_in flash eeprom more a b (cc e)
 
 module _ (off : Bool) (after : Files) (p : Promised (settings off) (codes "chip") files after) where
   part_is : m328p ≡ p.plan.part
-  part_is = cc (subst (λ parts. part_of_id (codes "m328p") parts ≡ Ok p.plan.part) p.asked.are_parts p.asked.part)
+  part_is = cc (subst (λ parts. find (has_id (codes "m328p")) (parts ++ built_in_parts) ≡ Some p.plan.part)
+      p.asked.are_parts p.asked.part)
 
   tasks_are : p.plan.tasks ≡ tasks 0xE2
   tasks_are = search rules
@@ -284,12 +279,13 @@ two_names same = let first : 102 ≡ 99 = ap (λ (name : Bytes). get_or name 0 0
 -- a fresh chip's fuse is FF
 saved_there : saved_of m328p worked_settings.switches read_tasks (fresh_state m328p)
     ≡ record { name = codes "fuse"; bytes = 0xFF ∷ [] } ∷ []
-unfolding file_text
+unfolding saved_text
 saved_there = refl
 
 module _ (after : Files) (p : Promised reading (codes "chip") files after) where
   its_part : m328p ≡ p.plan.part
-  its_part = cc (subst (λ parts. part_of_id (codes "m328p") parts ≡ Ok p.plan.part) p.asked.are_parts p.asked.part)
+  its_part = cc (subst (λ parts. find (has_id (codes "m328p")) (parts ++ built_in_parts) ≡ Some p.plan.part)
+      p.asked.are_parts p.asked.part)
 
   its_tasks : p.plan.tasks ≡ read_tasks
   its_tasks = search rules

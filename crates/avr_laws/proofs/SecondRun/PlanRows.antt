@@ -1,6 +1,6 @@
 -- Worked rows of plans over a chip of 00 and over one of FF: which of them end with status 0 on both.
 use Rattle.std.proofs.Common.{◌≡◌, ℕ, [], ◌∷◌, List, Some, None, true, false, refl}
-use Rattle.avr_cli.specs.declared.settings.Switches.{Switches}
+use Rattle.avr_plan.specs.declared.settings.Switches.{Switches}
 use Rattle.avr_part.specs.Part.{Part}
 use Rattle.avr_part.specs.declared.part.Mem.TheVariants.{Flash, Eeprom, Lfuse, Hfuse, Lock}
 use Rattle.avr_plan.specs.Plan.{Plan}

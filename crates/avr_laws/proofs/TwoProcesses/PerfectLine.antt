@@ -1,6 +1,6 @@
 -- A session and a server over a link that cuts nothing and has no timeouts: for every dialog there is such a run.
 use Rattle.std.proofs.lemmas.Grind.{common_steps}
-use Rattle.std.proofs.Common.{◌≡◌, ◌∙◌, ap, subst, sym, refl, arith, ℕ, ◌≤◌, length, List, [], ◌∷◌, ◌++◌, append_assoc, Some, None, inl, rules}
+use Rattle.std.proofs.Common.{◌≡◌, ◌∙◌, ap, append-nil, subst, sym, refl, arith, ℕ, ◌≤◌, length, List, [], ◌∷◌, ◌++◌, append_assoc, Some, None, inl, rules}
 use Rattle.avr_desk.specs.Record.{Bytes, DeskState, nothing_kept, showing, with_replaced}
 use Rattle.avr_desk.specs.OutputEvents.{after_events}
 use Rattle.avr_part.specs.ChipFile.{chip_file}
@@ -23,7 +23,7 @@ use Rattle.stk_host.proofs.Tapes.Readings.{reading_found, reading_waits, bytes_o
 use Rattle.stk_emu.proofs.Replies.Texts.{after_more, replies_append}
 use Rattle.stk_emu.proofs.Replies.BodySizes.{replies_fit_frames}
 use Rattle.stk_emu.specs.DialogOverExchanges.{SendsValidBodies}
-use Rattle.stk_emu.specs.Device.{after_frames, device}
+use Rattle.stk_emu.specs.Device.{Device, after_frames, device, replies}
 use Rattle.stk_emu.specs.Emulator.{EmulatorState, WasFedText, emulate}
 use Rattle.stk_emu.specs.Lawful.{IsFrameBody}
 use Rattle.stk_emu.specs.Programmer.{Programmer, fresh_programmer}
@@ -246,6 +246,11 @@ record HasExecuted (p : Programmer) (text : List ℕ) (now : Programmer) : Type 
   whole : rest text ≡ []
   stands : now ≡ after_frames device (frames text) p
 
+-- whatever the device, a frame alone brings its reply
+replied_alone : {P : Type 0} (m : Device P) (n : ℕ) (bytes : List ℕ) (p : P) → IsFrameBody bytes
+    → replies m (frame n bytes ∷ []) p ≡ frame n (m.reply bytes p)
+replied_alone m n bytes p body = search (rules, frame_is_good, body_of_frame, append-nil)
+
 -- one more frame
 module _ (p : Programmer) (text : List ℕ) (n : ℕ) (bytes : List ℕ) (body : IsFrameBody bytes) (now : Programmer)
     (was : HasExecuted p text now) where
@@ -265,7 +270,12 @@ module _ (p : Programmer) (text : List ℕ) (n : ℕ) (bytes : List ℕ) (body :
   }
 
   reply_added : emulate p (text ++ question) ≡ emulate p text ++ frame n (device.reply bytes now)
-  reply_added = grind (arith, common_steps, one_more, replies_append)
+  reply_added =
+      ap (λ (pieces : List (List ℕ)). replies device pieces p) one_more
+      ∙ (replies_append device (frames text) (question ∷ []) p
+      ∙ ap (λ (more : List ℕ). emulate p text ++ more)
+      (subst (λ (q : Programmer). replies device (question ∷ []) q ≡ frame n (device.reply bytes now)) was.stands
+      (replied_alone device n bytes now body)))
 
 -- what is left of the programmer
 abbrev pub left_of : {E R : Type 0} → Dialog E R → ℕ → Programmer → Programmer

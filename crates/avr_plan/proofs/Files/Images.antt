@@ -4,7 +4,7 @@ use Rattle.std.proofs.Math.Seq.{take-append-add}
 use Rattle.std.proofs.lemmas.Bool.Decides.{nat_tests}
 use Rattle.std.proofs.lemmas.List.{take-take, take-append-le}
 use Rattle.avr_desk.proofs.FileUses.Pieces.{read_next, read_piece}
-use Rattle.avr_cli.specs.declared.update.Format.{Format}
+use Rattle.avr_plan.specs.declared.update.Format.{Format}
 use Rattle.avr_desk.specs.Files.{after_reading}
 use Rattle.avr_desk.specs.Record.{DeskState, ChangesRecord, after_open, after_read, Bytes}
 use Rattle.avr_desk.specs.declared.files.FileFault.TheVariants.{NotRead}

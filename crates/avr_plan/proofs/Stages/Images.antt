@@ -1,7 +1,7 @@
 -- The image of an update.
 use Rattle.std.proofs.Common.{◌≡◌, sym, ap, ℕ, false, List, Option, Ok, Err, rules}
-use Rattle.avr_cli.specs.declared.settings.Switches.{Switches}
-use Rattle.avr_cli.specs.declared.update.Format.{Format}
+use Rattle.avr_plan.specs.declared.settings.Switches.{Switches}
+use Rattle.avr_plan.specs.declared.update.Format.{Format}
 use Rattle.avr_desk.specs.Fault.{CountsNeverFall, HasSameCounts}
 use Rattle.avr_desk.specs.Lines.{memory_line}
 use Rattle.avr_desk.specs.declared.files.FileFault.TheVariants as file_fault

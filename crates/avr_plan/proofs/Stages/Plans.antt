@@ -1,6 +1,6 @@
 -- The stages of a plan, one after another.
 use Rattle.std.proofs.Common.{◌≡◌, ap, append-nil, ℕ, false, List, [], ◌++◌, Ok, Err, rules}
-use Rattle.avr_cli.specs.declared.settings.Settings.{Settings}
+use Rattle.avr_plan.specs.declared.settings.Settings.{Settings}
 use Rattle.avr_desk.specs.Record.{DeskState}
 use Rattle.avr_part.specs.Part.{Part}
 use Rattle.avr_desk.specs.OutputEvents.{OutputEvent}

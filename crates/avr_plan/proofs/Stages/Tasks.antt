@@ -1,10 +1,10 @@
 -- The tasks of updates.
 use Rattle.std.proofs.Common.{◌≡◌, sym, ap, subst, ℕ, ◌+◌, All, drop, List, [], ◌∷◌, ◌++◌, refl, Bool, true, false, if◌then◌else◌, Option, Result, Ok, Err, rules}
-use Rattle.avr_cli.specs.declared.settings.Switches.{Switches}
-use Rattle.avr_cli.specs.declared.update.Format.{Format}
-use Rattle.avr_cli.specs.declared.update.Format.TheVariants.{Immediate}
-use Rattle.avr_cli.specs.declared.update.Op.TheVariants as op
-use Rattle.avr_cli.specs.declared.update.Update.{Update}
+use Rattle.avr_plan.specs.declared.settings.Switches.{Switches}
+use Rattle.avr_plan.specs.declared.update.Format.{Format}
+use Rattle.avr_plan.specs.declared.update.Format.TheVariants.{Immediate}
+use Rattle.avr_plan.specs.declared.update.Op.TheVariants as op
+use Rattle.avr_plan.specs.declared.update.Update.{Update}
 use Rattle.avr_desk.specs.Record.{DeskState, Bytes}
 use Rattle.avr_desk.specs.OutputEvents.{OutputEvent, ReportsLine}
 use Rattle.avr_desk.specs.declared.record.Opening.{Opening}

@@ -1,7 +1,7 @@
 -- The image of values.
 use Rattle.std.proofs.Common.{◌≡◌, sym, ap, ℕ, true, List, Option, Ok, Err, inl, inr, rules}
-use Rattle.avr_cli.specs.declared.settings.Switches.{Switches}
-use Rattle.avr_cli.specs.declared.update.Format.TheVariants.{Immediate}
+use Rattle.avr_plan.specs.declared.settings.Switches.{Switches}
+use Rattle.avr_plan.specs.declared.update.Format.TheVariants.{Immediate}
 use Rattle.avr_desk.specs.Record.{DeskState, Bytes}
 use Rattle.avr_image.specs.Fault.{OrOutOfMemory}
 use Rattle.avr_image.specs.Values.{image_of_values}

@@ -7,7 +7,7 @@ use Rattle.avr_records.specs.Needed.{largest_memory, needed_by, size_needed_in_t
 use Rattle.avr_records.specs.Progress.{IsExtentOf}
 use Rattle.avr_records.specs.Reading.{LineResult, up_to_end, line_result}
 use Rattle.avr_records.specs.Steps.{next_extent}
-use Rattle.avr_records.specs.declared.extent.Extent.{Extent}
+use Rattle.avr_records.specs.declared.progress.Extent.{Extent}
 use Rattle.avr_records.specs.declared.kind.Kind.{Kind}
 use Rattle.avr_records.specs.declared.fault.RecordFault.{RecordFault}
 use Rattle.avr_records.proofs.Readers.Fed.{line-first, result-nothing, results-prefix}

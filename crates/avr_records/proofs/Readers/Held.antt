@@ -14,7 +14,7 @@ use Rattle.avr_records.specs.Needed.{end_after, end_of_bytes}
 use Rattle.avr_records.specs.Progress.{IsExtentOf, HoldsLines, image_size}
 use Rattle.avr_records.specs.Reading.{LineResult, is_end_record, is_data_record, up_to_end, with_lines_before, bytes_of_lines, bytes_under_base, bytes_of_line, first_fault, fault_of_line, image_of_lines}
 use Rattle.avr_records.specs.Steps.{next_extent, with_extent, next_progress, ending_of}
-use Rattle.avr_records.specs.declared.extent.Extent.{Extent}
+use Rattle.avr_records.specs.declared.progress.Extent.{Extent}
 use Rattle.avr_records.specs.declared.fault.RecordFault.{RecordFault}
 use Rattle.avr_records.specs.declared.progress.Progress.{Progress}
 use Rattle.avr_records.proofs.Readers.LaterLines.{with_lines_before-append, first_fault-append, up_to_end-open, up_to_end-done, up_to_end-any}

@@ -3,8 +3,8 @@ use Rattle.std.proofs.Common.{◌≡◌, ℕ, true, false, List, [], ◌∷◌, 
 use Rattle.std.proofs.lemmas.Bool.{or_parts}
 use Rattle.std.proofs.lemmas.List.Folds.{list_any-append}
 use Rattle.avr_desk.specs.Record.{DeskState, Bytes}
-use Rattle.avr_cli.specs.declared.settings.Switches.{Switches}
-use Rattle.avr_cli.specs.declared.update.Format.{Format}
+use Rattle.avr_plan.specs.declared.settings.Switches.{Switches}
+use Rattle.avr_plan.specs.declared.update.Format.{Format}
 use Rattle.avr_part.specs.Part.{Part}
 use Rattle.avr_part.specs.declared.part.Mem.{Mem}
 use Rattle.stk_host.specs.declared.fault.HostFault.{HostFault}

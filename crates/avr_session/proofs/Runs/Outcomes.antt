@@ -5,7 +5,7 @@ use Rattle.stk_host.specs.State.{HostState}
 use Rattle.avr_session.specs.Standing.{NoFault, Faulty, Over}
 use Rattle.avr_session.specs.declared.ending.End.{End}
 use Rattle.avr_session.specs.declared.ending.End.TheVariants as ends
-use Rattle.avr_session.specs.declared.outcome.Outcome.{Outcome}
+use Rattle.avr_session.specs.declared.ending.Outcome.{Outcome}
 use Rattle.avr_session.specs.Concluding.{standing_after}
 use Rattle.avr_session.specs.Outcomes.{outcome_status, ComesTo, EndsWithFaultLine, outcome_of}
 use Rattle.avr_session.specs.Performing.{PlaysSession}

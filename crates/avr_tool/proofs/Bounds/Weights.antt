@@ -1,7 +1,7 @@
 -- How much a session asks, by any weight of bodies: at most four times the commands of its plan's steps.
 use Rattle.std.proofs.Common.{◌≡◌, ℕ, ◌+◌, ◌*◌, ◌-◌, ◌≤◌, List, [], ◌∷◌, ◌++◌, map, append_assoc, refl, ap, ◌∙◌, subst, arith, Bool, Ok, Err, Result, rules}
 use Rattle.std.proofs.Math.Nat.{suc-mul}
-use Rattle.avr_cli.specs.declared.settings.Switches.{Switches}
+use Rattle.avr_plan.specs.declared.settings.Switches.{Switches}
 use Rattle.avr_desk.specs.OutputEvents.{OutputEvent}
 use Rattle.avr_part.specs.Part.{Part}
 use Rattle.avr_plan.specs.Plan.{Plan}

@@ -1,7 +1,7 @@
 -- The actions of a session over one link, on which steps may fail or none does: their output, and what they leave.
 use Rattle.std.proofs.Common.{◌≡◌, List, [], ◌∷◌, ◌++◌, append_assoc, refl, sym, ap, ap₂, ◌∙◌, subst, inl, inr, ◌⊎◌, Ok, Err, Result, rules}
 use Rattle.std.specs.Prelude.{⊤}
-use Rattle.avr_cli.specs.declared.settings.Switches.{Switches}
+use Rattle.avr_plan.specs.declared.settings.Switches.{Switches}
 use Rattle.avr_desk.specs.OutputEvents.{OutputEvent, PrintsLine}
 use Rattle.avr_part.specs.Part.{Part, IsPart}
 use Rattle.avr_session.specs.Actions.{Action, OpenSession}

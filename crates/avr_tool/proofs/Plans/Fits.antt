@@ -3,7 +3,7 @@
 use Rattle.std.proofs.Common.{List, [], ◌∷◌, ◌++◌, rules}
 use Rattle.std.proofs.lemmas.List.Elements.{All-head, All-tail}
 use Rattle.std.specs.Prelude.{All, ⊤}
-use Rattle.avr_cli.specs.declared.settings.Switches.{Switches}
+use Rattle.avr_plan.specs.declared.settings.Switches.{Switches}
 use Rattle.avr_part.specs.Part.{Part}
 use Rattle.avr_plan.specs.Plan.{Plan, IsFitted}
 use Rattle.avr_plan.specs.declared.planned.Task.{Task}

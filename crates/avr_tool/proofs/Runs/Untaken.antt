@@ -6,7 +6,7 @@ use Rattle.avr_tool.specs.Sockets.{Peers}
 use Rattle.avr_session.specs.Runs.{devices}
 use Rattle.avr_tool.specs.Asked.{GivesSettings, ReportsOnlyAllocation}
 use Rattle.avr_tool.specs.Program.{ActsOnCommandLine}
-use Rattle.avr_tool.specs.declared.asking.NotAsked.TheVariants.{Words}
+use Rattle.avr_tool.specs.declared.command_line.NotAsked.TheVariants.{Words}
 use Rattle.stk_host.specs.Transcript.{LinkState}
 
 pub untaken : (peers : Peers) (words : List Bytes)

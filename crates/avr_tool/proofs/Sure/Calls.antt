@@ -1,6 +1,6 @@
 -- The calls of a host over exchanges that are sure: each has all its data, and only the faults that these data give.
 use Rattle.std.proofs.Common.{ℕ, List, [], ◌∷◌, length, refl, subst, arith, inl, Bool, Ok, rules}
-use Rattle.avr_cli.specs.declared.settings.Switches.{Switches}
+use Rattle.avr_plan.specs.declared.settings.Switches.{Switches}
 use Rattle.avr_part.specs.declared.part.Mem.TheVariants.{Signature}
 use Rattle.avr_part.specs.Part.{Part, IsPart}
 use Rattle.avr_session.specs.Actions.{Action, OpenSession}

@@ -15,7 +15,7 @@ use Rattle.avr_part.specs.declared.part.Mem.{Mem}
 use Rattle.avr_part.specs.declared.part.Mem.TheVariants.{Flash, Eeprom, Lfuse, Hfuse, Efuse, Lock, Signature, Calibration}
 use Rattle.avr_part.specs.Part.{Part, IsPart, size_of}
 use Rattle.stk_frame.specs.declared.command.Command.{Command}
-use Rattle.stk_frame.specs.declared.host_command.Fuse.TheVariants.{Low, High, Extended}
+use Rattle.stk_frame.specs.declared.command.Fuse.TheVariants.{Low, High, Extended}
 use Rattle.stk_frame.specs.HostCommands.{program_fuse, program_lock}
 use Rattle.stk_host.specs.Places.{each_from}
 use Rattle.stk_host.specs.WriteSteps.{page_step, page_steps, page_end, begins_run, run_step, run_steps_at, byte_steps, write_steps}

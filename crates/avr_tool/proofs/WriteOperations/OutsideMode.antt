@@ -5,8 +5,8 @@ use Rattle.std.proofs.lemmas.Bool.{cases_Bool, cond-false}
 use Rattle.avr_part.specs.Part.{Part, IsPart}
 use Rattle.stk_frame.specs.declared.command.Command.{Command}
 use Rattle.stk_frame.specs.declared.command.Command.TheVariants.{LoadAddress}
-use Rattle.stk_frame.specs.declared.host_command.Fuse.{Fuse}
-use Rattle.stk_frame.specs.declared.host_command.Fuse.TheVariants.{Low}
+use Rattle.stk_frame.specs.declared.command.Fuse.{Fuse}
+use Rattle.stk_frame.specs.declared.command.Fuse.TheVariants.{Low}
 use Rattle.stk_frame.specs.Commands.{body}
 use Rattle.stk_frame.specs.HostCommands.{erase, program_page, program_eeprom_block, program_fuse, program_lock, read_flash_block, read_eeprom_block, read_fuse, read_lock, read_signature, read_calibration}
 use Rattle.stk_host.proofs.ImagePlaces.PagesAndRuns.{page_most}
@@ -15,7 +15,7 @@ use Rattle.stk_host.specs.declared.fault.StepFault.TheVariants.{Refused}
 use Rattle.stk_host.specs.Places.{flash_address}
 use Rattle.stk_host.specs.Steps.{Data, Stop, reply_from_reading}
 use Rattle.stk_host.specs.Tape.{Replied}
-use Rattle.stk_emu.specs.Programmer.{Programmer, Response, fail, execute, execute_command}
+use Rattle.stk_emu.specs.Programmer.{Programmer, Response, execute, execute_command}
 use Rattle.stk_emu.specs.Device.{device}
 use Rattle.stk_emu.specs.Effect.{Memories}
 use Rattle.stk_emu.specs.Settled.{Ready}
@@ -35,10 +35,10 @@ pub stop_no : (fault : StepFault) (bytes : List ℕ) → Stop fault ≡ Data byt
 stop_no fault bytes e = cc
 
 fails_by : (c : Command) (code : ℕ) (fault : StepFault) (p : Programmer) (done : Response)
-    → execute (body c) p ≡ cond p.mode done (fail code p) → reply_from_reading c (Replied (code ∷ 0xC0 ∷ []))
+    → execute (body c) p ≡ cond p.mode done (code ∷ 0xC0 ∷ [], p) → reply_from_reading c (Replied (code ∷ 0xC0 ∷ []))
     ≡ Stop fault → p.mode ≡ false → Fails c p
 fails_by c code fault p done is stops off =
-    let failed : execute (body c) p ≡ fail code p = is ∙ cond-false p.mode done (fail code p) off in
+    let failed : execute (body c) p ≡ (code ∷ 0xC0 ∷ [], p) = is ∙ cond-false p.mode done (code ∷ 0xC0 ∷ [], p) off in
     record {
       fault = fault;
       reply = ap (λ (z : Response). reply_from_reading c (Replied z.0)) failed ∙ stops;

@@ -6,7 +6,7 @@ use Rattle.avr_part.specs.declared.part.Mem.TheVariants.{Flash, Eeprom}
 use Rattle.avr_part.specs.Part.{Part, IsPart}
 use Rattle.stk_frame.specs.declared.command.Command.{Command}
 use Rattle.stk_frame.specs.declared.command.Command.TheVariants.{SignOn}
-use Rattle.stk_frame.specs.declared.host_command.Fuse.{Fuse}
+use Rattle.stk_frame.specs.declared.command.Fuse.{Fuse}
 use Rattle.stk_frame.specs.Commands.{body}
 use Rattle.stk_frame.specs.HostCommands.{enter, leave, program_page, program_eeprom_block, program_fuse, read_flash_block, read_eeprom_block, read_fuse, read_lock}
 use Rattle.stk_host.specs.Places.{flash_address, load_flash, load_eeprom}

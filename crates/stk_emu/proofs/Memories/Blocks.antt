@@ -1,7 +1,7 @@
 -- Blocks, byte by byte.
-use Rattle.std.proofs.Common.{true, if◌then◌else◌, ◌≡◌, ℕ, suc, ◌+◌, ◌<◌, Bool, List, [], ◌∷◌, ◌++◌, length, get_or, drop, refl, drop-cons, append_assoc, rules}
+use Rattle.std.proofs.Common.{true, ◌≡◌, ℕ, suc, ◌+◌, ◌<◌, Bool, List, [], ◌∷◌, ◌++◌, length, get_or, drop, refl, drop-cons, append_assoc, rules}
 use Rattle.avr_part.specs.State.{ChipState, spi_of}
-use Rattle.stk_emu.specs.Programmer.{Programmer, if_programming, fail, with_address_moved, with_instructions, after_instructions, flash_loads, flash_reads, eeprom_reads, extension, at_address, for_half, word_at, byte_address}
+use Rattle.stk_emu.specs.Programmer.{Programmer, if_programming, with_address_moved, with_instructions, after_instructions, flash_loads, flash_reads, eeprom_reads, extension, at_address, for_half, word_at, byte_address}
 
 pub sent-append : (xs ys : List (List ℕ)) (chip : ChipState) → after_instructions (xs ++ ys) chip
     ≡ after_instructions ys (after_instructions xs chip)
@@ -53,7 +53,7 @@ pub block_done : (code moved : ℕ) (fits : Bool) (p new : Programmer) (loads wr
     (loaded written : ChipState) (out : List ℕ) → p.mode ≡ true → fits ≡ true → loaded ≡ after_instructions loads p.chip
     → written ≡ after_instructions writes loaded → new ≡ with_address_moved moved (record p { chip = written })
     → out ≡ code ∷ 0 ∷ []
-    → (out, new) ≡ if_programming code p
-    (if fits then (code ∷ 0 ∷ [], with_address_moved moved (with_instructions (loads ++ writes) p)) else fail code p)
+    → (out, new) ≡ if_programming code p fits
+    (code ∷ 0 ∷ [], with_address_moved moved (with_instructions (loads ++ writes) p))
 block_done code moved fits p new loads writes loaded written out mode fit load write is filled =
     search (rules, sent-append)

@@ -5,7 +5,7 @@ use Rattle.std.proofs.Math.Nat.{mod-eq_of_lt}
 use Rattle.std.proofs.lemmas.Bool.{cond-false}
 use Rattle.std.specs.Prelude.{slice_index}
 use Rattle.avr_part.specs.State as chip
-use Rattle.stk_emu.specs.Programmer.{after_instructions, extension, flash_reads, eeprom_reads, read_then, for_half, word_at, byte_address, at_address, high, low}
+use Rattle.stk_emu.specs.Programmer.{after_instructions, extension, flash_reads, eeprom_reads, read_then, for_half, word_at, byte_address, at_address}
 use Rattle.stk_emu.proofs.Memories.Pages.{extended_is}
 
 -- the bytes read after an instruction whose output is known
@@ -31,7 +31,7 @@ pub record BytesAndChip (wide : Bool) (j n : ℕ) (s : chip.ChipState) (looked :
 -- the place of an address's byte
 flash_place : (wide : Bool) (a i size : ℕ) (s : chip.ChipState) → s.part.flash_size ≡ size → a + i / 2 < 2147483648
     → a + i / 2 < 16777216 → a + i / 2 < size / 2 → (wide ≡ false → (s.extended ≡ 0) × (a + i / 2 < 65536))
-    → (cond wide (word_at a i / 65536 % 256) s.extended * 65536 + (high (word_at a i) * 256 + low (word_at a i))) %
+    → (cond wide (word_at a i / 65536 % 256) s.extended * 65536 + (word_at a i / 256 % 256 * 256 + word_at a i % 256)) %
     (s.part.flash_size / 2) * 2 + i % 2 ≡ a * 2 + i
 flash_place wide a i size s is few low_enough inside narrow = search (rules, mod-eq_of_lt)
 
@@ -42,15 +42,14 @@ pub flash_looked : (wide : Bool) (a i n size : ℕ) (s : chip.ChipState) → s.p
 flash_looked wide a i zero size s is long most even fits narrow =
     record { bytes = refl; value = s.extended; kept = λ e. refl; is = refl }
 flash_looked wide a i (suc n) size s is long most even fits narrow =
-    let x = cond wide (word_at a i / 65536 % 256) s.extended in
-    let s₁ : chip.ChipState = record s { extended = x } in
+    let s₁ : chip.ChipState = record s { extended = cond wide (word_at a i / 65536 % 256) s.extended } in
     let place = flash_place wide a i size s is (omega arith) (omega arith) (omega arith)
     (λ e. ((narrow e).0, (let l = (narrow e).1 in omega arith))) in
     let byte = get_or s.flash (a * 2 + i) 0 in
     let spi : chip.spi_of (at_address (for_half 0x20 i) (word_at a i) 0)
     (after_instructions (extension wide (word_at a i)) s)
-    ≡ (0 ∷ for_half 0x20 i ∷ high (word_at a i) ∷ byte ∷ [], s₁) =
-    rw (extended_is wide (word_at a i) s, look_byte i (high (word_at a i)) (low (word_at a i)) s₁, place) refl in
+    ≡ (0 ∷ for_half 0x20 i ∷ word_at a i / 256 % 256 ∷ byte ∷ [], s₁) =
+    rw (extended_is wide (word_at a i) s, look_byte i (word_at a i / 256 % 256) (word_at a i % 256) s₁, place) refl in
     let more : BytesAndChip wide (a * 2 + suc i) n s₁ (flash_reads wide 0x20 a (suc i) n s₁) =
     flash_looked wide a (suc i) n size s₁ is long most even (omega arith)
     (λ e. (cond-false wide (word_at a i / 65536 % 256) s.extended e ∙ (narrow e).0, (narrow e).1)) in
@@ -59,7 +58,7 @@ flash_looked wide a i (suc n) size s is long most even fits narrow =
     search (rules, look_by) in grind (arith, common_steps)
 
 eeprom_place : (a i size : ℕ) (s : chip.ChipState) → s.part.eeprom_size ≡ size → a + i < size → size ≤ 4096
-    → (high (byte_address a i) * 256 + low (byte_address a i)) % s.part.eeprom_size ≡ a + i
+    → (byte_address a i / 256 % 256 * 256 + byte_address a i % 256) % s.part.eeprom_size ≡ a + i
 eeprom_place a i size s is inside most = search rules
 
 pub eeprom_looked : (a i n size : ℕ) (s : chip.ChipState) → s.part.eeprom_size ≡ size → length s.eeprom ≡ size
@@ -69,7 +68,7 @@ eeprom_looked a i (suc n) size s is long most fits =
     let place = eeprom_place a i size s is (omega arith) most in
     let byte = get_or s.eeprom (a + i) 0 in
     let spi : chip.spi_of (at_address 0xA0 (byte_address a i) 0) s
-    ≡ (0 ∷ 0xA0 ∷ high (byte_address a i) ∷ byte ∷ [], s) =
+    ≡ (0 ∷ 0xA0 ∷ byte_address a i / 256 % 256 ∷ byte ∷ [], s) =
     rw place refl in
     let more = eeprom_looked a (suc i) n size s is long most (omega arith) in
     grind (arith, common_steps)
@@ -83,11 +82,11 @@ pub record Left (wide : Bool) (s t : chip.ChipState) : Type 0 where
 pub flash_left : (wide : Bool) (a i n : ℕ) (s : chip.ChipState) → Left wide s (flash_reads wide 0x20 a i n s).1
 flash_left wide a i zero s = record { value = s.extended; kept = λ e. refl; is = refl }
 flash_left wide a i (suc n) s =
-    let x = cond wide (word_at a i / 65536 % 256) s.extended in
-    let s₁ : chip.ChipState = record s { extended = x } in
+    let s₁ : chip.ChipState = record s { extended = cond wide (word_at a i / 65536 % 256) s.extended } in
     let after : (chip.spi_of (at_address (for_half 0x20 i) (word_at a i) 0)
     (after_instructions (extension wide (word_at a i)) s)).1 ≡ s₁ =
-    rw (extended_is wide (word_at a i) s) (ap (λ z. z.1) (look_byte i (high (word_at a i)) (low (word_at a i)) s₁)) in
+    rw (extended_is wide (word_at a i) s)
+    (ap (λ z. z.1) (look_byte i (word_at a i / 256 % 256) (word_at a i % 256) s₁)) in
     let more : Left wide s₁ (flash_reads wide 0x20 a (suc i) n s₁).1 = flash_left wide a (suc i) n s₁ in
     search rules
 

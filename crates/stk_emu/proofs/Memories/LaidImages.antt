@@ -3,7 +3,7 @@ use Rattle.std.proofs.lemmas.Grind.{common_steps}
 use Rattle.std.proofs.Common.{◌≡◌, ℕ, zero, suc, ◌+◌, ◌-◌, ◌≤◌, ◌<◌, List, [], ◌∷◌, ◌++◌, length, get_or, set, map, refl, sym, ap, ap₂, ◌∙◌, append_assoc, arith, replicate, Option, Some, None, unwrap_or, length-append, rules}
 use Rattle.std.proofs.lemmas.List.{length-replicate, length-map, get_or-replicate, get_or_append_left, get_or-append_right, get_or_past, set_at, replicate-append-replicate}
 use Rattle.std.proofs.lemmas.Nat.{and_assoc}
-use Rattle.avr_part.specs.Memory.{map_indexed, overlaid_byte, byte_and_page}
+use Rattle.avr_part.specs.Memory.{map_indexed_from, overlaid_byte, byte_and_page}
 use Rattle.avr_part.proofs.Changes.{changed_is}
 use Rattle.stk_emu.specs.Effect.{Image, with_image, and_in, and_with}
 use Rattle.stk_emu.specs.WriteOperations.{image_at}
@@ -65,7 +65,7 @@ pub in_part : (start : ℕ) (loads : Image) (i : ℕ) → start ≤ i
 in_part start loads i l = search (rules, get_or-append_right, length-replicate)
 
 pub overlaid_laid : (start : ℕ) (loads : Image) (xs : List ℕ)
-    → map_indexed (overlaid_byte start loads) xs ≡ with_image (replicate start None ++ loads) xs
+    → map_indexed_from 0 (overlaid_byte start loads) xs ≡ with_image (replicate start None ++ loads) xs
 overlaid_laid start loads xs =
     sym (changed_is (overlaid_byte start loads) xs (with_image (replicate start None ++ loads) xs)
     (length-laid (replicate start None ++ loads) xs)
@@ -77,7 +77,7 @@ some_at (x ∷ page) zero l = refl
 some_at (x ∷ page) (suc j) l = some_at page j (omega arith)
 
 pub anded_in : (start : ℕ) (page xs : List ℕ)
-    → map_indexed (byte_and_page start page) xs ≡ and_in (image_at start page) xs
+    → map_indexed_from 0 (byte_and_page start page) xs ≡ and_in (image_at start page) xs
 anded_in start page xs =
     sym (changed_is (byte_and_page start page) xs (and_in (image_at start page) xs)
     (length-and_in (image_at start page) xs)
@@ -107,7 +107,7 @@ put_is f e (d ∷ ds) prefix place k at =
 
 -- the bytes loaded for a run within a page, laid over a memory
 pub run_laid : (start off : ℕ) (run : List ℕ) (page : ℕ) (xs : List ℕ) → off + length run ≤ page
-    → map_indexed (overlaid_byte start (put Some off run (replicate page None))) xs
+    → map_indexed_from 0 (overlaid_byte start (put Some off run (replicate page None))) xs
     ≡ with_image (image_at (start + off) run) xs
 run_laid start off run page xs fits =
     let buffer : put Some off run (replicate page None)
@@ -115,7 +115,7 @@ run_laid start off run page xs fits =
     ap (put Some off run) (search (rules, replicate-append-replicate))
     ∙ put_is Some None run (replicate off None) off (page - (off + length run))
     (length-replicate {A = Option ℕ} off None) in
-    ap (λ b. map_indexed (overlaid_byte start b) xs) buffer
+    ap (λ b. map_indexed_from 0 (overlaid_byte start b) xs) buffer
     ∙ (overlaid_laid start (replicate off None ++ (map Some run ++ replicate (page - (off + length run)) None)) xs
     ∙ (ap (λ b. with_image b xs) (simp (append_assoc, ← replicate-append-replicate {A = Option ℕ} start off None))
     ∙ laid_nothing (image_at (start + off) run) (page - (off + length run)) xs))

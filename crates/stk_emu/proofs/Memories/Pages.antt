@@ -7,13 +7,13 @@ use Rattle.std.proofs.lemmas.Bool.{ltb-false, le-ltb}
 use Rattle.std.proofs.lemmas.List.{append-nil, map-id}
 use Rattle.std.specs.Prelude.{nat_lt}
 use Rattle.avr_part.specs.Part.{Part, IsPart}
-use Rattle.avr_part.specs.Memory.{map_indexed, byte_and_page, blank}
+use Rattle.avr_part.specs.Memory.{map_indexed_from, byte_and_page, blank}
 use Rattle.avr_part.specs.State as chip
 use Rattle.stk_frame.specs.Commands.{body}
 use Rattle.stk_frame.specs.HostCommands.{program_page}
 use Rattle.stk_host.specs.Places.{flash_address, load_flash}
 use Rattle.stk_host.proofs.ImagePlaces.PagesAndRuns.{page_most}
-use Rattle.stk_emu.specs.Programmer.{Programmer, after_instructions, extension, flash_loads, flash_writes, for_half, word_at, high, low}
+use Rattle.stk_emu.specs.Programmer.{Programmer, after_instructions, extension, flash_loads, page_writes, for_half, word_at}
 use Rattle.stk_emu.specs.Device.{device}
 use Rattle.avr_part.specs.declared.part.Mem.TheVariants.{Flash}
 use Rattle.stk_emu.specs.Effect.{Memories, Write, and_in, effects}
@@ -65,14 +65,14 @@ flash_loaded wide a i half [] s e each = record { value = s.extended; kept = λ 
 flash_loaded wide a i half (d ∷ ds) s e each =
     let x = cond wide (word_at a i / 65536 % 256) s.extended in
     let s₁ : chip.ChipState = record s { extended = x } in
-    let here : low (word_at a i) % (s.part.flash_page / 2) * 2 + i % 2 ≡ i =
-    ap (λ h. low (word_at a i) % h * 2 + i % 2) e
+    let here : word_at a i % 256 % (s.part.flash_page / 2) * 2 + i % 2 ≡ i =
+    ap (λ h. word_at a i % 256 % h * 2 + i % 2) e
     ∙ (ap (λ j. word_at a j % 256 % half * 2 + j % 2) (omega arith) ∙ (each 0 (omega arith) ∙ omega arith)) in
     let s₂ : chip.ChipState = record s { flash_buffer = set s.flash_buffer i d; extended = x } in
     let one : after_instructions (flash_loads wide 0x40 a i (d ∷ ds)) s
     ≡ after_instructions (flash_loads wide 0x40 a (suc i) ds) s₂ =
     sent-append (extension wide (word_at a i)) _ s ∙ rw (extended_is wide (word_at a i) s)
-    (rw (load_byte i (high (word_at a i)) (low (word_at a i)) d s₁, here) refl) in
+    (rw (load_byte i (word_at a i / 256 % 256) (word_at a i % 256) d s₁, here) refl) in
     let more : Loaded wide (suc i) ds s₂ (after_instructions (flash_loads wide 0x40 a (suc i) ds) s₂) =
     flash_loaded wide a (suc i) half ds s₂ e
     (λ k l. ap (λ j. word_at a j % 256 % half * 2 + j % 2) (omega arith)
@@ -91,14 +91,14 @@ word_place n half j whole within few =
 -- a word's address, from the extended address and the two bytes of an instruction
 pub word_whole : (wide : Bool) (s : chip.ChipState) (w : ℕ) → w < 16777216
     → (wide ≡ false → (s.extended ≡ 0) × (w < 65536))
-    → cond wide (w / 65536 % 256) s.extended * 65536 + (high w * 256 + low w) ≡ w
+    → cond wide (w / 65536 % 256) s.extended * 65536 + (w / 256 % 256 * 256 + w % 256) ≡ w
 word_whole wide s w few n = search rules
 
 -- the page is written at the address of its low word
 flash_written : (wide : Bool) (s : chip.ChipState) (a start size page : ℕ) → s.part.flash_page ≡ page
     → s.part.flash_size ≡ size → a < 16777216 → a < size / 2 → (wide ≡ false → (s.extended ≡ 0) × (a < 65536))
-    → a * 2 / page * page ≡ start → after_instructions (flash_writes wide 0x4C a true) s ≡ record s {
-      flash = cond (chip.is_locked s) s.flash (map_indexed (byte_and_page start s.flash_buffer) s.flash);
+    → a * 2 / page * page ≡ start → after_instructions (page_writes wide 0x4C a true) s ≡ record s {
+      flash = cond (chip.is_locked s) s.flash (map_indexed_from 0 (byte_and_page start s.flash_buffer) s.flash);
       flash_buffer = blank s.flash_buffer;
       extended = cond wide (a / 65536 % 256) s.extended;
     }
@@ -117,7 +117,7 @@ module _ (part : Part) (sound : IsPart part) where
   page_chip : (s : chip.ChipState) (n : ℕ) (page : List ℕ) → s.part ≡ part
       → s.flash_buffer ≡ replicate part.flash_page 255 → (is_wide part ≡ false → s.extended ≡ 0) → IsPage part n page
       → Paged n page s (after_instructions (flash_loads (is_wide part) 0x40 (n * (part.flash_page / 2)) 0 page
-      ++ flash_writes (is_wide part) 0x4C (n * (part.flash_page / 2)) true) s)
+      ++ page_writes (is_wide part) 0x4C (n * (part.flash_page / 2)) true) s)
   page_chip s n page e empty narrow is_page =
       let a = n * (part.flash_page / 2) in
       let wide = is_wide part in

@@ -10,7 +10,7 @@ use Rattle.avr_part.specs.State as chip
 use Rattle.stk_frame.specs.declared.command.Command.TheVariants.{LoadAddress}
 use Rattle.stk_frame.specs.Commands.{body}
 use Rattle.stk_frame.specs.HostCommands.{program_eeprom_block}
-use Rattle.stk_emu.specs.Programmer.{Programmer, after_instructions, eeprom_loads, eeprom_writes, byte_address, low}
+use Rattle.stk_emu.specs.Programmer.{Programmer, after_instructions, eeprom_loads, page_writes, byte_address}
 use Rattle.stk_emu.specs.Device.{device}
 use Rattle.stk_emu.specs.Effect.{Memories, with_image}
 use Rattle.stk_emu.specs.Settled.{Ready}
@@ -36,8 +36,8 @@ eeprom_loaded : (a i off page : ℕ) (ds : List ℕ) (s : chip.ChipState) → s.
     → after_instructions (eeprom_loads 0xC1 a i ds) s ≡ record s { eeprom_buffer = put Some off ds s.eeprom_buffer }
 eeprom_loaded a i off page [] s e each = refl
 eeprom_loaded a i off page (d ∷ ds) s e each =
-    let here : low (byte_address a i) % s.part.eeprom_page ≡ off =
-    ap (λ q. low (byte_address a i) % q) e ∙
+    let here : byte_address a i % 256 % s.part.eeprom_page ≡ off =
+    ap (λ q. byte_address a i % 256 % q) e ∙
     (ap (λ j. byte_address a j % 256 % page) (omega arith) ∙ (each 0 (omega arith) ∙ omega arith)) in
     search (
       rules,
@@ -50,7 +50,7 @@ module _ (part : Part) (sound : IsPart part) where
   -- the chip after a run
   run_chip : (s : chip.ChipState) (a : ℕ) (run : List ℕ) → s.part ≡ part
       → s.eeprom_buffer ≡ replicate part.eeprom_page None → FitsEepromPage part a run
-      → after_instructions (eeprom_loads 0xC1 a 0 run ++ eeprom_writes 0xC2 a true) s
+      → after_instructions (eeprom_loads 0xC1 a 0 run ++ page_writes false 0xC2 a true) s
       ≡ record s {
         eeprom = cond (chip.is_locked s) s.eeprom (with_image (image_at a run) s.eeprom);
         eeprom_buffer = replicate part.eeprom_page None;

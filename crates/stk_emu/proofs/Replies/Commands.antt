@@ -1,16 +1,16 @@
 -- The programmer's state after each command of a host.
-use Rattle.std.proofs.Common.{◌≡◌, ℕ, zero, suc, ◌<◌, ◌^◌, [], ◌∷◌, sym, ap, subst, ◌⊎◌, inl, true, cond, rules}
+use Rattle.std.proofs.Common.{◌≡◌, ℕ, zero, suc, ◌<◌, ◌^◌, [], ◌∷◌, refl, sym, ap, subst, ◌⊎◌, inl, true, cond, rules}
 use Rattle.std.proofs.lemmas.List.{length-replicate}
 use Rattle.std.proofs.lemmas.Bool.{cond-true}
 use Rattle.avr_part.specs.Part.{Part}
 use Rattle.stk_frame.specs.declared.command.Command.{Command}
 use Rattle.stk_frame.specs.declared.command.Command.TheVariants.{LoadAddress}
-use Rattle.stk_frame.specs.declared.host_command.Fuse.{Fuse}
+use Rattle.stk_frame.specs.declared.command.Fuse.{Fuse}
 use Rattle.stk_frame.specs.Commands.{body}
 use Rattle.stk_frame.specs.Decoding as decoding
 use Rattle.stk_frame.specs.HostCommands.{enter, leave, erase, program_fuse, program_lock, read_fuse, read_lock, read_calibration}
 use Rattle.stk_frame.proofs.DecodedBodies.{read_back}
-use Rattle.stk_emu.specs.Programmer.{Programmer, Response, execute, execute_command, execute_decoded}
+use Rattle.stk_emu.specs.Programmer.{Programmer, Response, execute, execute_command}
 use Rattle.stk_emu.specs.Device.{Device, device}
 use Rattle.stk_emu.proofs.Repeatable.{after_commands, IsRepeatable, Settled}
 use Rattle.stk_emu.specs.Effect.{Memories}
@@ -19,7 +19,7 @@ use Rattle.stk_emu.specs.Settled.{HasMemories, Ready}
 
 -- executing a command's body is executing the command
 pub executes_command : (c : Command) (p : Programmer) → decoding.FieldsFit c → execute (body c) p ≡ execute_command c p
-executes_command c p fits = ap (λ o. execute_decoded o (body c) p) (read_back c fits)
+executes_command c p fits = rw (execute, read_back c fits) refl
 
 module _ {P : Type 0} (m : Device P) where
   pub executed_none : (i : ℕ) (p : P) → after_commands m i [] p ≡ p

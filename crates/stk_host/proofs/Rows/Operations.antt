@@ -6,7 +6,7 @@ use Rattle.avr_part.specs.BuiltIn.{m328p, m2560}
 use Rattle.stk_frame.specs.Frame.{frame}
 use Rattle.stk_frame.specs.Commands.{body}
 use Rattle.stk_frame.specs.HostCommands.{program_page, program_eeprom_block, read_eeprom_block}
-use Rattle.stk_host.specs.declared.places.TheConstants.{NARROW_FLASH}
+use Rattle.stk_host.specs.declared.writing.TheConstants.{NARROW_FLASH}
 use Rattle.stk_host.specs.declared.fault.HostFault.TheVariants.{ReadOnly}
 use Rattle.stk_host.specs.Dialog.{Done}
 use Rattle.stk_host.specs.Places.{load_flash, load_eeprom}

@@ -1,4 +1,4 @@
-use Rattle.avr_cli.specs.Port.{port_number}
+use Rattle.avr_plan.specs.Port.{port_number}
 use Rattle.avr_tool.specs.Sockets.{peers_of}
 use Rattle.avr_laws.proofs.ChipFile.Killed.{service_killed}
 use Rattle.avr_laws.proofs.crashes.a_crash_leaves_the_old_chip_or_the_served_one.Goals as goal

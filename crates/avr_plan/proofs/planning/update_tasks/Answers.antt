@@ -4,7 +4,7 @@ use Rattle.avr_plan.proofs.Stages.ReportedAs.{fault_since}
 use Rattle.std.proofs.lemmas.List.{drop_more, drop_all}
 use Rattle.std.proofs.lemmas.List.Elements.{All-append}
 use Rattle.std.proofs.lemmas.Option.{slice_get-get_or}
-use Rattle.avr_cli.specs.declared.update.Update.{Update}
+use Rattle.avr_plan.specs.declared.update.Update.{Update}
 use Rattle.avr_desk.proofs.Stages.Played.{completed_without_events}
 use Rattle.avr_plan.proofs.Stages.Tasks.{goes_with_next, goes_without_next, all_one}
 use Rattle.avr_plan.proofs.planning.update_tasks.Goals as goal

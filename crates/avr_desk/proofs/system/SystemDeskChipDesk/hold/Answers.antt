@@ -1,16 +1,12 @@
-use Rattle.std.proofs.Common.{rules, ◌∙◌, ap, refl}
+use Rattle.std.proofs.Common.{rules}
 use Rattle.avr_desk.proofs.Desks.TwoWriters.{denied_true, from_inside, held_true, is_call, unheld_true}
-use Rattle.avr_desk.specs.Record.{with_held}
 use Rattle.avr_desk.proofs.system.SystemDeskChipDesk.hold.Goals as goal
 
 pub returns-in-Ok-Some-clause-call : goal.returns-in-Ok-Some-clause-call
-returns-in-Ok-Some-clause-call g c = is_call (search rules) (search rules)
-    (let left = c.self-in-Ok-Some.view_is ∙ c.leave_replacement.ensures.none in
-    from_inside _ _ _ _ _ _ c.self.view_is (held_true _ _ _ _ _ _ c.as_bytes.ensures.value (ap (λ d. d.output) left)
-    (ap (λ d. d.messages) left) (ap (λ d. d.opened) left) refl (c.then-self-inside.ensures
-    ∙ ap (λ d. with_held c.as_bytes.result.now d.kept) left) (ap (λ d. d.system) c.self-in-Ok-Some.view_is)
+returns-in-Ok-Some-clause-call g c = is_call (search rules) (search rules) (from_inside _ _ _ _ _ _ c.self.view_is
+    (held_true _ _ _ _ _ _ c.as_bytes.ensures.value c.then-self-inside.ensures
     (rw c.in-Ok-Some.field-0-is at c.in-Ok-Some.ensures.held) (rw c.in-Ok-Some.field-0-is at c.in-Ok-Some.ensures.locks)
-    c.leave_replacement.ensures.left c.hold_named.ensures.leaves c.leave_replacement.ensures.keeps))
+    c.release_held.ensures.left c.hold_named.ensures.leaves c.release_held.ensures.keeps))
 
 pub returns-in-Ok-None-clause-call : goal.returns-in-Ok-None-clause-call
 returns-in-Ok-None-clause-call g c = is_call (search rules) (search rules)

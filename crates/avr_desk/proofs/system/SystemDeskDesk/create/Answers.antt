@@ -5,13 +5,13 @@ use Rattle.avr_desk.proofs.system.SystemDeskDesk.create.Goals as goal
 pub returns-then-eq-clause-call : goal.returns-then-eq-clause-call
 returns-then-eq-clause-call g c = is_call (search rules) (search rules) (from_inside _ _ _ _ _ _ c.self.view_is
     (output_true _ _ _ _ _ _ c.open_next.ensures.opened c.as_bytes.ensures.value c.if-eq.ensures
-    c.then-self-inside.ensures c.open_next.ensures.closed c.open_next.ensures.stays.done
+    c.open_next.ensures.noted c.open_next.ensures.closed c.open_next.ensures.stays.done
     c.open_next.ensures.stays.kept))
 
 pub returns-in-Ok-clause-call : goal.returns-in-Ok-clause-call
 returns-in-Ok-clause-call g c = is_call (search rules) (search rules) (from_inside _ _ _ _ _ _ c.self.view_is
-    (created_true _ _ _ _ _ _ c.open_next-in-Ok.ensures.opened c.as_bytes-in-Ok.ensures.value c.if-eq.ensures
-    c.in-Ok.ensures.named c.then-self-inside-in-Ok.ensures c.open_next-in-Ok.ensures.closed c.in-Ok.ensures.creates
+    (created_true _ _ _ _ _ _ c.open_next-in-Ok.ensures.opened c.as_bytes.ensures.value c.if-eq.ensures
+    c.in-Ok.ensures.named c.open_next-in-Ok.ensures.noted c.open_next-in-Ok.ensures.closed c.in-Ok.ensures.creates
     c.open_next-in-Ok.ensures.stays.done _ c.as_ref.ensures.value
     c.create_named.ensures.keeps c.open_next-in-Ok.ensures.stays.kept))
 

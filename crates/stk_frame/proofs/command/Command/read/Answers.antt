@@ -1,13 +1,14 @@
 use Rattle.std.proofs.Common.{◌≡◌, ◌-◌, ◌≤◌, length, List, ℕ, [], ◌∷◌, slice_index, take, drop, sym, ap, arith, rules}
 use Rattle.std.proofs.lemmas.List.{take_all}
-use Rattle.stk_frame.specs.Decoding.{command_of, with_fields}
+use Rattle.stk_frame.specs.Decoding.{command_of}
 use Rattle.stk_frame.proofs.DecodedBodies.{is_read}
 use Rattle.stk_frame.proofs.command.Command.read.Goals as goal
 
 apart : (bytes : List ℕ) → 1 ≤ length bytes
-    → command_of bytes ≡ with_fields (slice_index bytes 0) (take (length bytes - 1) (drop 1 bytes))
+    → command_of bytes ≡ command_of (slice_index bytes 0 ∷ take (length bytes - 1) (drop 1 bytes))
 apart [] some = absurd (omega arith)
-apart (code ∷ fields) some = ap (with_fields code) (sym (take_all (length (code ∷ fields) - 1) fields (omega arith)))
+apart (code ∷ fields) some =
+    ap (λ l. command_of (code ∷ l)) (sym (take_all (length (code ∷ fields) - 1) fields (omega arith)))
 
 pub returns-in-len1-up-clause-body : goal.returns-in-len1-up-clause-body
 returns-in-len1-up-clause-body c command fits =

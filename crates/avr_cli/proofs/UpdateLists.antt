@@ -1,9 +1,0 @@
--- Updates that are read one after another.
-use Rattle.std.proofs.Common.{◌+◌, List, ◌++◌, Result, Ok, Err}
-use Rattle.avr_cli.specs.declared.update.Update.{Update}
-use Rattle.avr_cli.specs.declared.settings.SettingsFault.{SettingsFault}
-
--- these updates, then those of the result
-abbrev pub onto : List Update → Result (List Update) SettingsFault → Result (List Update) SettingsFault
-onto us (Ok vs) = Ok (us ++ vs)
-onto us (Err e) = Err e

@@ -1,5 +1,0 @@
-use Rattle.avr_cli.proofs.TextCuts.{splits_first}
-use Rattle.avr_cli.proofs.text.split_first.Goals as goal
-
-pub returns : goal.returns
-returns c = splits_first c.args.text.now c.split_once.result c.split_once.ensures.cases

@@ -1,0 +1,40 @@
+-- A chip file holds the chip that is read from it, place by place.
+use Rattle.std.proofs.Common.{◌≡◌, ◌∙◌, ◌+◌, ◌≤◌, ap, sym, subst, ℕ, List, [], ◌∷◌, ◌++◌, length, take, drop, get_or, refl, arith, Option, Some, None, length-append, rules}
+use Rattle.std.proofs.lemmas.List.{length-drop, length-take-le}
+use Rattle.avr_part.specs.ChipFile.{chip_file, chip_file_size, state_from_file}
+use Rattle.avr_part.specs.Part.{Part}
+use Rattle.avr_part.specs.State.{ChipState as Chip, fresh_state}
+use Rattle.avr_part.proofs.ChipFiles.{eeprom_part, flash_part, fuse_part, written_again}
+use Rattle.avr_laws.specs.ChipFound.{IsChipInFile}
+
+abbrev pub IsReadFrom : Part → Option (List ℕ) → Chip → Type 0
+IsReadFrom part None chip = chip ≡ fresh_state part
+IsReadFrom part (Some bytes) chip = (length bytes ≡ chip_file_size part) × (chip ≡ state_from_file part bytes)
+
+pub in_file : (part : Part) (found : Option (List ℕ)) (chip : Chip) → IsReadFrom part found chip
+    → IsChipInFile part found chip
+in_file part None chip read = read
+in_file part (Some bytes) chip read =
+    let most : part.flash_size ≤ length bytes = omega (arith, read.0) in
+    let rest : part.eeprom_size ≤ length (drop part.flash_size bytes) = simp length-drop (omega (arith, read.0)) in
+    subst (IsChipInFile part (Some bytes)) (sym read.1) (
+      written_again part bytes read.0,
+      length-take-le part.flash_size bytes most,
+      length-take-le part.eeprom_size (drop part.flash_size bytes) rest,
+      refl,
+    )
+
+pub from_file : (part : Part) (found : Option (List ℕ)) (chip : Chip) → IsChipInFile part found chip
+    → IsReadFrom part found chip
+from_file part None chip is = is
+from_file part (Some bytes) s (is, flash_size, eeprom_size, same) =
+    let fuses = s.lfuse ∷ s.hfuse ∷ s.efuse ∷ s.lock ∷ [] in
+    let at = part.flash_size + part.eeprom_size in
+    let flash = flash_part s.flash s.eeprom fuses part.flash_size flash_size in
+    let eeprom = eeprom_part s.flash s.eeprom fuses part.flash_size part.eeprom_size flash_size eeprom_size in
+    let lfuse = fuse_part s.flash s.eeprom fuses at 0 (omega arith) in
+    let hfuse = fuse_part s.flash s.eeprom fuses (at + 1) 1 (omega arith) in
+    let efuse = fuse_part s.flash s.eeprom fuses (at + 2) 2 (omega arith) in
+    let lock = fuse_part s.flash s.eeprom fuses (at + 3) 3 (omega arith) in
+    subst (λ (held : List ℕ). IsReadFrom part (Some held) s) is
+    (simp length-append (omega (arith, flash_size, eeprom_size)), search rules)

@@ -1,0 +1,226 @@
+-- The parts that a part file holds, if its reader finds no fault.
+use Rattle.std.proofs.Common.{◌≡◌, ◌∙◌, ◌≤◌, ◌<◌, ◌%◌, sym, ap, ℕ, zero, suc, List, [], ◌∷◌, refl, Some, Option, Result, Ok, Err, Bool, true, inl, inr, arith, rules}
+use Rattle.std.proofs.lemmas.Bool.{and_parts, cases_lt}
+use Rattle.std.proofs.lemmas.Bool.Decides.{nat_tests}
+use Rattle.std.proofs.Math.Nat.{mod-eq_of_lt}
+use Rattle.std.specs.Int.{is_power_of_two}
+use Rattle.std.specs.Prelude.{pos, codes, nat_lt, ok_or, ◌&&◌, ◌==◌, if◌then◌else◌}
+use Rattle.hex.specs.Hex.{decode_sized}
+use Rattle.toml.specs.Data.{Data, Members, no_members, member, get_member, string, integer, table}
+use Rattle.avr_part.specs.Part.{Part, id_of, is_id}
+use Rattle.avr_part.specs.PartFile.{Bytes, ◌>>=◌, part_of, parts_in, parts_of, number_field, page_field, signature_field}
+use Rattle.avr_laws.specs.HeldParts.{IsPartOf, ArePartsIn, HoldsParts}
+use Rattle.avr_part.specs.declared.fault.Field.{Field}
+use Rattle.avr_part.specs.declared.fault.Field.TheVariants as field
+use Rattle.avr_part.specs.declared.fault.PartFault.{PartFault}
+use Rattle.avr_part.specs.declared.fault.PartFault.TheVariants.{BadValue, BadSizes}
+use Rattle.avr_laws.proofs.Held.Sized.{sized}
+use Rattle.avr_part.proofs.Powers.{power_divides, power_is_even}
+
+record HasNumber (d : Option Data) (least most n : ℕ) : Type 0 where
+  is : d ≡ Some (integer (pos n))
+  least_is : least ≤ n
+  most_is : n ≤ most
+
+number : (f : Field) (least most : ℕ) (d : Option Data) (n : ℕ) → number_field f least most d ≡ Ok n
+    → HasNumber d least most n
+number f least most d n is = search (rules, nat_tests)
+
+page : (f : Field) (least : ℕ) (d : Option Data) (n : ℕ) → page_field f least d ≡ Ok n
+    → HasNumber d least 256 n × (is_power_of_two n ≡ true)
+page f least d n is = search (rules, nat_tests, number)
+
+id_is : (key id : Bytes) → ok_or (id_of key) (BadValue field.Id) ≡ Ok id → (id ≡ key) × (is_id id ≡ true)
+id_is key id is = search (rules, nat_tests)
+
+signature_is : (d : Option Data) (bytes : Bytes) → signature_field d ≡ Ok bytes
+    → (text : Bytes) × (d ≡ Some (string text)) × (decode_sized text 3 ≡ Ok bytes)
+signature_is d bytes is = search rules
+
+record AreFields (id signature : Result Bytes PartFault) (flash flash_page eeprom eeprom_page bit : Result ℕ PartFault)
+    (part : Part) : Type 0 where
+  id_ok : id ≡ Ok part.id
+  signature_ok : signature ≡ Ok part.signature
+  flash_ok : flash ≡ Ok part.flash_size
+  flash_page_ok : flash_page ≡ Ok part.flash_page
+  eeprom_ok : eeprom ≡ Ok part.eeprom_size
+  eeprom_page_ok : eeprom_page ≡ Ok part.eeprom_page
+  bit_ok : bit ≡ Ok part.eesave_bit
+  flash_fits : part.flash_size % part.flash_page ≡ 0
+  eeprom_fits : part.eeprom_size % part.eeprom_page ≡ 0
+
+abbrev made_of : (id signature : Result Bytes PartFault) (flash flash_page eeprom eeprom_page bit : Result ℕ PartFault)
+    → Result Part PartFault
+made_of id signature flash flash_page eeprom eeprom_page bit = do
+  id ← id
+  signature ← signature
+  flash_size ← flash
+  flash_page ← flash_page
+  eeprom_size ← eeprom
+  eeprom_page ← eeprom_page
+  eesave_bit ← bit
+  fits ← if flash_size % flash_page == 0 && eeprom_size % eeprom_page == 0 then Ok (tt {0}) else Err BadSizes
+  Ok (record {
+    id = id;
+    signature = signature;
+    flash_size = flash_size;
+    flash_page = flash_page;
+    eeprom_size = eeprom_size;
+    eeprom_page = eeprom_page;
+    eesave_bit = eesave_bit;
+  })
+
+fields_of : (id signature : Result Bytes PartFault) (flash flash_page eeprom eeprom_page bit : Result ℕ PartFault)
+    (part : Part) → made_of id signature flash flash_page eeprom eeprom_page bit ≡ Ok part
+    → AreFields id signature flash flash_page eeprom eeprom_page bit part
+fields_of (Ok id) (Ok signature) (Ok flash) (Ok flash_page) (Ok eeprom) (Ok eeprom_page) (Ok bit) part is =
+    search (rules, nat_tests)
+fields_of (Err f) s a b c d e part is = absurd (cc is)
+fields_of (Ok id) (Err f) a b c d e part is = absurd (cc is)
+fields_of (Ok id) (Ok s) (Err f) b c d e part is = absurd (cc is)
+fields_of (Ok id) (Ok s) (Ok a) (Err f) c d e part is = absurd (cc is)
+fields_of (Ok id) (Ok s) (Ok a) (Ok b) (Err f) d e part is = absurd (cc is)
+fields_of (Ok id) (Ok s) (Ok a) (Ok b) (Ok c) (Err f) e part is = absurd (cc is)
+fields_of (Ok id) (Ok s) (Ok a) (Ok b) (Ok c) (Ok d) (Err f) part is = absurd (cc is)
+
+one_part : (key : Bytes) (fields : Members) (part : Part) → part_of key (table fields) ≡ Ok part
+    → IsPartOf key fields part
+one_part key fields part is =
+    let these = fields_of _ _ _ _ _ _ _ part is in
+    let id = id_is key part.id these.id_ok in
+    let signature = signature_is (get_member (codes "signature") fields) part.signature these.signature_ok in
+    let flash = number _ 2 262144 _ part.flash_size these.flash_ok in
+    let flash_page = page _ 2 _ part.flash_page these.flash_page_ok in
+    let eeprom = number _ 1 4096 _ part.eeprom_size these.eeprom_ok in
+    let eeprom_page = page _ 1 _ part.eeprom_page these.eeprom_page_ok in
+    let bit = number _ 0 7 _ part.eesave_bit these.bit_ok in
+    record {
+      id = id.0;
+      signature = signature;
+      flash_size = flash.is;
+      flash_page = flash_page.0.is;
+      eeprom_size = eeprom.is;
+      eeprom_page = eeprom_page.0.is;
+      eesave_bit = bit.is;
+      is_part = record {
+        id = id.1;
+        signature = sized signature.0 3 part.signature signature.2;
+        flash_page = flash_page.0.least_is;
+        flash_halves = power_is_even part.flash_page flash_page.1 flash_page.0.most_is flash_page.0.least_is;
+        flash_fits = power_divides part.flash_page flash_page.1 flash_page.0.most_is;
+        flash_pages = these.flash_fits;
+        flash_some = flash.least_is;
+        flash_most = flash.most_is;
+        eeprom_page = eeprom_page.0.least_is;
+        eeprom_fits = power_divides part.eeprom_page eeprom_page.1 eeprom_page.0.most_is;
+        eeprom_pages = these.eeprom_fits;
+        eeprom_some = eeprom.least_is;
+        eeprom_most = eeprom.most_is;
+        eesave_bit = omega (arith, bit.most_is);
+      };
+    }
+
+each_part : (tables : Members) (parts : List Part) → parts_in tables ≡ Ok parts → ArePartsIn tables parts
+each_part no_members parts is = search rules
+each_part (member key (table fields) tables) parts is = search (rules, one_part, each_part tables)
+each_part (member key d tables) parts is = search rules
+
+pub held_parts : (text : Bytes) (parts : List Part) → parts_of text ≡ Ok parts → HoldsParts text parts
+held_parts text parts is = search (rules, each_part)
+
+-- ---- and conversely
+
+number_read : (f : Field) (least most n : ℕ) → least ≤ n → n ≤ most
+    → number_field f least most (Some (integer (pos n))) ≡ Ok n
+number_read f least most n some few = search (rules, nat_tests)
+
+-- each number below n passes the test
+abbrev all_below : (ℕ → Bool) → ℕ → Bool
+all_below test zero = true
+all_below test (suc n) = test n && all_below test n
+
+below : (test : ℕ → Bool) (n i : ℕ) → all_below test n ≡ true → i < n → test i ≡ true
+below test zero i all l = absurd (omega arith)
+below test (suc n) i all l =
+    let parts = and_parts (test n) (all_below test n) all in
+    elim (cases_lt i n) [
+      | inl before ↦ below test n i parts.1 before
+      | inr from ↦ ap test (let last : i ≡ n = omega arith in last) ∙ parts.0
+    ]
+
+abbrev power_if_divides : ℕ → Bool
+power_if_divides n = if nat_lt 0 n && 256 % n == 0 then is_power_of_two n else true
+
+all_powers : all_below power_if_divides 257 ≡ true
+unfolding lib.Count.ones
+all_powers = refl
+
+divides_power : (n : ℕ) → 0 < n → n ≤ 256 → 256 % n ≡ 0 → is_power_of_two n ≡ true
+divides_power n some few divides =
+    let test : power_if_divides n ≡ true = below power_if_divides 257 n all_powers (omega arith) in
+    search (rules, nat_tests, test)
+
+divides_below : (n : ℕ) → 256 % n ≡ 0 → n ≤ 256
+divides_below n divides = elim (cases_lt 256 n) [
+  | inl over ↦ absurd (let all : 256 % n ≡ 256 = mod-eq_of_lt over in omega (arith, all, divides))
+  | inr under ↦ under
+]
+
+page_read : (f : Field) (least n : ℕ) → 0 < n → least ≤ n → 256 % n ≡ 0
+    → page_field f least (Some (integer (pos n))) ≡ Ok n
+page_read f least n some enough divides =
+    search (
+      rules,
+      nat_tests,
+      number_read f least 256 n enough (divides_below n divides),
+      divides_power n some (divides_below n divides) divides,
+    )
+
+signature_read : (text bytes : Bytes) → decode_sized text 3 ≡ Ok bytes → signature_field (Some (string text)) ≡ Ok bytes
+signature_read text bytes is = search rules
+
+id_read : (id : Bytes) → is_id id ≡ true → ok_or (id_of id) (BadValue field.Id) ≡ Ok id
+id_read id is = search rules
+
+all_made : (id signature : Result Bytes PartFault) (flash flash_page eeprom eeprom_page bit : Result ℕ PartFault)
+    (part : Part) → AreFields id signature flash flash_page eeprom eeprom_page bit part
+    → made_of id signature flash flash_page eeprom eeprom_page bit ≡ Ok part
+all_made (Ok id) (Ok signature) (Ok flash) (Ok flash_page) (Ok eeprom) (Ok eeprom_page) (Ok bit) part f =
+    search (rules, nat_tests)
+all_made (Err e) s a b c d h part f = absurd (cc f.id_ok)
+all_made (Ok id) (Err e) a b c d h part f = absurd (cc f.signature_ok)
+all_made (Ok id) (Ok s) (Err e) b c d h part f = absurd (cc f.flash_ok)
+all_made (Ok id) (Ok s) (Ok a) (Err e) c d h part f = absurd (cc f.flash_page_ok)
+all_made (Ok id) (Ok s) (Ok a) (Ok b) (Err e) d h part f = absurd (cc f.eeprom_ok)
+all_made (Ok id) (Ok s) (Ok a) (Ok b) (Ok c) (Err e) h part f = absurd (cc f.eeprom_page_ok)
+all_made (Ok id) (Ok s) (Ok a) (Ok b) (Ok c) (Ok d) (Err e) part f = absurd (cc f.bit_ok)
+
+part_read : (key : Bytes) (fields : Members) (part : Part) → IsPartOf key fields part
+    → part_of key (table fields) ≡ Ok part
+part_read key fields part p = all_made _ _ _ _ _ _ _ part (record {
+  id_ok = ap (λ (id : Bytes). ok_or (id_of id) (BadValue field.Id)) (sym p.id) ∙ id_read part.id p.is_part.id;
+  signature_ok = ap signature_field p.signature.1 ∙ signature_read p.signature.0 part.signature p.signature.2;
+  flash_ok = ap (number_field field.FlashSize 2 262144) p.flash_size
+      ∙ number_read field.FlashSize 2 262144 part.flash_size p.is_part.flash_some p.is_part.flash_most;
+  flash_page_ok = ap (page_field field.FlashPage 2) p.flash_page
+      ∙ page_read field.FlashPage 2 part.flash_page (omega (arith, p.is_part.flash_page)) p.is_part.flash_page
+      p.is_part.flash_fits;
+  eeprom_ok = ap (number_field field.EepromSize 1 4096) p.eeprom_size
+      ∙ number_read field.EepromSize 1 4096 part.eeprom_size p.is_part.eeprom_some p.is_part.eeprom_most;
+  eeprom_page_ok = ap (page_field field.EepromPage 1) p.eeprom_page
+      ∙ page_read field.EepromPage 1 part.eeprom_page p.is_part.eeprom_page p.is_part.eeprom_page
+      p.is_part.eeprom_fits;
+  bit_ok = ap (number_field field.EesaveBit 0 7) p.eesave_bit
+      ∙ number_read field.EesaveBit 0 7 part.eesave_bit (omega arith) (omega (arith, p.is_part.eesave_bit));
+  flash_fits = p.is_part.flash_pages;
+  eeprom_fits = p.is_part.eeprom_pages;
+})
+
+all_read : (tables : Members) (parts : List Part) → ArePartsIn tables parts → parts_in tables ≡ Ok parts
+all_read no_members [] are = refl
+all_read (member key (table fields) tables) (part ∷ parts) are =
+    search (rules, part_read key fields part are.0, all_read tables parts are.1)
+all_read tables parts are = absurd are
+
+pub parts_read : (text : Bytes) (parts : List Part) → HoldsParts text parts → parts_of text ≡ Ok parts
+parts_read text parts held = search (rules, all_read)

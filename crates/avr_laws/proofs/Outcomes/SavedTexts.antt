@@ -1,0 +1,50 @@
+-- The text of a saved file is what a session writes.
+use Rattle.std.proofs.lemmas.Bool.Decides.{nat_tests}
+use Rattle.std.proofs.lemmas.Grind.{common_steps}
+use Rattle.std.proofs.Common.{◌≡◌, ◌∙◌, refl, arith, ℕ, zero, suc, ◌+◌, ◌-◌, ◌%◌, List, [], ◌∷◌, append-nil, length, map, Option, Some, rules}
+use Rattle.avr_plan.specs.declared.update.Format.{Format}
+use Rattle.avr_plan.specs.declared.update.Format.TheVariants as format
+use Rattle.avr_image.specs.Runs.{runs}
+use Rattle.avr_records.specs.Sparse.{image_text, last_held, row_size, run_at}
+use Rattle.avr_records.specs.Text.{address_size, ihex_rows, rows, rows_behind, srec_rows}
+use Rattle.avr_records.specs.declared.kind.Kind.TheVariants.{Ihex, Srec}
+use Rattle.avr_session.specs.FileText.{file_text}
+use Rattle.avr_laws.specs.SavedText.{saved_text}
+
+abbrev held : List ℕ → List (Option ℕ)
+held = map (λ byte. Some byte)
+
+one_run : (addr b : ℕ) (bytes : List ℕ) → runs addr (held (b ∷ bytes)) ≡ (addr, b ∷ bytes) ∷ []
+one_run addr b [] = refl
+one_run addr b (c ∷ bytes) = grind (arith, nat_tests, one_run (addr + 1) c bytes)
+
+last : (before addr b : ℕ) (bytes : List ℕ) → last_held before addr (held (b ∷ bytes)) ≡ addr + length bytes
+last before addr b [] = omega arith
+last before addr b (c ∷ bytes) = last addr (addr + 1) c bytes ∙ omega arith
+
+-- from a multiple of 32 on no row reaches a multiple of 65,536
+by_32 : (taken addr : ℕ) (bytes : List ℕ) → (addr + taken) % 32 ≡ 0
+    → rows_behind taken (row_size Ihex) addr bytes ≡ rows_behind taken (λ at. 32) addr bytes
+by_32 taken addr [] is = refl
+by_32 (suc taken) addr (b ∷ bytes) is = by_32 taken (addr + 1) bytes (omega (arith, is))
+by_32 zero addr (b ∷ bytes) is =
+    let wide : row_size Ihex addr ≡ 32 = omega (arith, is) in
+    let more = by_32 31 (addr + 1) bytes (omega (arith, is)) in
+    grind (arith, nat_tests, wide, more)
+
+ihex_of_bytes : (bytes : List ℕ) → image_text Ihex (run_at 0 bytes) ≡ ihex_rows 0 (rows (λ addr. 32) 0 bytes)
+ihex_of_bytes [] = refl
+ihex_of_bytes (b ∷ bytes) =
+    grind (arith, nat_tests, common_steps, one_run 0 b bytes, append-nil, by_32 0 0 (b ∷ bytes) refl)
+
+srec_of_bytes : (bytes : List ℕ)
+    → image_text Srec (run_at 0 bytes) ≡ srec_rows (address_size (length bytes - 1)) (rows (λ addr. 32) 0 bytes)
+srec_of_bytes [] = refl
+srec_of_bytes (b ∷ bytes) =
+    grind (arith, nat_tests, common_steps, one_run 0 b bytes, append-nil, last 0 0 b bytes)
+
+pub text_is_saved : (kind : Format) (bytes : List ℕ) → file_text kind bytes ≡ saved_text kind bytes
+unfolding file_text saved_text
+text_is_saved format.Ihex bytes = ihex_of_bytes bytes
+text_is_saved format.Srec bytes = srec_of_bytes bytes
+text_is_saved kind bytes = search rules
