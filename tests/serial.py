@@ -65,12 +65,12 @@ class Board:
     bytes of each reply."""
 
     def __init__(self, deaf=0.0, gone=None, part="m328p", talk=None, vanish=None, answer=None, words=(), **more):
-        chip, server, ends = (more.get(it) for it in ("chip", "server", "ends"))
+        chip, server, ends, stopped = (more.get(it) for it in ("chip", "server", "ends", "stopped"))
         self.deaf, self.gone, self.talk, self.vanish, self.answer = deaf, gone, talk, vanish, answer
         self.opened, self.heard, self.chip = 0, b"", chip or f"served{next(boards)}.bin"
         self.server = None if talk else server or Server(room, self.chip, part, words)
         self.line, self.device = ends or terminal()
-        self.stopped = threading.Event()
+        self.stopped = stopped or threading.Event()
         self.thread = threading.Thread(target=self.live, daemon=True)
         self.thread.start()
 
@@ -495,31 +495,41 @@ def lists():
 
 
 class Boards:
-    """One chip behind one device, named `device` in the room: a board for each time that it is opened."""
+    """One chip behind one device, named `device` in the room: a board for each time that it is opened. Each has a pseudo
+    terminal of its own, so that it sees the end of its run even if the next one opens the device at once."""
 
     def __init__(self, *each):
         self.chip, self.each, self.device = f"served{next(boards)}.bin", each, room.folder / f"device{next(boards)}"
-        self.ends = terminal()
-        self.device.symlink_to(self.ends[1])
+        self.over = threading.Event()
+        self.renew()
         self.thread = threading.Thread(target=self.live, daemon=True)
         self.thread.start()
 
+    def renew(self):
+        self.ends, link = terminal(), room.folder / f"{self.device.name}.next"
+        link.symlink_to(self.ends[1])
+        link.replace(self.device)
+
     def live(self):
-        for board in self.each:
-            it = Board(chip=self.chip, ends=self.ends, **board)
-            it.thread.join(PATIENCE)
-            it.server.end()
-            if it.vanish is not None:
+        for number, board in enumerate(self.each, 1):
+            it = Board(chip=self.chip, ends=self.ends, stopped=self.over, **board)
+            while not it.opened and it.thread.is_alive():
+                time.sleep(0.005)
+            goes, is_last = it.vanish is not None, number == len(self.each)
+            if goes:
                 self.device.unlink()
+            elif not is_last:
+                self.renew()
+            it.end()
+            if goes and not is_last:
                 time.sleep(0.5)
-                self.ends = terminal()
-                self.device.symlink_to(self.ends[1])
+                self.renew()
 
     def end(self):
-        """Waits until all boards were opened, and returns the chip."""
+        """Waits until the boards are closed, and returns the chip. A board that isn't opened by now is left out."""
+        self.over.set()
         self.thread.join(PATIENCE)
-        os.close(self.ends[0])
-        self.device.unlink()
+        self.device.unlink(missing_ok=True)
         return room.read(self.chip)
 
 

@@ -51,16 +51,24 @@ abbrev pub KeepsLastError : {A : Type 0} → Option ErrorKind → Option ErrorKi
 KeepsLastError old new (Err Failed) = IsSome new
 KeepsLastError old new result = new ≡ old
 
+-- After the call the desk is `left`, and `goes` is whether its created file is the output. Only a failure sets the last
+-- error.
+abbrev pub Leaves : {S F H I O E A : Type 0} → Shown S F H I O E → Bool → Shown S F H I O E → Shown S F H I O E
+    → Result A DeskFault → Type 0
+Leaves left goes old new result =
+    (new ≡ left) × (writes_to_output new ≡ goes) × KeepsLastError old.last_error new.last_error result
+
 -- A writer with known bytes took n bytes, and the record has the same n.
 abbrev pub RecordsTaken : Stream → Bytes → Option Bytes → Option Bytes → Record → Record → ℕ → Type 0
 RecordsTaken stream bytes old new before now n =
     (now ≡ after_sent stream (take n bytes) before) × Appends old new (take n bytes)
 
--- The record has the bytes that the writer took: the returned count, or after a fault a prefix.
-abbrev pub RecordsTruly : {F : Type 0} → Stream → Bytes → Option Bytes → Option Bytes → Record → Record
+-- The record has the bytes that the writer took. After a success this is the returned count, and the writer is flushed;
+-- after a fault it is a prefix.
+abbrev pub RecordsTruly : {F : Type 0} → Stream → Bytes → Option Bytes → Option Bytes → Type 0 → Record → Record
     → Result ℕ F → Type 0
-RecordsTruly stream bytes old new before now (Ok n) = RecordsTaken stream bytes old new before now n
-RecordsTruly stream bytes old new before now (Err fault) =
+RecordsTruly stream bytes old new flushed before now (Ok n) = RecordsTaken stream bytes old new before now n × flushed
+RecordsTruly stream bytes old new flushed before now (Err fault) =
     (n : ℕ) × (n ≤ length bytes) × RecordsTaken stream bytes old new before now n
 
 -- whether the created file is the output, after a file was opened to read; a failed call changes nothing

@@ -1,5 +1,5 @@
 //! The files of a system by their names, as a program's desk uses them.
-ghost use Rattle.std.specs.Prelude.{◌≡◌, ◌∷◌, [], IfOk, IfErr, OnOk, OnErr, MatchOption, Option, Some, true};
+ghost use Rattle.std.specs.Prelude.{◌≡◌, ◌∷◌, [], MatchOption, MatchResult, Option, Some, true};
 ghost use Rattle.std.specs.IoError.{error_kind};
 ghost use Rattle.std.specs.Option.{option_copied};
 ghost use Rattle.avr_desk.specs.Journal.{Counts, ChangesCalls, SystemCalls, Gives, CrashMayAlsoLeave, CrashLeavesNoMore, Opens, IsUncounted, with_calls, count_of, with_one_more_held, made};
@@ -72,11 +72,11 @@ pub trait FileSystem {
     /// has its name by now, or none.
     fn open_named(&mut self, name: &str, hold: Option<&Self::Hold>) -> io::Result<Self::File>
         ensures named { Counts has_done (count_of (option_copied hold.entry)) self.old
-            → IfOk result (λ file. is_of file name.now) }
-        ensures absent { Counts has_done (count_of (option_copied hold.entry)) self.old
-            → IfErr result (λ error. error_kind error ≡ ErrorKind.NotFound → lacks name.now) }
-        ensures opens { OnOk result (ChangesCalls has_done (with_calls (Opens name.now ∷ [])) self.old self.new) }
-        ensures fails { OnErr result (Preserves has_done self.old self.new) }
+            → MatchResult result (λ file. is_of file name.now)
+            (λ error. error_kind error ≡ ErrorKind.NotFound → lacks name.now) }
+        ensures opens { MatchResult result
+            (λ file. ChangesCalls has_done (with_calls (Opens name.now ∷ [])) self.old self.new)
+            (λ error. Preserves has_done self.old self.new) }
         ensures keeps { CrashLeavesNoMore left self.old self.new };
 
     /// Creates a file, or empties an existing one, but never the held one. `hold` is what this run holds.
@@ -85,9 +85,9 @@ pub trait FileSystem {
     ///
     /// The system's error, `ResourceBusy` if the file is held.
     fn create_named(&mut self, name: &str, hold: Option<&Self::Hold>) -> io::Result<Self::File>
-        ensures named { IfOk result (λ file. is_of file name.now) }
-        ensures creates { OnOk result (ChangesCalls has_done (with_calls (made name.now)) self.old self.new) }
-        ensures fails { OnErr result (Preserves has_done self.old self.new) }
+        ensures creates { MatchResult result
+            (λ file. is_of file name.now × ChangesCalls has_done (with_calls (made name.now)) self.old self.new)
+            (λ error. Preserves has_done self.old self.new) }
         ensures keeps { Counts has_done (count_of (option_copied hold.entry)) self.old
             → CrashLeavesNoMore left self.old self.new };
 
@@ -102,10 +102,10 @@ pub trait FileSystem {
     ///
     /// The system's error.
     fn hold_named(&mut self, name: &str) -> io::Result<Option<Self::Hold>>
-        ensures held { IfOk result (λ lock. MatchOption lock (denies name.now) (λ hold. holds hold name.now)) }
-        ensures locks { IfOk result (λ lock. MatchOption lock (Preserves has_done self.old self.new)
-            (λ hold. ChangesCalls has_done with_one_more_held self.old self.new)) }
-        ensures fails { OnErr result (Preserves has_done self.old self.new) }
+        ensures locks { MatchResult result
+            (λ lock. MatchOption lock (denies name.now × Preserves has_done self.old self.new)
+            (λ hold. holds hold name.now × ChangesCalls has_done with_one_more_held self.old self.new))
+            (λ error. Preserves has_done self.old self.new) }
         ensures leaves { CrashMayAlsoLeave left name.now (began name.now) self.old self.new };
 
     /// Returns whether `hold` is the lock on the file of this name.
@@ -118,10 +118,10 @@ pub trait FileSystem {
     ///
     /// The system's error. The file may still have been replaced.
     fn put_held(&mut self, hold: &mut Self::Hold, bytes: &[u8]) -> io::Result<()>
-        ensures put { OnOk result ((name : Bytes) → holds hold.old name → replaced name bytes.now) }
-        ensures makes { OnOk result ((name : Bytes) → holds hold.old name
-            → ChangesCalls has_done (with_calls (made name)) self.old self.new) }
-        ensures fails { OnErr result (Preserves has_done self.old self.new) }
+        ensures put { MatchResult result
+            (λ done. (name : Bytes) → holds hold.old name
+            → replaced name bytes.now × ChangesCalls has_done (with_calls (made name)) self.old self.new)
+            (λ error. Preserves has_done self.old self.new) }
         ensures stays { (name : Bytes) → holds hold.old name → holds hold.new name }
         ensures leaves { (name : Bytes) → holds hold.old name
             → CrashMayAlsoLeave left name (λ found. found ≡ Some bytes.now) self.old self.new };

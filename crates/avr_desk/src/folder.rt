@@ -1,4 +1,4 @@
-ghost use Rattle.std.specs.Prelude.{◌≡◌, ◌⊎◌, ◌++◌, ◌∷◌, [], true, false, IfErr, IfOk, MatchOption, None, OnErr, OnOk, Option, Some};
+ghost use Rattle.std.specs.Prelude.{◌≡◌, ◌⊎◌, ◌++◌, ◌∷◌, [], true, false, IfErr, IfOk, MatchOption, MatchResult, None, OnOk, Option, Some};
 ghost use Rattle.std.specs.IoError.{error_kind};
 ghost use Rattle.avr_desk.specs.Journal.{Counts, ChangesCalls, SystemCalls, Gives, CrashMayAlsoLeave, CrashLeavesNoMore, Opens, IsUncounted, with_calls, with_one_more_held, made};
 ghost use Rattle.avr_desk.specs.Record.{Bytes};
@@ -105,18 +105,19 @@ pub trait Folder {
 
     /// Opens a file for reading.
     fn open(&mut self, name: &str) -> io::Result<Self::File>
-        ensures named { Counts has_done 0 self.old ⊎ is_free self.old name.now → IfOk result (λ it. is_of it name.now) }
-        ensures absent { Counts has_done 0 self.old ⊎ is_free self.old name.now
-            → IfErr result (λ error. error_kind error ≡ ErrorKind.NotFound → lacks name.now) }
-        ensures opens { OnOk result (ChangesCalls has_done (with_calls (Opens name.now ∷ [])) self.old self.new) }
-        ensures fails { OnErr result (Preserves has_done self.old self.new) }
+        ensures named { Counts has_done 0 self.old ⊎ is_free self.old name.now
+            → MatchResult result (λ file. is_of file name.now)
+            (λ error. error_kind error ≡ ErrorKind.NotFound → lacks name.now) }
+        ensures opens { MatchResult result
+            (λ file. ChangesCalls has_done (with_calls (Opens name.now ∷ [])) self.old self.new)
+            (λ error. Preserves has_done self.old self.new) }
         ensures keeps { CrashLeavesNoMore left self.old self.new };
 
     /// Creates a file, or empties an existing one.
     fn create(&mut self, name: &str) -> io::Result<Self::File>
-        ensures named { IfOk result (λ file. is_of file name.now) }
-        ensures creates { OnOk result (ChangesCalls has_done (with_calls (made name.now)) self.old self.new) }
-        ensures fails { OnErr result (Preserves has_done self.old self.new) }
+        ensures creates { MatchResult result
+            (λ file. is_of file name.now × ChangesCalls has_done (with_calls (made name.now)) self.old self.new)
+            (λ error. Preserves has_done self.old self.new) }
         ensures alone { Counts has_done 0 self.old → CrashLeavesNoMore left self.old self.new }
         ensures keeps { leads_to_no_held_file self.old name.now → CrashLeavesNoMore left self.old self.new };
 
@@ -147,11 +148,10 @@ pub trait Folder {
     /// Holds the place if the lock file still has its name. Returns `None` if another run removed it since it was
     /// opened.
     fn confirm(&mut self, place: Self::Place, lock: Self::Lock) -> io::Result<Option<Self::Held>>
-        ensures named { IfOk result (λ held. MatchOption held (denies (name_of place))
-            (λ held. held_name held ≡ name_of place)) }
-        ensures holds { IfOk result (λ held. MatchOption held (Preserves has_done self.old self.new)
-            (λ held. ChangesCalls has_done with_one_more_held self.old self.new)) }
-        ensures fails { OnErr result (Preserves has_done self.old self.new) }
+        ensures holds { MatchResult result
+            (λ held. MatchOption held (denies (name_of place) × Preserves has_done self.old self.new) (λ held.
+            (held_name held ≡ name_of place) × ChangesCalls has_done with_one_more_held self.old self.new))
+            (λ error. Preserves has_done self.old self.new) }
         ensures leaves { CrashMayAlsoLeave left (name_of place) (began (name_of place)) self.old self.new };
 
     /// Returns whether the held file has this name.
@@ -166,11 +166,11 @@ pub trait Folder {
     /// Opens the file at a place for reading. Fails if it isn't the one that was seen. `NotFound` means that none was
     /// seen and none is there.
     fn open_seen(&mut self, held: &Self::Held, seen: &Option<Self::Seen>) -> io::Result<Self::File>
-        ensures named { IfOk result (λ file. is_of file (held_name held.now)) }
-        ensures absent { IfErr result (λ error. error_kind error ≡ ErrorKind.NotFound → lacks (held_name held.now)) }
-        ensures opens { OnOk result (ChangesCalls has_done (with_calls (Opens (held_name held.now) ∷ [])) self.old
-            self.new) }
-        ensures fails { OnErr result (Preserves has_done self.old self.new) }
+        ensures named { MatchResult result (λ file. is_of file (held_name held.now))
+            (λ error. error_kind error ≡ ErrorKind.NotFound → lacks (held_name held.now)) }
+        ensures opens { MatchResult result
+            (λ file. ChangesCalls has_done (with_calls (Opens (held_name held.now) ∷ [])) self.old self.new)
+            (λ error. Preserves has_done self.old self.new) }
         ensures keeps { CrashLeavesNoMore left self.old self.new };
 
     /// Fails with `ResourceBusy` if a name leads to the held place, or to the file that was seen there.
@@ -228,19 +228,19 @@ pub trait Folder {
 
     /// Waits until the names in the folder are on the disk. A folder that can't be read or synced counts as synced.
     fn sync_name(&mut self, held: &Self::Held, parent: &Self::Parent) -> io::Result<()>
-        ensures lasts { OnOk result ((bytes : Bytes) → finds self.old (held_name held.now) bytes
-            → lasts (held_name held.now) bytes) }
-        ensures makes { OnOk result ((bytes : Bytes) → finds self.old (held_name held.now) bytes
-            → ChangesCalls has_done (with_calls (made (held_name held.now))) self.old self.new) }
-        ensures fails { OnErr result (Preserves has_done self.old self.new) }
+        ensures lasts { MatchResult result
+            (λ done. (bytes : Bytes) → finds self.old (held_name held.now) bytes → lasts (held_name held.now) bytes
+            × ChangesCalls has_done (with_calls (made (held_name held.now))) self.old self.new)
+            (λ error. Preserves has_done self.old self.new) }
         ensures keeps { CrashLeavesNoMore left self.old self.new };
 
     /// Overwrites the file in place and waits until it is on the disk. A crash before that may leave any part.
     fn write_over(&mut self, held: &Self::Held, bytes: &[u8]) -> io::Result<()>
         requires { is_mounted (held_name held.now) }
-        ensures lasts { OnOk result (lasts (held_name held.now) bytes.now) }
-        ensures makes { OnOk result (ChangesCalls has_done (with_calls (made (held_name held.now))) self.old self.new) }
-        ensures fails { OnErr result (Preserves has_done self.old self.new) }
+        ensures lasts { MatchResult result
+            (λ done. lasts (held_name held.now) bytes.now
+            × ChangesCalls has_done (with_calls (made (held_name held.now))) self.old self.new)
+            (λ error. Preserves has_done self.old self.new) }
         ensures keeps { CrashLeavesNoMore left self.old self.new };
 
     /// Removes the new file, if there is one.

@@ -1,4 +1,4 @@
-ghost use Rattle.std.specs.Prelude.{◌≡◌, ◌<◌, ◌+◌, ◌∷◌, ◌++◌, [], length, OnOk, OnErr, IfOk, map};
+ghost use Rattle.std.specs.Prelude.{◌≡◌, ◌<◌, ◌∷◌, [], length, OnErr, IfOk, map};
 ghost use Rattle.byteorder.specs.Endian.{big_bytes};
 ghost use Rattle.avr_desk.specs.Fault.{CountsFailure, IsCall};
 ghost use Rattle.avr_desk.specs.Lines.{digits, spaced_digits, text_of, line, information, warning, error};
@@ -8,6 +8,7 @@ use crate::desk::{Desk, DeskFault};
 use crate::stream::{Stream, write_all};
 use arrayvec::{ArrayVec, CapacityError};
 use byteorder::{BigEndian, ByteOrder};
+use itoa::Buffer;
 
 /// The longest line, with its LF, that is written in one call: a pipe takes that many bytes as one piece.
 const AT_ONCE: usize = 4096;
@@ -64,36 +65,25 @@ fn spaced(signature: [u8; 3]) -> [u8; 8]
     [a, b, b' ', c, d, b' ', e, f]
 }
 
-/// Prints one piece of a line.
-fn write_piece<D: Desk>(desk: &mut D, piece: &Piece<'_>) -> Result<(), DeskFault>
-    ensures printed { IsPrinted (D.view desk.old) (D.view desk.new) (text_of piece.now) result }
-    ensures call { IsCall D.view D.started_as (CountsFailure Stream.Messages) desk.old desk.new result }
+/// Returns the text of a piece. What isn't a text itself is written to `hex` or `decimal`.
+fn text<'a>(piece: &'a Piece<'_>, hex: &'a mut [u8; 8], decimal: &'a mut Buffer) -> &'a [u8]
+    ensures { result.now ≡ text_of piece.now }
 {
     match piece {
-        Piece::Text(text) => write_all(desk, Stream::Messages, text.as_bytes()),
-        Piece::Byte(byte) => write_all(desk, Stream::Messages, &digits(*byte)),
-        Piece::Signature(bytes) => write_all(desk, Stream::Messages, &spaced(*bytes)),
-        Piece::Address(address) => write_all(desk, Stream::Messages, &address_digits(*address)),
-        Piece::Number(number) => {
-            let mut buffer = itoa::Buffer::new();
-            write_all(desk, Stream::Messages, buffer.format(*number).as_bytes())
+        Piece::Text(text) => text.as_bytes(),
+        Piece::Byte(byte) => {
+            hex[..2].copy_from_slice(&digits(*byte));
+            &hex[..2]
         }
-    }
-}
-
-/// Appends one piece to a line.
-fn add_piece(line: &mut Gathered, piece: &Piece<'_>) -> Result<(), CapacityError>
-    ensures added { OnOk result (line.new.items ≡ line.old.items ++ text_of piece.now) }
-    ensures full { OnErr result (AT_ONCE < length line.old.items + length (text_of piece.now)) }
-{
-    match piece {
-        Piece::Text(text) => line.try_extend_from_slice(text.as_bytes()),
-        Piece::Byte(byte) => line.try_extend_from_slice(&digits(*byte)),
-        Piece::Signature(bytes) => line.try_extend_from_slice(&spaced(*bytes)),
-        Piece::Address(address) => line.try_extend_from_slice(&address_digits(*address)),
-        Piece::Number(number) => {
-            line.try_extend_from_slice(itoa::Buffer::new().format(*number).as_bytes())
+        Piece::Signature(bytes) => {
+            *hex = spaced(*bytes);
+            hex.as_slice()
         }
+        Piece::Address(address) => {
+            *hex = address_digits(*address);
+            hex.as_slice()
+        }
+        Piece::Number(number) => decimal.format(*number).as_bytes(),
     }
 }
 
@@ -105,7 +95,7 @@ fn gathered(mark: &str, pieces: &[Piece<'_>]) -> Result<Gathered, CapacityError>
     let mut line = ArrayVec::new();
     line.try_extend_from_slice(mark.as_bytes())?;
     for piece in pieces {
-        add_piece(&mut line, piece)?;
+        line.try_extend_from_slice(text(piece, &mut [0; 8], &mut Buffer::new()))?;
     }
     line.try_extend_from_slice(b"\n")?;
     Ok(line)
@@ -121,7 +111,8 @@ fn print_line<D: Desk>(desk: &mut D, mark: &str, pieces: &[Piece<'_>]) -> Result
     }
     write_all(desk, Stream::Messages, mark.as_bytes())?;
     for piece in pieces {
-        write_piece(desk, piece)?;
+        let (mut hex, mut decimal) = ([0; 8], Buffer::new());
+        write_all(desk, Stream::Messages, text(piece, &mut hex, &mut decimal))?;
     }
     write_all(desk, Stream::Messages, b"\n")
 }

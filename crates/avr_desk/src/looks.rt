@@ -1,5 +1,5 @@
 //! What follows from the results of system calls. Nothing here makes a call.
-ghost use Rattle.std.specs.Prelude.{◌≡◌, ◌⊎◌, ◌==◌, ◌&&◌, ◌%◌, ◌*◌, bit_and, bit_or, if◌then◌else◌, IfOk, IfErr, OnOk, MatchOption, None, Ok, Err, Option, Some, true, false};
+ghost use Rattle.std.specs.Prelude.{◌≡◌, ◌⊎◌, ◌==◌, ◌&&◌, ◌%◌, ◌*◌, bit_and, bit_or, if◌then◌else◌, IfOk, IfErr, OnOk, MatchOption, MatchResult, None, Ok, Err, Option, Some, true, false};
 ghost use Rattle.std.specs.IoError.{error_kind};
 ghost use Rattle.std.specs.Option.{is_none};
 ghost use Rattle.avr_desk.specs.Looks.{is_same_file, leads, locked};
@@ -7,6 +7,9 @@ ghost use Rattle.avr_desk.specs.Looks.{is_same_file, leads, locked};
 use std::fs::TryLockError;
 use std::io;
 use std::io::ErrorKind;
+use std::io::ErrorKind::{
+    InvalidInput, PermissionDenied, ReadOnlyFilesystem, TooManyLinks, Unsupported,
+};
 
 /// Which file it is, as long as the file exists.
 #[derive(Clone, Copy)]
@@ -28,9 +31,8 @@ pub(crate) fn is_same_file(one: Option<Identity>, other: Option<Identity>) -> bo
 
 /// Returns `None` in place of an error of this kind.
 pub(crate) fn unless<T>(kind: ErrorKind, given: io::Result<T>) -> io::Result<Option<T>>
-    ensures given { IfOk given (λ it. result ≡ Ok (Some it)) }
-    ensures passed { IfErr given (λ error. error_kind error ≡ kind → result ≡ Ok None) }
-    ensures fails { IfErr given (λ error. (error_kind error ≡ kind → ⊥) → result ≡ Err error) }
+    ensures { MatchResult given (λ it. result ≡ Ok (Some it)) (λ error.
+        (error_kind error ≡ kind → result ≡ Ok None) × ((error_kind error ≡ kind → ⊥) → result ≡ Err error)) }
 {
     match given {
         Ok(it) => Ok(Some(it)),
@@ -71,10 +73,7 @@ pub(crate) fn opened<T: Drop>(
 pub(crate) fn links_none(kind: ErrorKind) -> bool
     ensures { kind ≡ ErrorKind.AlreadyExists → result ≡ false }
 {
-    matches!(
-        kind,
-        ErrorKind::PermissionDenied | ErrorKind::Unsupported | ErrorKind::TooManyLinks
-    )
+    matches!(kind, PermissionDenied | Unsupported | TooManyLinks)
 }
 
 /// Returns the result of a sync. It counts as done if the file system can't sync a file of that kind.
@@ -86,11 +85,7 @@ pub(crate) fn synced(waited: io::Result<()>) -> io::Result<()>
         → (error_kind error ≡ ErrorKind.ReadOnlyFilesystem → ⊥) → result ≡ waited) }
 {
     match waited {
-        Err(error)
-            if matches!(
-                error.kind(),
-                ErrorKind::InvalidInput | ErrorKind::ReadOnlyFilesystem
-            ) => { Ok(()) }
+        Err(error) if matches!(error.kind(), InvalidInput | ReadOnlyFilesystem) => Ok(()),
         waited => waited,
     }
 }

@@ -1,5 +1,7 @@
-ghost use Rattle.std.specs.Prelude.{◌≡◌, ◌≤◌, ◌++◌, ◌∷◌, ◌==◌, ◌&&◌, [], min, take, drop, length, Some, None, IfOk, OnOk, OnErr, is_ok, not, true, if◌then◌else◌};
+ghost use Rattle.std.specs.Prelude.{◌≡◌, ◌≤◌, ◌+◌, ◌++◌, ◌∷◌, ◌==◌, ◌&&◌, [], min, take, drop, length, Some, None, IfOk, OnOk, OnErr, is_ok, not, true, if◌then◌else◌};
 ghost use Rattle.std.specs.Option.{option_copied, option_to_list};
+ghost use Rattle.std.specs.Vec.{vec_len, vec_capacity};
+ghost use Rattle.avr_desk.specs.Record.{use_of};
 
 use crate::bytes::Bytes;
 use crate::desk::{ChipDesk, Desk, DeskFault};
@@ -54,12 +56,15 @@ impl Model for MemDesk {
     } };
 }
 
-/// Returns at most `room` of the bytes from `at` on.
-fn next_bytes(bytes: &[u8], at: usize, room: usize) -> &[u8]
-    ensures { result.now ≡ take room (drop at bytes.now) }
+/// Copies bytes from `at` on to the start of `buf`, and returns how many.
+fn copy_next(bytes: &[u8], at: usize, buf: &mut [u8]) -> usize
+    ensures count { result ≡ min (length buf.new) (length (drop at bytes.now)) }
+    ensures gives { take result buf.new ≡ take result (drop at bytes.now) }
 {
     let rest = bytes.get(at..).unwrap_or(&[]);
-    &rest[..rest.len().min(room)]
+    let count = rest.len().min(buf.len());
+    buf[..count].copy_from_slice(&rest[..count]);
+    count
 }
 
 /// Returns whether a read of `count` bytes into `room` found the end.
@@ -69,11 +74,26 @@ fn is_end(count: usize, room: usize) -> bool
     count == 0 && room > 0
 }
 
+/// Adds the file that was open, and then `last`, to the uses, which have room for both.
+fn close(uses: &mut Vec<FileUse>, current: Open, last: Option<FileUse>)
+    requires { vec_len uses.old + 2 ≤ vec_capacity uses.old }
+    ensures { uses.new.items ≡ (uses.old.items ++ use_of current) ++ option_to_list last }
+{
+    match current {
+        Open::Closed => {}
+        Open::ToRead(reading) => uses.push_reserved(FileUse::Opened(Opening::Found(reading))),
+        Open::ToWrite(writing) => uses.push_reserved(FileUse::Created(writing)),
+    }
+    if let Some(last) = last {
+        uses.push_reserved(last);
+    }
+}
+
 impl MemDesk {
     ghost use Rattle.ghosts.specs.Failures.{OneFailureCounted};
     ghost use Rattle.avr_desk.specs.Memory.{contents, fresh_desk};
     ghost use Rattle.avr_desk.specs.Named.{holds, newest};
-    ghost use Rattle.avr_desk.specs.Record.{all_files, all_uses};
+    ghost use Rattle.avr_desk.specs.Record.{all_files};
 
     /// Creates a desk without files. Each opening of `-` reads `input` from its start.
     pub fn new(alloc: Global, input: Bytes) -> MemDesk
@@ -118,9 +138,8 @@ impl MemDesk {
         ensures { self.new ≡ (if is_ok result then record self.old
             { stored = self.old.stored ++ record { name = name.now; bytes = bytes.now } ∷ [] } else self.old) }
     {
-        let name = Bytes::copied(self.alloc, name.as_bytes())?;
-        let bytes = Bytes::copied(self.alloc, bytes)?;
-        self.stored.push(Writing { name, bytes })?;
+        let file = Writing::copied(self.alloc, name, bytes)?;
+        self.stored.push(file)?;
         Ok(())
     }
 
@@ -170,27 +189,6 @@ impl MemDesk {
         }
     }
 
-    /// Moves the open file and `last` to the uses, and opens `next`.
-    fn close_current(&mut self, last: Option<FileUse>, next: Open) -> Result<(), AllocError>
-        ensures { self.new ≡ (if is_ok result then record self.old
-            { kept = record self.old.kept { uses = all_uses self.old.kept ++ option_to_list last; current = next } }
-            else self.old) }
-    {
-        self.uses.reserve(2)?;
-        match mem::replace(&mut self.current, next) {
-            Open::Closed => {}
-            Open::ToRead(reading) => {
-                let found = Opening::Found(reading);
-                self.uses.push_reserved(FileUse::Opened(found));
-            }
-            Open::ToWrite(writing) => self.uses.push_reserved(FileUse::Created(writing)),
-        }
-        if let Some(last) = last {
-            self.uses.push_reserved(last);
-        }
-        Ok(())
-    }
-
     fn holds(&self, name: &str) -> bool
         ensures { result ≡ holds name.now self.now.kept }
     {
@@ -233,14 +231,16 @@ impl Desk for MemDesk {
         ensures counts { CountsFailure File (memory_state self.old) (memory_state self.new) result }
         ensures stays { Preserves HoldsTrue self.old self.new }
     {
+        if self.uses.reserve(2).is_err() {
+            return Err(self.fail());
+        }
         let Ok(kept_name) = Bytes::copied(self.alloc, name.as_bytes()) else {
             return Err(self.fail());
         };
         let Some(bytes) = self.contents(name) else {
             let absent = FileUse::Opened(Opening::Absent(kept_name));
-            if self.close_current(Some(absent), Open::Closed).is_err() {
-                return Err(self.fail());
-            }
+            let closed = mem::replace(&mut self.current, Open::Closed);
+            close(&mut self.uses, closed, Some(absent));
             return Err(DeskFault::NotFound);
         };
         let Ok(opened) = Bytes::copied(self.alloc, bytes) else {
@@ -251,9 +251,8 @@ impl Desk for MemDesk {
             bytes: Bytes::new(self.alloc),
             ended: false,
         };
-        if self.close_current(None, Open::ToRead(reading)).is_err() {
-            return Err(self.fail());
-        }
+        let closed = mem::replace(&mut self.current, Open::ToRead(reading));
+        close(&mut self.uses, closed, None);
         self.opened = opened;
         Ok(())
     }
@@ -263,14 +262,14 @@ impl Desk for MemDesk {
         ensures kept { self.new ≡ updated (after_create name.now result self.old.kept) self.old self.new }
         ensures call { IsCall memory_state HoldsTrue (CountsFailure File) self.old self.new result }
     {
-        let Ok(name) = Bytes::copied(self.alloc, name.as_bytes()) else {
-            return Err(self.fail());
-        };
-        let bytes = Bytes::new(self.alloc);
-        let created = Open::ToWrite(Writing { name, bytes });
-        if self.close_current(None, created).is_err() {
+        if self.uses.reserve(2).is_err() {
             return Err(self.fail());
         }
+        let Ok(file) = Writing::copied(self.alloc, name, &[]) else {
+            return Err(self.fail());
+        };
+        let closed = mem::replace(&mut self.current, Open::ToWrite(file));
+        close(&mut self.uses, closed, None);
         Ok(())
     }
 
@@ -285,11 +284,8 @@ impl Desk for MemDesk {
         if !matches!(self.current, Open::ToRead(_)) {
             return Err(self.fail());
         }
-        let room = buf.len();
-        let next = next_bytes(self.opened.as_slice(), self.current.given().len(), room);
-        let count = next.len();
-        buf[..count].copy_from_slice(next);
-        let ends = is_end(count, room);
+        let count = copy_next(self.opened.as_slice(), self.current.given().len(), buf);
+        let ends = is_end(count, buf.len());
         if self.current.read_on(&buf[..count], ends).is_err() {
             return Err(self.fail());
         }
@@ -303,10 +299,7 @@ impl Desk for MemDesk {
         ensures has_file { OnOk result (is_to_write self.old.kept.current ≡ true) }
         ensures call { IsCall memory_state HoldsTrue (WriteCounts File bytes.now) self.old self.new result }
     {
-        if !matches!(self.current, Open::ToWrite(_)) {
-            return Err(self.fail());
-        }
-        if self.current.write_on(bytes).is_err() {
+        if !self.current.write_on(bytes) {
             return Err(self.fail());
         }
         Ok(bytes.len())
@@ -383,19 +376,14 @@ impl ChipDesk for MemDesk {
         ensures replaces { Replaces name.now bytes.now result (memory_state self.old) (memory_state self.new) }
         ensures call { IsCall memory_state HoldsTrue (CountsFailure File) self.old self.new result }
     {
-        let Ok(own_name) = Bytes::copied(self.alloc, name.as_bytes()) else {
-            return Err(self.fail());
-        };
-        let Ok(own_bytes) = Bytes::copied(self.alloc, bytes) else {
-            return Err(self.fail());
-        };
-        let file = FileUse::Created(Writing {
-            name: own_name,
-            bytes: own_bytes,
-        });
-        if self.close_current(Some(file), Open::Closed).is_err() {
+        if self.uses.reserve(2).is_err() {
             return Err(self.fail());
         }
+        let Ok(file) = Writing::copied(self.alloc, name, bytes) else {
+            return Err(self.fail());
+        };
+        let closed = mem::replace(&mut self.current, Open::Closed);
+        close(&mut self.uses, closed, Some(FileUse::Created(file)));
         self.held = None;
         self.journal = self.journal.then(&Call::Tried(name.as_bytes(), bytes));
         Ok(())

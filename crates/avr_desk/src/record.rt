@@ -1,10 +1,10 @@
-ghost use Rattle.std.specs.Prelude.{◌≡◌, is_ok, if◌then◌else◌};
+ghost use Rattle.std.specs.Prelude.{◌≡◌, IfOk, is_ok, true, if◌then◌else◌};
 ghost use Rattle.std.specs.Option.{option_copied};
 ghost use Rattle.avr_desk.specs.Named.{newest};
 ghost use Rattle.avr_desk.specs.Record.{files_among};
 
 use crate::bytes::Bytes;
-use std::alloc::AllocError;
+use std::alloc::{AllocError, Global};
 
 /// A file opened for reading, and the bytes read so far.
 #[derive(Debug, Drop)]
@@ -49,7 +49,7 @@ pub enum Open {
 
 impl Open {
     ghost use Rattle.avr_desk.specs.Named.{bytes_given};
-    ghost use Rattle.avr_desk.specs.Record.{noted, written_on};
+    ghost use Rattle.avr_desk.specs.Record.{is_to_write, noted, written_on};
 
     /// Returns what a file that is open to read has given so far.
     pub(crate) fn given(&self) -> &[u8]
@@ -72,19 +72,29 @@ impl Open {
         Ok(())
     }
 
-    /// Notes bytes that were written to the open file.
-    pub(crate) fn write_on(&mut self, bytes: &[u8]) -> Result<(), AllocError>
-        ensures { self.new ≡ (if is_ok result then written_on bytes.now self.old else self.old) }
+    /// Notes written bytes. Returns whether the file is open to write and memory was allocated.
+    pub(crate) fn write_on(&mut self, bytes: &[u8]) -> bool
+        ensures kept { self.new ≡ (if result then written_on bytes.now self.old else self.old) }
+        ensures has_file { result ≡ true → is_to_write self.old ≡ true }
     {
-        if let Open::ToWrite(writing) = self {
-            writing.bytes.extend(bytes)?;
+        match self {
+            Open::ToWrite(writing) => writing.bytes.extend(bytes).is_ok(),
+            Open::Closed | Open::ToRead(_) => false,
         }
-        Ok(())
     }
 }
 
 impl Writing {
     ghost use Rattle.avr_desk.specs.Named.{or_older};
+
+    /// Copies a name and bytes into a new file.
+    pub(crate) fn copied(alloc: Global, name: &str, bytes: &[u8]) -> Result<Writing, AllocError>
+        ensures { IfOk result (λ file. file ≡ record { name = name.now; bytes = bytes.now }) }
+    {
+        let name = Bytes::copied(alloc, name.as_bytes())?;
+        let bytes = Bytes::copied(alloc, bytes)?;
+        Ok(Writing { name, bytes })
+    }
 
     /// Returns this file's bytes if it has the name, else `older`.
     pub(crate) fn or_older<'a>(&'a self, older: Option<&'a [u8]>, name: &[u8]) -> Option<&'a [u8]>

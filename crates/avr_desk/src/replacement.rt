@@ -4,7 +4,7 @@
 //! The run locks NAME.avrstk-lock; the system unlocks it if the run is killed. The new bytes go to NAME.avrstk-new,
 //! which only the lock holder touches. Once they are on the disk, that file is renamed to NAME. If there was no file to
 //! replace, it gets NAME as a second name, which never takes the place of another file.
-ghost use Rattle.std.specs.Prelude.{◌≡◌, ◌⊎◌, IfOk, MatchOption, OnErr, OnOk, Option, Some};
+ghost use Rattle.std.specs.Prelude.{◌≡◌, ◌⊎◌, IfOk, MatchOption, MatchResult, Option, Some};
 ghost use Rattle.avr_desk.specs.Handles.{IsHeldBy};
 ghost use Rattle.avr_desk.specs.Journal.{ChangesCalls, CrashMayAlsoLeave, IsUncounted, with_calls, with_one_more_held, made};
 ghost use Rattle.avr_desk.specs.Record.{Bytes};
@@ -25,11 +25,10 @@ pub struct Replacement<F: Folder> {
 
 /// Locks a place. Returns `None` if another process has locked it.
 fn hold_place<F: Folder>(folder: &mut F, place: F::Place) -> io::Result<Option<F::Held>>
-    ensures named { IfOk result (λ held. MatchOption held (F.denies (F.name_of place))
-        (λ held. F.held_name held ≡ F.name_of place)) }
-    ensures holds { IfOk result (λ held. MatchOption held (Preserves F.has_done folder.old folder.new)
-        (λ held. ChangesCalls F.has_done with_one_more_held folder.old folder.new)) }
-    ensures fails { OnErr result (Preserves F.has_done folder.old folder.new) }
+    ensures holds { MatchResult result
+        (λ held. MatchOption held (F.denies (F.name_of place) × Preserves F.has_done folder.old folder.new) (λ held.
+        (F.held_name held ≡ F.name_of place) × ChangesCalls F.has_done with_one_more_held folder.old folder.new))
+        (λ error. Preserves F.has_done folder.old folder.new) }
     ensures leaves { CrashMayAlsoLeave F.left (F.name_of place) (F.began (F.name_of place)) folder.old folder.new }
 {
     let Some(file) = folder.open_lock(&place)? else {
@@ -44,15 +43,26 @@ fn hold_place<F: Folder>(folder: &mut F, place: F::Place) -> io::Result<Option<F
 impl<F: Folder> Replacement<F> {
     /// Makes a new file with `bytes`, on the disk. Fails if the place has changed since it was locked.
     fn make_ready(&self, folder: &mut F, bytes: &[u8]) -> io::Result<F::New>
-        ensures keeps { IfOk result (λ file. F.keeps file bytes.now) }
-        ensures found { IfOk result (λ file. F.finds_seen_and_new folder.new self.now.seen file) }
+        ensures ready { IfOk result (λ it. F.keeps it bytes.now × F.finds_seen_and_new folder.new self.now.seen it) }
         ensures stays { IsUncounted F.has_done F.left folder.old folder.new }
     {
+        // A killed run may have left a new file.
+        folder.remove_new(&self.held);
         let mut file = folder.make(&self.held, &self.seen)?;
         folder.write(&mut file, bytes)?;
         folder.sync(&mut file)?;
         folder.check_unchanged(&self.held, &self.seen, &file)?;
         Ok(file)
+    }
+
+    /// Removes the new file if the call that needed it last succeeded. Returns that call's result.
+    fn remove_after(&self, done: io::Result<()>, folder: &mut F) -> io::Result<()>
+        ensures same { result ≡ done }
+        ensures stays { IsUncounted F.has_done F.left folder.old folder.new }
+    {
+        done?;
+        folder.remove_new(&self.held);
+        Ok(())
     }
 }
 
@@ -130,8 +140,6 @@ impl<F: Folder> FileSystem for F {
     }
 
     fn put_held(&mut self, hold: &mut Replacement<F>, bytes: &[u8]) -> io::Result<()> {
-        // A killed run may have left a new file.
-        self.remove_new(&hold.held);
         let file = match hold.make_ready(self, bytes) {
             Ok(file) => file,
             Err(error) => {
@@ -141,17 +149,13 @@ impl<F: Folder> FileSystem for F {
         };
         let Some(seen) = &hold.seen else {
             self.place_new(&hold.held, file)?;
-            self.sync_name(&hold.held, &hold.parent)?;
-            self.remove_new(&hold.held);
-            return Ok(());
+            return hold.remove_after(self.sync_name(&hold.held, &hold.parent), self);
         };
         match self.rename(&hold.held, seen, file) {
             Ok(()) => self.sync_name(&hold.held, &hold.parent),
             // A mounted file can't be renamed over, so it is written in place.
             Err(error) if error.kind() == ErrorKind::ResourceBusy => {
-                self.write_over(&hold.held, bytes)?;
-                self.remove_new(&hold.held);
-                Ok(())
+                hold.remove_after(self.write_over(&hold.held, bytes), self)
             }
             // The new file stays, so that one of the two is always there.
             Err(error) => Err(error),
@@ -170,22 +174,23 @@ pub(crate) fn replace_named<R: FileSystem>(
     name: &str,
     bytes: &[u8],
 ) -> io::Result<()>
-    ensures put { OnOk result (R.replaced name.now bytes.now) }
-    ensures makes { OnOk result (ChangesCalls R.has_done (with_calls (made name.now)) system.old system.new) }
-    ensures fails { OnErr result (Preserves R.has_done system.old system.new) }
+    ensures put { MatchResult result
+        (λ done. R.replaced name.now bytes.now
+        × ChangesCalls R.has_done (with_calls (made name.now)) system.old system.new)
+        (λ error. Preserves R.has_done system.old system.new) }
     ensures stays { (name : Option Bytes) → IsHeldBy R.FileSystem held.old name → IsHeldBy R.FileSystem held.new name }
     ensures leaves { CrashMayAlsoLeave R.left name.now (λ f. R.began name.now f ⊎ (f ≡ Some bytes.now)) system.old
         system.new }
 {
-    match held {
-        Some(hold) if system.is_held(hold, name) => system.put_held(hold, bytes),
-        _ => {
-            let Some(mut own) = system.hold_named(name)? else {
-                return Err(io::Error::from(ErrorKind::WouldBlock));
-            };
-            let put = system.put_held(&mut own, bytes);
-            system.leave_held(own);
-            put
+    if let Some(hold) = held {
+        if system.is_held(hold, name) {
+            return system.put_held(hold, bytes);
         }
     }
+    let Some(mut own) = system.hold_named(name)? else {
+        return Err(io::Error::from(ErrorKind::WouldBlock));
+    };
+    let put = system.put_held(&mut own, bytes);
+    system.leave_held(own);
+    put
 }

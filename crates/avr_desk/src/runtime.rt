@@ -1,4 +1,4 @@
-ghost use Rattle.std.specs.Prelude.{⊤, string_bytes};
+ghost use Rattle.std.specs.Prelude.{◌≡◌, ⊤, IfOk, string_bytes};
 
 use crate::folder::Folder;
 use crate::looks::{
@@ -28,14 +28,11 @@ impl Synced {
 
 impl Write for Synced {
     fn write(&mut self, bytes: &[u8]) -> io::Result<usize> {
-        let Some(file) = &mut self.file else {
-            return Err(io::Error::from(ErrorKind::NotFound));
-        };
-        if !bytes.is_empty() {
-            return file.write(bytes);
+        match &mut self.file {
+            Some(file) if bytes.is_empty() => synced(file.sync_all()).and(Ok(0)),
+            Some(file) => file.write(bytes),
+            None => Err(io::Error::from(ErrorKind::NotFound)),
         }
-        synced(file.sync_all())?;
-        Ok(0)
     }
 
     fn flush(&mut self) -> io::Result<()> {
@@ -48,11 +45,11 @@ impl Read for Synced {
         let Some(file) = &mut self.file else {
             return Ok(0);
         };
-        let count = file.read(buf)?;
-        if count == 0 && !buf.is_empty() {
+        let read = file.read(buf);
+        if matches!(read, Ok(0)) && !buf.is_empty() {
             self.file = None;
         }
-        Ok(count)
+        read
     }
 }
 
@@ -73,10 +70,8 @@ pub struct Held {
 }
 
 fn identity(file: &Metadata) -> Identity {
-    Identity {
-        device: file.dev(),
-        number: file.ino(),
-    }
+    let (device, number) = (file.dev(), file.ino());
+    Identity { device, number }
 }
 
 fn own_identity(file: &File) -> io::Result<Identity> {
@@ -87,25 +82,29 @@ fn identity_of(found: &Option<Metadata>) -> Option<Identity> {
     found.as_ref().map(identity)
 }
 
-/// Returns which file is at `path`. Links are not followed.
-fn look<R: Files<File = File>>(rt: &R, path: &str) -> io::Result<Option<Identity>> {
-    let found = unless(ErrorKind::NotFound, fs::symlink_metadata(rt, path))?;
-    Ok(identity_of(&found))
+/// Returns which file was found, if any.
+fn identified(found: io::Result<Metadata>) -> io::Result<Option<Identity>> {
+    Ok(identity_of(&unless(ErrorKind::NotFound, found)?))
 }
 
-fn with_ending(alloc: Global, path: &str, ending: &str) -> io::Result<String> {
-    let mut text = String::from_str(alloc, path)?;
-    text.push_str(ending)?;
-    Ok(text)
+/// Returns the place of a name that leads to this path.
+fn place_of(alloc: Global, name: &str, path: String) -> io::Result<Place>
+    ensures { IfOk result (λ place. string_bytes place.name ≡ name.now) }
+{
+    Ok(Place {
+        name: String::from_str(alloc, name)?,
+        lock: [path.as_str(), ".avrstk-lock"].concat(alloc)?,
+        new: [path.as_str(), ".avrstk-new"].concat(alloc)?,
+        path,
+    })
 }
 
 /// Returns the path of the file that a name leads to, so that a link stays. Fails if a link leads nowhere.
-fn target<R: Files<File = File> + Alloc<A = Global>>(rt: &R, name: &str) -> io::Result<String> {
-    if is_link(rt, name)? {
-        Ok(fs::canonicalize(rt, name)?.into_string())
-    } else {
-        Ok(String::from_str(rt.alloc(), name)?)
+fn target<R: Files>(rt: &R, alloc: Global, name: &str) -> io::Result<String> {
+    if is_link(rt.symlink_metadata(name))? {
+        return Ok(rt.canonicalize(alloc, name)?.into_string());
     }
+    Ok(String::from_str(alloc, name)?)
 }
 
 /// Returns the folder of a path.
@@ -117,12 +116,12 @@ fn folder_of(path: &str) -> &str {
 }
 
 /// Returns whether two paths have the same file name in the same folder.
-fn is_one_place<R: Files<File = File>>(rt: &R, one: &str, other: &str) -> io::Result<bool> {
+fn is_one_place<R: Files>(rt: &R, one: &str, other: &str) -> io::Result<bool> {
     if Path::new(one).file_name() != Path::new(other).file_name() {
         return Ok(false);
     }
-    let folder = fs::metadata(rt, folder_of(one))?;
-    let other = fs::metadata(rt, folder_of(other))?;
+    let folder = rt.metadata(folder_of(one))?;
+    let other = rt.metadata(folder_of(other))?;
     Ok(is_same_file(Some(identity(&folder)), Some(identity(&other))))
 }
 
@@ -136,21 +135,69 @@ fn regular(found: io::Result<Metadata>) -> io::Result<Option<Metadata>> {
 
 /// Opens the file at `path`, if there is one. Links are not followed. Pipes are not opened, since that could block.
 fn open_regular<R: Files<File = File>>(rt: &R, path: &str) -> io::Result<Option<File>> {
-    match regular(fs::symlink_metadata(rt, path))? {
+    match regular(rt.symlink_metadata(path))? {
         Some(_) => unless(ErrorKind::NotFound, fs::open(rt, path)),
         None => Ok(None),
     }
 }
 
-fn is_link<R: Files<File = File>>(rt: &R, path: &str) -> io::Result<bool> {
-    let found = unless(ErrorKind::NotFound, fs::symlink_metadata(rt, path))?;
+/// Returns the opened file if it is the one that was seen.
+fn seen_file(seen: &Option<Metadata>, file: io::Result<File>) -> io::Result<Synced> {
+    let file = unless(ErrorKind::NotFound, file)?;
+    let there = file.as_ref().map(own_identity);
+    opened(identity_of(seen), file, there).map(Synced::new)
+}
+
+/// Returns which file was opened, and its owner and mode.
+fn metadata_of(file: io::Result<File>) -> io::Result<Option<Metadata>> {
+    Ok(Some(file?.metadata()?))
+}
+
+/// Returns whether a link was found.
+fn is_link(found: io::Result<Metadata>) -> io::Result<bool> {
+    let found = unless(ErrorKind::NotFound, found)?;
     Ok(matches!(found, Some(there) if there.is_symlink()))
 }
 
 /// Returns whether the file at `path` is this open file. Links are not followed.
-fn is_at<R: Files<File = File>>(rt: &R, file: &File, path: &str) -> io::Result<bool> {
+fn is_at<R: Files>(rt: &R, file: &File, path: &str) -> io::Result<bool> {
     let own = own_identity(file)?;
-    Ok(is_same_file(Some(own), look(rt, path)?))
+    Ok(is_same_file(Some(own), identified(rt.symlink_metadata(path))?))
+}
+
+/// Fails if a name leads to the held place, or to the file that was seen there.
+fn check_free(rt: &impl Files, name: &str, held: &Held, seen: &Option<Metadata>) -> io::Result<()> {
+    let there = identified(rt.metadata(name))?;
+    let is_link = is_link(rt.symlink_metadata(name))?;
+    let is_place = is_one_place(rt, name, held.place.path.as_str())?;
+    if leads(identity_of(seen), there, is_link, is_place) {
+        return Err(io::Error::from(ErrorKind::ResourceBusy));
+    }
+    Ok(())
+}
+
+/// Fails unless what was seen is still at the place, and the new file still has its name.
+fn check_kept(rt: &impl Files, held: &Held, seen: &Option<Metadata>, new: &File) -> io::Result<()> {
+    let first = held.place.new.as_str();
+    let path = held.place.path.as_str();
+    let is_own = is_at(rt, new, first)?;
+    // Renaming a file to its own name changes nothing, but waits for what others have begun in the folder. So the
+    // last look, right before the new file gets the name, sees what they did.
+    rt.rename(first, first)?;
+    if is_own && is_same_file(identity_of(seen), identified(rt.symlink_metadata(path))?) {
+        return Ok(());
+    }
+    Err(io::Error::from(ErrorKind::AlreadyExists))
+}
+
+/// Gives the place to the new file, only if nothing is there.
+fn link_or_rename<R: Files>(rt: &R, place: &Place) -> io::Result<()> {
+    let (new, path) = (place.new.as_str(), place.path.as_str());
+    // If the file system has no hard links, only the look before keeps another file from being replaced.
+    match rt.hard_link(new, path) {
+        Err(error) if links_none(error.kind()) => rt.rename(new, path),
+        linked => linked,
+    }
 }
 
 /// Gives a new file the old one's group, owner and permissions, as far as the system allows.
@@ -160,6 +207,14 @@ fn copy_owner_and_mode(new: &File, old: &Metadata) -> io::Result<()> {
     let _ = fchown(new, given(own.uid(), old.uid()), None);
     let is_of_group = new.metadata()?.gid() == old.gid();
     new.set_permissions(Permissions::from_mode(permissions_after(old.mode(), is_of_group)))
+}
+
+/// Returns the new file as it is to be: like the old one, if there is one.
+fn like_old(new: File, old: &Option<Metadata>) -> io::Result<File> {
+    if let Some(old) = old {
+        copy_owner_and_mode(&new, old)?;
+    }
+    Ok(new)
 }
 
 impl<'a, R: Files<File = File> + Input + Alloc<A = Global>> Folder for &'a R {
@@ -234,20 +289,13 @@ impl<'a, R: Files<File = File> + Input + Alloc<A = Global>> Folder for &'a R {
     }
 
     fn find(&mut self, name: &str) -> io::Result<Place> {
-        let path = target(*self, name)?;
-        Ok(Place {
-            name: String::from_str(self.alloc(), name)?,
-            lock: with_ending(self.alloc(), path.as_str(), ".avrstk-lock")?,
-            new: with_ending(self.alloc(), path.as_str(), ".avrstk-new")?,
-            path,
-        })
+        let alloc = self.alloc();
+        place_of(alloc, name, target(*self, alloc, name)?)
     }
 
     fn open_parent(&mut self, place: &Place) -> io::Result<Option<File>> {
-        unless(
-            ErrorKind::PermissionDenied,
-            fs::open(*self, folder_of(place.path.as_str())),
-        )
+        let folder = folder_of(place.path.as_str());
+        unless(ErrorKind::PermissionDenied, fs::open(*self, folder))
     }
 
     fn open_lock(&mut self, place: &Place) -> io::Result<Option<File>> {
@@ -273,19 +321,15 @@ impl<'a, R: Files<File = File> + Input + Alloc<A = Global>> Folder for &'a R {
     }
 
     fn see(&mut self, held: &Held) -> io::Result<Option<Metadata>> {
-        let path = held.place.path.as_str();
-        if regular(fs::metadata(*self, path))?.is_none() {
-            return Ok(None);
+        let (files, path) = (*self, held.place.path.as_str());
+        match regular(files.metadata(path)) {
+            Ok(Some(_)) => metadata_of(OpenOptions::new().write(true).open(files, path)),
+            otherwise => otherwise,
         }
-        let file = OpenOptions::new().write(true).open(*self, path)?;
-        Ok(Some(file.metadata()?))
     }
 
     fn open_seen(&mut self, held: &Held, seen: &Option<Metadata>) -> io::Result<Synced> {
-        let path = held.place.path.as_str();
-        let file = unless(ErrorKind::NotFound, fs::open(*self, path))?;
-        let there = file.as_ref().map(own_identity);
-        opened(identity_of(seen), file, there).map(Synced::new)
+        seen_file(seen, fs::open(*self, held.place.path.as_str()))
     }
 
     fn check_not_held(
@@ -294,13 +338,7 @@ impl<'a, R: Files<File = File> + Input + Alloc<A = Global>> Folder for &'a R {
         held: &Held,
         seen: &Option<Metadata>,
     ) -> io::Result<()> {
-        let there = identity_of(&unless(ErrorKind::NotFound, fs::metadata(*self, name))?);
-        let is_link = is_link(*self, name)?;
-        let is_place = is_one_place(*self, name, held.place.path.as_str())?;
-        if leads(identity_of(seen), there, is_link, is_place) {
-            return Err(io::Error::from(ErrorKind::ResourceBusy));
-        }
-        Ok(())
+        check_free(*self, name, held, seen)
     }
 
     fn make(&mut self, held: &Held, seen: &Option<Metadata>) -> io::Result<File> {
@@ -309,10 +347,7 @@ impl<'a, R: Files<File = File> + Input + Alloc<A = Global>> Folder for &'a R {
             .create_new(true)
             .mode(first_mode(seen.is_some()))
             .open(*self, held.place.new.as_str())?;
-        if let Some(old) = seen {
-            copy_owner_and_mode(&file, old)?;
-        }
-        Ok(file)
+        like_old(file, seen)
     }
 
     fn write(&mut self, file: &mut File, bytes: &[u8]) -> io::Result<()> {
@@ -323,30 +358,17 @@ impl<'a, R: Files<File = File> + Input + Alloc<A = Global>> Folder for &'a R {
         file.sync_all()
     }
 
-    // Renaming a file to its own name changes nothing, but waits for what others have begun in the folder. So the last
-    // look, right before the new file gets the name, sees what they did.
     fn check_unchanged(
         &mut self,
         held: &Held,
         seen: &Option<Metadata>,
         file: &File,
     ) -> io::Result<()> {
-        let (new, path) = (held.place.new.as_str(), held.place.path.as_str());
-        let is_own = is_at(*self, file, new)?;
-        fs::rename(*self, new, new)?;
-        if is_own && is_same_file(identity_of(seen), look(*self, path)?) {
-            return Ok(());
-        }
-        Err(io::Error::from(ErrorKind::AlreadyExists))
+        check_kept(*self, held, seen, file)
     }
 
-    // If the file system has no hard links, only the look before keeps another file from being replaced.
     fn place_new(&mut self, held: &Held, _file: File) -> io::Result<()> {
-        let (new, path) = (held.place.new.as_str(), held.place.path.as_str());
-        match fs::hard_link(*self, new, path) {
-            Err(error) if links_none(error.kind()) => fs::rename(*self, new, path),
-            linked => linked,
-        }
+        link_or_rename(*self, &held.place)
     }
 
     fn rename(&mut self, held: &Held, _seen: &Metadata, _file: File) -> io::Result<()> {
@@ -367,11 +389,11 @@ impl<'a, R: Files<File = File> + Input + Alloc<A = Global>> Folder for &'a R {
     }
 
     fn remove_new(&mut self, held: &Held) {
-        let _ = fs::remove_file(*self, held.place.new.as_str());
+        let _ = self.remove_file(held.place.new.as_str());
     }
 
     fn unlock(&mut self, held: Held) {
-        let _ = fs::remove_file(*self, held.place.lock.as_str());
+        let _ = self.remove_file(held.place.lock.as_str());
         drop(held);
     }
 }

@@ -1,4 +1,4 @@
-ghost use Rattle.std.specs.Prelude.{◌≡◌, ◌≤◌, length, IfOk, OnOk, OnErr, true, false, [], None, Some, is_ok, if◌then◌else◌};
+ghost use Rattle.std.specs.Prelude.{◌≡◌, ◌≤◌, length, IfOk, OnErr, true, false, [], None, Some, is_ok, if◌then◌else◌};
 ghost use Rattle.std.specs.IoError.{error_kind};
 ghost use Rattle.ghosts.specs.Failures.{OneFailureCounted};
 ghost use Rattle.ghosts.specs.Preserves.{Preserves};
@@ -7,7 +7,7 @@ ghost use Rattle.avr_desk.specs.Fault.{CountsFailure, IsCall};
 ghost use Rattle.avr_desk.specs.Named.{is_dash};
 ghost use Rattle.avr_desk.specs.Journal.{ReleasesHeld, CrashLeavesNoMore, IsUncounted};
 ghost use Rattle.avr_desk.specs.Record.{HasOpen, after_open, after_create, after_hold, after_read, Replaces, released, is_to_read, is_to_write, nothing_kept, with_tried};
-ghost use Rattle.avr_desk.specs.Shown.{IsTrueSince, KeepsLastError, Shown, RecordsTruly, with_log_of, with_open_of, system_desk_view, writes_to_output, writes_to_output_after_open};
+ghost use Rattle.avr_desk.specs.Shown.{IsTrueSince, Leaves, Shown, RecordsTruly, with_log_of, with_open_of, system_desk_view, writes_to_output, writes_to_output_after_open};
 ghost use Rattle.avr_desk.specs.OpenFile.{OpenFileGives, OpenFileGivesNothing, IsClosed};
 ghost use Rattle.avr_desk.specs.Stream.{IsWrite};
 ghost use Rattle.avr_desk.specs.declared.desk.DeskFault.TheVariants.{Failed};
@@ -129,9 +129,8 @@ fn write_through<W: Outlet>(
 ) -> io::Result<usize>
     ensures bound { IfOk result (λ n. n ≤ length bytes.now) }
     ensures some { IfOk result (λ n. n ≡ 0 → bytes.now ≡ []) }
-    ensures taken { RecordsTruly stream bytes.now (W.contents to.old) (W.contents to.new) journal.old.kept
-        journal.new.kept result }
-    ensures out { OnOk result (W.is_flushed to.new) }
+    ensures taken { RecordsTruly stream bytes.now (W.contents to.old) (W.contents to.new) (W.is_flushed to.new)
+        journal.old.kept journal.new.kept result }
 {
     let count = write_some(to, bytes)?;
     *journal = journal.then(&Call::Sent(stream, bytes, count));
@@ -140,11 +139,11 @@ fn write_through<W: Outlet>(
 }
 
 /// Counts a failure, keeps its error kind, and returns its fault.
-fn fail(failures: &mut u64, last: &mut Option<ErrorKind>, error: &io::Error) -> DeskFault
+fn fail(failures: &mut u64, last: &mut Option<ErrorKind>, error: io::Error) -> DeskFault
     ensures fault { result ≡ Failed }
     ensures rises { failures.old ≤ failures.new }
     ensures counts { OneFailureCounted failures.old failures.new }
-    ensures kind { last.new ≡ Some (error_kind error.now) }
+    ensures kind { last.new ≡ Some (error_kind error) }
 {
     *failures = failures.saturating_add(1);
     *last = Some(error.kind());
@@ -199,9 +198,8 @@ impl<R: FileSystem + Drop, O: Outlet + Drop, E: Outlet + Drop> Desk for SystemDe
     fn open(&mut self, name: &str) -> Result<(), DeskFault>
         ensures kept { self.new.kept ≡ after_open name.now result self.old.kept }
         ensures counts { CountsFailure File (system_desk_view self.old) (system_desk_view self.new) result }
-        ensures quiet { self.new ≡ record (with_open_of self.old self.new) { system = self.new.system } }
-        ensures goes { writes_to_output self.new ≡ writes_to_output_after_open result (writes_to_output self.old) }
-        ensures error { KeepsLastError self.old.last_error self.new.last_error result }
+        ensures quiet { Leaves (record (with_open_of self.old self.new) { system = self.new.system })
+            (writes_to_output_after_open result (writes_to_output self.old)) self.old self.new result }
         ensures stays { Preserves ⟦<Self as Desk>⟧.started_as self.old self.new }
     {
         let call = Call::Opened(name.as_bytes());
@@ -221,7 +219,7 @@ impl<R: FileSystem + Drop, O: Outlet + Drop, E: Outlet + Drop> Desk for SystemDe
                 open_next(&mut self.system, &mut self.opened, &mut self.journal, next);
                 Err(DeskFault::NotFound)
             }
-            Err(error) => Err(fail(&mut self.failures, &mut self.last_error, &error)),
+            Err(error) => Err(fail(&mut self.failures, &mut self.last_error, error)),
         }
     }
 
@@ -229,10 +227,8 @@ impl<R: FileSystem + Drop, O: Outlet + Drop, E: Outlet + Drop> Desk for SystemDe
         ensures kept { self.new.kept ≡ after_create name.now result self.old.kept }
         ensures call { IsCall system_desk_view ⟦<Self as Desk>⟧.started_as
             (CountsFailure File) self.old self.new result }
-        ensures quiet { self.new ≡ record (with_open_of self.old self.new) { system = self.new.system } }
-        ensures goes { writes_to_output self.new
-            ≡ (if is_ok result then is_dash name.now else writes_to_output self.old) }
-        ensures error { KeepsLastError self.old.last_error self.new.last_error result }
+        ensures quiet { Leaves (record (with_open_of self.old self.new) { system = self.new.system })
+            (if is_ok result then is_dash name.now else writes_to_output self.old) self.old self.new result }
     {
         let call = Call::Created(name.as_bytes());
         if name == "-" {
@@ -246,7 +242,7 @@ impl<R: FileSystem + Drop, O: Outlet + Drop, E: Outlet + Drop> Desk for SystemDe
                 open_next(&mut self.system, &mut self.opened, &mut self.journal, next);
                 Ok(())
             }
-            Err(error) => Err(fail(&mut self.failures, &mut self.last_error, &error)),
+            Err(error) => Err(fail(&mut self.failures, &mut self.last_error, error)),
         }
     }
 
@@ -256,16 +252,14 @@ impl<R: FileSystem + Drop, O: Outlet + Drop, E: Outlet + Drop> Desk for SystemDe
         ensures has_file { HasOpen is_to_read (system_desk_view self.old) result }
         ensures call { IsCall system_desk_view ⟦<Self as Desk>⟧.started_as
             (CountsFailure File) self.old self.new result }
-        ensures quiet { self.new ≡ with_open_of self.old self.new }
-        ensures goes { writes_to_output self.new ≡ writes_to_output self.old }
-        ensures error { KeepsLastError self.old.last_error self.new.last_error result }
+        ensures quiet { Leaves (with_open_of self.old self.new) (writes_to_output self.old) self.old self.new result }
     {
         match read_opened(&mut self.opened, buf) {
             Ok(count) => {
                 self.journal = self.journal.then(&Call::Read(&*buf, count));
                 Ok(count)
             }
-            Err(error) => Err(fail(&mut self.failures, &mut self.last_error, &error)),
+            Err(error) => Err(fail(&mut self.failures, &mut self.last_error, error)),
         }
     }
 
@@ -273,12 +267,10 @@ impl<R: FileSystem + Drop, O: Outlet + Drop, E: Outlet + Drop> Desk for SystemDe
         ensures write { IsWrite system_desk_view ⟦<Self as Desk>⟧.started_as File bytes.now self.old self.new result }
         ensures has_file { HasOpen is_to_write (system_desk_view self.old) result }
         ensures truly { writes_to_output self.old ≡ true → RecordsTruly File bytes.now (O.contents self.old.output)
-            (O.contents self.new.output) self.old.kept self.new.kept result }
-        ensures flushed { writes_to_output self.old ≡ true → OnOk result (O.is_flushed self.new.output) }
+            (O.contents self.new.output) (O.is_flushed self.new.output) self.old.kept self.new.kept result }
         ensures elsewhere { writes_to_output self.old ≡ false → self.new.output ≡ self.old.output }
-        ensures quiet { self.new ≡ record (with_open_of self.old self.new) { output = self.new.output } }
-        ensures goes { writes_to_output self.new ≡ writes_to_output self.old }
-        ensures error { KeepsLastError self.old.last_error self.new.last_error result }
+        ensures quiet { Leaves (record (with_open_of self.old self.new) { output = self.new.output })
+            (writes_to_output self.old) self.old self.new result }
     {
         match &mut self.opened {
             OpenFile::ToWrite(file) => match write_some(file, bytes) {
@@ -286,7 +278,7 @@ impl<R: FileSystem + Drop, O: Outlet + Drop, E: Outlet + Drop> Desk for SystemDe
                     self.journal = self.journal.then(&Call::Sent(Stream::File, bytes, count));
                     Ok(count)
                 }
-                Err(error) => Err(fail(&mut self.failures, &mut self.last_error, &error)),
+                Err(error) => Err(fail(&mut self.failures, &mut self.last_error, error)),
             },
             OpenFile::Output => match write_through(
                 &mut self.output,
@@ -295,11 +287,11 @@ impl<R: FileSystem + Drop, O: Outlet + Drop, E: Outlet + Drop> Desk for SystemDe
                 &mut self.journal,
             ) {
                 Ok(count) => Ok(count),
-                Err(error) => Err(fail(&mut self.failures, &mut self.last_error, &error)),
+                Err(error) => Err(fail(&mut self.failures, &mut self.last_error, error)),
             },
             _ => {
                 let error = io::Error::from(ErrorKind::NotFound);
-                Err(fail(&mut self.failures, &mut self.last_error, &error))
+                Err(fail(&mut self.failures, &mut self.last_error, error))
             }
         }
     }
@@ -307,14 +299,13 @@ impl<R: FileSystem + Drop, O: Outlet + Drop, E: Outlet + Drop> Desk for SystemDe
     fn out(&mut self, bytes: &[u8]) -> Result<usize, DeskFault>
         ensures write { IsWrite system_desk_view ⟦<Self as Desk>⟧.started_as Output bytes.now self.old self.new result }
         ensures truly { RecordsTruly Output bytes.now (O.contents self.old.output) (O.contents self.new.output)
-            self.old.kept self.new.kept result }
-        ensures flushed { OnOk result (O.is_flushed self.new.output) }
-        ensures quiet { self.new ≡ record (with_log_of self.old self.new) { output = self.new.output } }
-        ensures error { KeepsLastError self.old.last_error self.new.last_error result }
+            (O.is_flushed self.new.output) self.old.kept self.new.kept result }
+        ensures quiet { Leaves (record (with_log_of self.old self.new) { output = self.new.output })
+            (writes_to_output self.old) self.old self.new result }
     {
         match write_through(&mut self.output, Stream::Output, bytes, &mut self.journal) {
             Ok(count) => Ok(count),
-            Err(error) => Err(fail(&mut self.failures, &mut self.last_error, &error)),
+            Err(error) => Err(fail(&mut self.failures, &mut self.last_error, error)),
         }
     }
 
@@ -322,18 +313,17 @@ impl<R: FileSystem + Drop, O: Outlet + Drop, E: Outlet + Drop> Desk for SystemDe
         ensures write { IsWrite system_desk_view ⟦<Self as Desk>⟧.started_as Messages bytes.now
             self.old self.new result }
         ensures truly { RecordsTruly Messages bytes.now (E.contents self.old.messages) (E.contents self.new.messages)
-            self.old.kept self.new.kept result }
-        ensures flushed { OnOk result (E.is_flushed self.new.messages) }
-        ensures quiet { self.new ≡ record (with_log_of self.old self.new)
-            { messages = self.new.messages; message_failures = self.new.message_failures } }
-        ensures error { KeepsLastError self.old.last_error self.new.last_error result }
+            (E.is_flushed self.new.messages) self.old.kept self.new.kept result }
+        ensures quiet { Leaves (record (with_log_of self.old self.new)
+            { messages = self.new.messages; message_failures = self.new.message_failures })
+            (writes_to_output self.old) self.old self.new result }
     {
         let journal = &mut self.journal;
         match write_through(&mut self.messages, Stream::Messages, bytes, journal) {
             Ok(count) => Ok(count),
             Err(error) => {
                 self.message_failures = self.message_failures.saturating_add(1);
-                Err(fail(&mut self.failures, &mut self.last_error, &error))
+                Err(fail(&mut self.failures, &mut self.last_error, error))
             }
         }
     }
@@ -344,9 +334,8 @@ impl<R: FileSystem + Drop, O: Outlet + Drop, E: Outlet + Drop> ChipDesk for Syst
         ensures kept { self.new.kept ≡ after_hold name.now result self.old.kept }
         ensures call { IsCall system_desk_view ⟦<Self as Desk>⟧.started_as
             (CountsFailure File) self.old self.new result }
-        ensures quiet { self.new ≡ record (with_log_of self.old self.new)
-            { system = self.new.system; hold = self.new.hold } }
-        ensures error { KeepsLastError self.old.last_error self.new.last_error result }
+        ensures quiet { Leaves (record (with_log_of self.old self.new)
+            { system = self.new.system; hold = self.new.hold }) (writes_to_output self.old) self.old self.new result }
     {
         match self.system.hold_named(name) {
             Ok(Some(hold)) => {
@@ -359,7 +348,7 @@ impl<R: FileSystem + Drop, O: Outlet + Drop, E: Outlet + Drop> ChipDesk for Syst
                 self.journal = self.journal.then(&Call::Denied(name.as_bytes()));
                 Ok(false)
             }
-            Err(error) => Err(fail(&mut self.failures, &mut self.last_error, &error)),
+            Err(error) => Err(fail(&mut self.failures, &mut self.last_error, error)),
         }
     }
 
@@ -377,10 +366,9 @@ impl<R: FileSystem + Drop, O: Outlet + Drop, E: Outlet + Drop> ChipDesk for Syst
         ensures tried { OnErr result (self.new.kept ≡ with_tried name.now bytes.now self.old.kept) }
         ensures call { IsCall system_desk_view ⟦<Self as Desk>⟧.started_as
             (CountsFailure File) self.old self.new result }
-        ensures quiet { self.new ≡ record (with_open_of self.old self.new)
-            { system = self.new.system; hold = self.new.hold } }
-        ensures goes { writes_to_output self.new ≡ (if is_ok result then false else writes_to_output self.old) }
-        ensures error { KeepsLastError self.old.last_error self.new.last_error result }
+        ensures quiet { Leaves (record (with_open_of self.old self.new)
+            { system = self.new.system; hold = self.new.hold })
+            (if is_ok result then false else writes_to_output self.old) self.old self.new result }
     {
         match replace_named(&mut self.system, &mut self.replacement, name, bytes) {
             Ok(()) => {
@@ -391,7 +379,7 @@ impl<R: FileSystem + Drop, O: Outlet + Drop, E: Outlet + Drop> ChipDesk for Syst
             }
             Err(error) => {
                 self.journal = self.journal.then(&Call::Tried(name.as_bytes(), bytes));
-                Err(fail(&mut self.failures, &mut self.last_error, &error))
+                Err(fail(&mut self.failures, &mut self.last_error, error))
             }
         }
     }

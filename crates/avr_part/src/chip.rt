@@ -199,7 +199,8 @@ impl Chip {
         usize::from(address) % self.part.size_of(Mem::Eeprom) as usize
     }
 
-    /// Returns whether LB1 is programmed. Then only a chip erase changes flash and EEPROM, and nothing the fuses.
+    /// Returns whether LB1 is programmed. Then only a chip erase changes flash and EEPROM, and nothing
+    /// changes the fuses.
     fn is_locked(&self) -> bool
         ensures { result ≡ is_locked self.now }
     {

@@ -1,4 +1,4 @@
--- The actions of a plan, in order: the only place that decides what switches and tasks lead to.
+-- The actions of a plan, in order.
 use Rattle.std.specs.Prelude.{ℕ, Bool, true, false, ◌&&◌, ◌||◌, not, List, [], ◌∷◌, ◌++◌, Option, if◌then◌else◌}
 use Rattle.std.specs.List.{list_any}
 use Rattle.avr_plan.specs.declared.settings.Switches.{Switches}

@@ -33,9 +33,8 @@ task_item (task.Write mem image) = Some (Write mem image)
 task_item (task.Verify mem image) = None
 task_item (task.Read mem format file) = None
 
--- `items` in terms of switches and tasks, without the actions. A dry run does nothing; any other run erases if an erase
--- is due, and writes the image of each write in order. Law `a_plan_writes_what_its_tasks_write` states that both are
--- equal.
+-- The items of a plan by its switches and tasks alone. A dry run has none; any other run erases if an erase is due, and
+-- writes the image of each write in order. Law `a_plan_writes_what_its_tasks_write` states that `items` is equal.
 abbrev pub asked_items : Plan → List Item
 asked_items plan = if plan.switches.dry then []
     else (if is_erase_due plan.switches plan.tasks then Erase ∷ [] else []) ++ filter_map task_item plan.tasks

@@ -37,7 +37,7 @@ restarted_programmer p = fresh_programmer (with_empty_buffers p.chip)
 abbrev pub Response : Type 0
 Response = List ℕ × Programmer
 
--- A command fails outside programming mode, and if its fields don't fit. Then it changes nothing.
+-- A command fails outside programming mode, or if its fields don't fit. Then it changes nothing.
 abbrev pub if_programming : ℕ → Programmer → Bool → Response → Response
 if_programming code p fits done =
     let failed : Response = (code ∷ 0xC0 ∷ [], p) in

@@ -65,7 +65,10 @@ command_of (code ∷ bytes) =
       | _ ↦ None
     ]
     else if code == CMD_ENTER_PROGMODE_ISP then enter_progmode_of bytes
-    else if code == CMD_LEAVE_PROGMODE_ISP then elim bytes [ x ∷ y ∷ [] ↦ Some (LeaveProgmode x y) | _ ↦ None ]
+    else if code == CMD_LEAVE_PROGMODE_ISP then elim bytes [
+      | pre ∷ post ∷ [] ↦ Some (LeaveProgmode pre post)
+      | _ ↦ None
+    ]
     else if code == CMD_CHIP_ERASE_ISP then elim bytes [
       | delay ∷ poll ∷ a ∷ b ∷ c ∷ d ∷ [] ↦ Some (ChipErase delay poll (a ∷ b ∷ c ∷ d ∷ []))
       | _ ↦ None

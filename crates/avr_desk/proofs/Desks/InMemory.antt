@@ -1,18 +1,18 @@
 -- A desk in memory: its record stays true of the files that it began with, call after call.
-use Rattle.std.proofs.Common.{◌≡◌, ◌∙◌, sym, ap, subst, refl, arith, ℕ, ◌==◌, ◌&&◌, ◌||◌, not, Bool, true, false, List, [], ◌∷◌, ◌++◌, append_assoc, append-nil, take, drop, length, Some, None, if◌then◌else◌, rules}
+use Rattle.std.proofs.Common.{◌≡◌, ◌∙◌, sym, ap, subst, refl, arith, ℕ, ◌==◌, ◌&&◌, ◌||◌, not, Bool, false, List, [], ◌∷◌, ◌++◌, append_assoc, append-nil, take, drop, length, Some, None, min, if◌then◌else◌, rules}
 use Rattle.std.proofs.Math.Seq.{drop-append_seam}
 use Rattle.std.proofs.lemmas.Bool.Decides.{nat_tests}
+use Rattle.std.proofs.lemmas.Grind.{common_steps}
 use Rattle.std.proofs.lemmas.List.{take-append-drop}
 use Rattle.ghosts.specs.Preserves.{Preserves}
-use Rattle.avr_desk.specs.Memory.{MemDeskState, Stock, stock_of, content_of_name, contents, unread_bytes}
+use Rattle.avr_desk.specs.Memory.{MemDeskState, Stock, stock_of, content_of_name, contents, updated}
 use Rattle.avr_desk.specs.Named.{bytes_given}
-use Rattle.avr_desk.specs.Record.{Bytes, Record, all_files, all_uses, files_among, noted, nothing_kept, written_on}
+use Rattle.avr_desk.specs.Record.{Bytes, all_files, all_uses, files_among, noted, nothing_kept, with_absent, with_open, with_replaced, written_on}
 use Rattle.avr_desk.proofs.FileUses.Uses.{files_used}
 use Rattle.avr_desk.specs.Truth.{IsReadPrefix, OpeningsAreTrue, HoldsTrue}
 use Rattle.avr_desk.specs.declared.record.FileUse.{FileUse}
 use Rattle.avr_desk.specs.declared.record.FileUse.TheVariants.{Opened, Created}
-use Rattle.avr_desk.specs.declared.record.Open.TheVariants.{Closed, ToRead, ToWrite}
-use Rattle.avr_desk.specs.declared.record.Opening.TheVariants.{Absent}
+use Rattle.avr_desk.specs.declared.record.Open.TheVariants.{ToRead, ToWrite}
 use Rattle.avr_desk.specs.declared.record.Reading.{Reading}
 use Rattle.avr_desk.specs.declared.record.Writing.{Writing}
 
@@ -60,67 +60,44 @@ stands : (stock : Stock) (m : MemDeskState) (name : Bytes) → HoldsTrue stock m
     → contents name m ≡ content_of_name stock (all_files m.kept) name
 stands stock m name holds = ap (λ (s : Stock). content_of_name s (all_files m.kept) name) holds.began
 
--- the record changes if memory was allocated, otherwise it stays
-changed_true : (ok : Bool) (kept : Record) (old new : MemDeskState)
-    → new ≡ (if ok then record old { kept = kept } else old)
-    → ((stock : Stock) → HoldsTrue stock old → HoldsTrue stock (record old { kept = kept }))
+pub created_true : (name : Bytes) (old new : MemDeskState)
+    → new ≡ updated (with_open (ToWrite (record { name = name; bytes = [] })) old.kept) old new
     → Preserves HoldsTrue old new
-changed_true true kept old new is done = λ stock holds. subst (HoldsTrue stock) (sym is) (done stock holds)
-changed_true false kept old new is done = λ stock holds. subst (HoldsTrue stock) (sym is) holds
+created_true name old new is = λ stock holds. subst (HoldsTrue stock) (sym is)
+    (record { began = holds.began; uses = all_true stock old holds; current = tt })
 
-pub created_true : (ok : Bool) (file : Writing) (old new : MemDeskState)
-    → new ≡ (if ok then record old { kept = record old.kept { uses = all_uses old.kept ++ []; current = ToWrite file } }
-    else old) → Preserves HoldsTrue old new
-created_true ok file old new is = changed_true ok _ old new is (λ stock holds. record {
+pub replaced_true : (name bytes : Bytes) (old new : MemDeskState)
+    → new ≡ updated (with_replaced name bytes old.kept) old new → Preserves HoldsTrue old new
+replaced_true name bytes old new is = λ stock holds. subst (HoldsTrue stock) (sym is) (record {
   began = holds.began;
-  uses = true_append stock [] (all_uses old.kept) [] (all_true stock old holds) tt;
+  uses = true_append stock [] (all_uses old.kept) _ (all_true stock old holds) tt;
   current = tt;
 })
 
--- the open file is closed, and there is one more use, which is true
-pub used_true : (ok : Bool) (last : FileUse) (old new : MemDeskState)
-    → ((stock : Stock) → HoldsTrue stock old → OpeningsAreTrue stock (files_among (all_uses old.kept)) (last ∷ []))
-    → new ≡ (if ok then record old
-    { kept = record old.kept { uses = all_uses old.kept ++ last ∷ []; current = Closed } } else old)
+pub absent_true : (name : Bytes) (old new : MemDeskState) → contents name old ≡ None
+    → new ≡ record (updated (with_absent name old.kept) old new) { opened = new.opened }
     → Preserves HoldsTrue old new
-used_true ok last old new true_then is = changed_true ok _ old new is (λ stock holds. record {
+absent_true name old new none is = λ stock holds. subst (HoldsTrue stock) (sym is) (record {
   began = holds.began;
-  uses = true_append stock [] (all_uses old.kept) (last ∷ []) (all_true stock old holds) (true_then stock holds);
+  uses = true_append stock [] (all_uses old.kept) _ (all_true stock old holds) (
+    ap (λ fs. content_of_name stock fs name) (files_used old.kept) ∙ sym (stands stock old name holds) ∙ none,
+    tt,
+  );
   current = tt;
 })
-
-pub absent_true : (ok : Bool) (name own : Bytes) (old new : MemDeskState) → own ≡ name → None ≡ contents name old
-    → new ≡ (if ok then record old
-    { kept = record old.kept { uses = all_uses old.kept ++ Opened (Absent own) ∷ []; current = Closed } } else old)
-    → Preserves HoldsTrue old new
-absent_true ok name own old new same none is = used_true ok (Opened (Absent own)) old new (λ stock holds. (
-  ap (λ fs. content_of_name stock fs own) (files_used old.kept)
-      ∙ ap (content_of_name stock (all_files old.kept)) same ∙ sym (stands stock old name holds) ∙ sym none,
-  tt,
-)) is
 
 -- a file with these bytes is opened
-pub opened_true : (ok : Bool) (name own bytes first : Bytes) (old closed new : MemDeskState) → ok ≡ true → own ≡ name
-    → first ≡ [] → Some bytes ≡ contents name old → closed ≡ (if ok then record old {
-      kept = record old.kept {
-        uses = all_uses old.kept ++ [];
-        current = ToRead (record { name = own; bytes = first; ended = false });
-      };
-    } else old)
-    → new ≡ record closed { opened = bytes } → Preserves HoldsTrue old new
-opened_true true name own bytes first old closed new ok same none there is has = λ stock holds.
-    subst (HoldsTrue stock) (sym (has ∙ ap (λ (m : MemDeskState). record m { opened = bytes }) is)) (record {
-      began = holds.began;
-      uses = true_append stock [] (all_uses old.kept) [] (all_true stock old holds) tt;
-      current = (
-        ap (λ (us : List FileUse). content_of_name stock (files_among us) own) (append-nil (all_uses old.kept))
-            ∙ ap (λ fs. content_of_name stock fs own) (files_used old.kept)
-            ∙ ap (content_of_name stock (all_files old.kept)) same ∙ sym (stands stock old name holds) ∙ sym there,
-        subst (λ b. IsReadPrefix (Some bytes) b false) (sym none)
-            (record { unread = bytes; whole = refl; ends = λ e. absurd (cc) }),
-      );
-    })
-opened_true false name own bytes first old closed new ok same none there is has = absurd (cc)
+pub opened_true : (name : Bytes) (old new : MemDeskState) → contents name old ≡ Some new.opened
+    → new ≡ record (updated (with_open (ToRead (record { name = name; bytes = []; ended = false })) old.kept) old new)
+    { opened = new.opened } → Preserves HoldsTrue old new
+opened_true name old new there is = λ stock holds. subst (HoldsTrue stock) (sym is) (record {
+  began = holds.began;
+  uses = all_true stock old holds;
+  current = (
+    ap (λ fs. content_of_name stock fs name) (files_used old.kept) ∙ sym (stands stock old name holds) ∙ there,
+    record { unread = new.opened; whole = refl; ends = λ e. absurd (cc) },
+  );
+})
 
 -- the state that a desk shows is the one inside
 pub from_inside : (inside now new : MemDeskState) → inside ≡ now → Preserves HoldsTrue inside new
@@ -128,20 +105,19 @@ pub from_inside : (inside now new : MemDeskState) → inside ≡ now → Preserv
 from_inside inside now new is stays = λ stock holds. stays stock (subst (HoldsTrue stock) (sym is) holds)
 
 -- bytes of the open file are read, or its end is seen, which needs room in the buffer
-module _ (old new : MemDeskState) (ends : Bool) (n room : ℕ) (whole gave next piece : Bytes)
-    (whole_is : whole ≡ old.opened) (gave_is : gave ≡ bytes_given old.kept.current)
-    (next_is : next ≡ take room (drop (length gave) whole)) (count : n ≡ length next) (took : piece ≡ next)
-    (ended : ends ≡ (n == 0 && not (room == 0))) (input : new.input ≡ old.input) (stored : new.stored ≡ old.stored)
-    (opened : new.opened ≡ old.opened) where
-  given : next ≡ take room (unread_bytes old)
-  given = grind (arith, nat_tests)
-
+module _ (old new : MemDeskState) (ends : Bool) (n room : ℕ) (whole gave piece : Bytes) (whole_is : whole ≡ old.opened)
+    (gave_is : gave ≡ bytes_given old.kept.current) (count : n ≡ min room (length (drop (length gave) whole)))
+    (took : piece ≡ take n (drop (length gave) whole)) (ended : ends ≡ (n == 0 && not (room == 0)))
+    (input : new.input ≡ old.input) (stored : new.stored ≡ old.stored) (opened : new.opened ≡ old.opened) where
   prefix_on : (x : Reading) → bytes_given old.kept.current ≡ x.bytes → IsReadPrefix (Some old.opened) x.bytes x.ended
       → IsReadPrefix (Some old.opened) (x.bytes ++ piece) (x.ended || ends)
   prefix_on x given_is is =
-      let rest : unread_bytes old ≡ is.unread = search (rules, drop-append_seam) in
-      record
-      { unread = drop room is.unread; whole = search (rules, take-append-drop, append_assoc); ends = search rules }
+      let rest : drop (length gave) whole ≡ is.unread = search (rules, drop-append_seam) in
+      record {
+        unread = drop n is.unread;
+        whole = search (rules, take-append-drop, append_assoc);
+        ends = grind (arith, nat_tests, common_steps);
+      }
 
   pub read_true : (ok : Bool) → new.kept.uses ≡ old.kept.uses
       → new.kept.current ≡ (if ok then noted piece ends old.kept.current else old.kept.current) → new.opened

@@ -1,4 +1,4 @@
-use Rattle.std.proofs.Common.{◌∙◌, ap, sym, ℕ, List, [], ◌++◌, append_assoc, take, get_or}
+use Rattle.std.proofs.Common.{◌∙◌, ap, sym, ℕ, List, [], ◌++◌, append_assoc, take, get_or, rules}
 use Rattle.std.proofs.lemmas.Result.{err_from_is_err_and}
 use Rattle.avr_desk.specs.Lines.{text_of}
 use Rattle.avr_desk.specs.declared.line.Piece.{Piece}
@@ -14,14 +14,17 @@ loop-piece-preserved c =
     let mark = c.args.mark.now in
     let it = text_of (get_or ps i d) in
     record {
-      so_far = c.in_ok-add_piece.ensures.added ∙ ap (λ (b : List ℕ). b ++ it) c.loop-piece.invariant.so_far
+      so_far = c.in_ok-try_extend_from_slice-2.ensures.ok
+          ∙ ap (λ (b : List ℕ). c.loop-piece.line.items ++ b) c.text.ensures
+          ∙ ap (λ (b : List ℕ). b ++ it) c.loop-piece.invariant.so_far
           ∙ append_assoc mark (all_text (take i ps)) it
           ∙ ap (λ (b : List ℕ). mark ++ b) (sym (all_text_more ps i d c.loop-piece-test.true));
     }
 
-pub returns-in_err-add_piece-clause-long : goal.returns-in_err-add_piece-clause-long
-returns-in_err-add_piece-clause-long c =
+pub returns-in_err-try_extend_from_slice-2-clause-long : goal.returns-in_err-try_extend_from_slice-2-clause-long
+returns-in_err-try_extend_from_slice-2-clause-long c =
     let d : Piece = Text (record { ref_ptr = (0, 0); now = [] }) in
-    let p = err_from_is_err_and c.from_residual-in_err-add_piece.result c.from_residual-in_err-add_piece.ensures.1 in
+    let p = err_from_is_err_and c.from_residual-in_err-try_extend_from_slice-2.result
+    c.from_residual-in_err-try_extend_from_slice-2.ensures.1 in
     rw p.1 (line_longer c.args.mark.now _ c.args.pieces.now c.loop-piece.piece-index d _ c.loop-piece-test.true
-    c.loop-piece.invariant.so_far c.in_err-add_piece.ensures.full)
+    c.loop-piece.invariant.so_far (search rules))

@@ -24,23 +24,24 @@ loop-piece-preserved g c =
     let mark = c.args.mark.now in
     record {
       sent = sent_next Messages _ _ _ (mark ++ all_text (take i ps)) (text_of (get_or ps i d))
-          c.loop-piece.invariant.sent c.in_ok-write_piece.ensures.printed ∙ ap (λ (b : List ℕ). after_err b
-          (g.D.Desk.view c.args.desk.now).kept) (append_assoc mark (all_text (take i ps)) _
+          c.loop-piece.invariant.sent (rw (← c.text.ensures) c.in_ok-write_all-2.ensures.all)
+          ∙ ap (λ (b : List ℕ). after_err b (g.D.Desk.view c.args.desk.now).kept)
+          (append_assoc mark (all_text (take i ps)) _
           ∙ ap (λ (b : List ℕ). mark ++ b) (sym (all_text_more ps i d c.loop-piece-test.true)));
       counted = (
-        c.in_ok-write_piece.ensures.call.counts.1.0 ∙ c.loop-piece.invariant.counted.0,
-        c.in_ok-write_piece.ensures.call.counts.1.1 ∙ c.loop-piece.invariant.counted.1,
+        c.in_ok-write_all-2.ensures.call.counts.1.0 ∙ c.loop-piece.invariant.counted.0,
+        c.in_ok-write_all-2.ensures.call.counts.1.1 ∙ c.loop-piece.invariant.counted.1,
       );
-      stays = λ start of. c.in_ok-write_piece.ensures.call.stays start (c.loop-piece.invariant.stays start of);
+      stays = λ start of. c.in_ok-write_all-2.ensures.call.stays start (c.loop-piece.invariant.stays start of);
     }
 
-pub returns-in_err-write_piece-clause-printed : goal.returns-in_err-write_piece-clause-printed
-returns-in_err-write_piece-clause-printed g c =
+pub returns-in_err-write_all-2-clause-printed : goal.returns-in_err-write_all-2-clause-printed
+returns-in_err-write_all-2-clause-printed g c =
     let d : Piece = Text (record { ref_ptr = (0, 0); now = [] }) in
-    let p = err_from_is_err_and c.from_residual-in_err-write_piece.result
-    c.from_residual-in_err-write_piece.ensures.1 in
+    let p = err_from_is_err_and c.from_residual-in_err-write_all-2.result
+    c.from_residual-in_err-write_all-2.ensures.1 in
     rw p.1 (line_breaks _ _ _ c.args.mark.now c.args.pieces.now c.loop-piece.piece-index d c.loop-piece-test.true
-    c.loop-piece.invariant.sent c.in_err-write_piece.ensures.printed)
+    c.loop-piece.invariant.sent (rw (← c.text.ensures) c.in_err-write_all-2.ensures.part))
 
 pub returns-clause-printed : goal.returns-clause-printed
 returns-clause-printed g c =

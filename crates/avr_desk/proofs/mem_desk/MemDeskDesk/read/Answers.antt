@@ -1,5 +1,4 @@
 use Rattle.std.proofs.Common.{refl, rules}
-use Rattle.std.proofs.Math.Seq.{take-append_seam}
 use Rattle.avr_desk.proofs.Desks.InMemory.{from_inside, read_true}
 use Rattle.avr_desk.proofs.mem_desk.MemDeskDesk.read.Goals as goal
 
@@ -8,7 +7,6 @@ returns-clause-call c = record {
   counts = search rules;
   fault = search rules;
   stays = from_inside _ _ _ c.self.view_is
-      (read_true _ _ _ _ _ _ _ _ _ c.as_slice.ensures c.given.ensures c.next_bytes-next.ensures
-      refl (search (rules, take-append_seam, c.copy_from_slice.ensures)) c.is_end-ends.ensures refl refl refl _
-      refl c.read_on.ensures refl);
+      (read_true _ _ _ _ _ _ _ _ c.as_slice.ensures c.given.ensures c.copy_next-count.ensures.count
+      c.copy_next-count.ensures.gives c.is_end-ends.ensures refl refl refl _ refl c.read_on.ensures refl);
 }

@@ -18,13 +18,13 @@ returns-in-Ok-clause-stays g c = from_inside _ _ _ _ _ _ c.self.view_is
 pub returns-in-Err-clause-stays : goal.returns-in-Err-clause-stays
 returns-in-Err-clause-stays g c = from_inside _ _ _ _ _ _ c.self.view_is
     (absent_true _ _ _ _ _ _ _ c.as_ref.ensures.value c.open_next-in-Err.ensures.opened c.as_bytes-in-Err.ensures.value
-    (λ only. c.in-Err.ensures.absent only (search rules)) c.open_next-in-Err.ensures.noted
-    c.open_next-in-Err.ensures.closed c.in-Err.ensures.fails c.open_next-in-Err.ensures.stays.done
+    (λ only. c.in-Err.ensures.named only (search rules)) c.open_next-in-Err.ensures.noted
+    c.open_next-in-Err.ensures.closed c.in-Err.ensures.opens c.open_next-in-Err.ensures.stays.done
     c.open_named.ensures.keeps c.open_next-in-Err.ensures.stays.kept)
 
 pub returns-in-Err-2-clause-stays : goal.returns-in-Err-2-clause-stays
 returns-in-Err-2-clause-stays g c = from_inside _ _ _ _ _ _ c.self.view_is
-    (failed_true _ _ _ _ _ _ _ c.as_ref.ensures.value c.in-Err-2.ensures.fails (λ only. c.open_named.ensures.keeps))
+    (failed_true _ _ _ _ _ _ _ c.as_ref.ensures.value c.in-Err-2.ensures.opens (λ only. c.open_named.ensures.keeps))
 
 pub returns-then-eq-clause-counts : goal.returns-then-eq-clause-counts
 returns-then-eq-clause-counts g c = search rules

@@ -11,5 +11,5 @@ returns-in-Err-clause-write g c =
 pub returns-in-Ok-clause-write : goal.returns-in-Ok-clause-write
 returns-in-Ok-clause-write g c =
     let took = c.in-Ok.ensures.taken in
-    is_write (search rules) (rw (← c.self.view_is) took.0) (search rules) (search rules)
-    (from_inside _ _ _ _ _ _ c.self.view_is (out_true _ _ _ _ _ _ _ took.0 took.1))
+    is_write (search rules) (rw (← c.self.view_is) took.0.0) (search rules) (search rules)
+    (from_inside _ _ _ _ _ _ c.self.view_is (out_true _ _ _ _ _ _ _ took.0.0 took.0.1))

@@ -5,8 +5,8 @@ use Rattle.avr_desk.proofs.system.SystemDeskDesk.write.Goals as goal
 pub returns-in-Ok-write_through-clause-write : goal.returns-in-Ok-write_through-clause-write
 returns-in-Ok-write_through-clause-write g c =
     let took = c.in-Ok-write_through.ensures.taken in
-    is_write (search rules) (rw (← c.self.view_is) took.0) (search rules) (search rules)
-    (from_inside _ _ _ _ _ _ c.self.view_is (write_out_true _ _ _ _ _ _ _ c.in-Output.is took.0))
+    is_write (search rules) (rw (← c.self.view_is) took.0.0) (search rules) (search rules)
+    (from_inside _ _ _ _ _ _ c.self.view_is (write_out_true _ _ _ _ _ _ _ c.in-Output.is took.0.0))
 
 pub returns-in-Err-write_through-clause-write : goal.returns-in-Err-write_through-clause-write
 returns-in-Err-write_through-clause-write g c =
