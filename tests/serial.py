@@ -62,7 +62,7 @@ class Board:
     """An emulated programmer behind a pseudo terminal, like a board that resets when its device is opened. It ignores
     the bytes of its first `deaf` seconds, and all later ones if none came until second `gone`. With `talk` it has no
     programmer and sends this text all the time. The device disappears after `vanish` replies. `answer` changes the
-    bytes of each reply."""
+    bytes of each reply. With `stopped` somebody else says that no run will open the device any more."""
 
     def __init__(self, deaf=0.0, gone=None, part="m328p", talk=None, vanish=None, answer=None, words=(), **more):
         chip, server, ends, stopped = (more.get(it) for it in ("chip", "server", "ends", "stopped"))
@@ -506,6 +506,7 @@ class Boards:
         self.thread.start()
 
     def renew(self):
+        """Gives the name to a new pseudo terminal, in one step."""
         self.ends, link = terminal(), room.folder / f"{self.device.name}.next"
         link.symlink_to(self.ends[1])
         link.replace(self.device)
