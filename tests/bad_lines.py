@@ -1,6 +1,6 @@
 #!/usr/bin/env python3
-"""Makes 150 runs of the built program against a served programmer, over links that lose, cut, delay or change frames.
-The random generators have fixed seeds.
+"""Makes 150 runs of the built program against a served programmer, over links that lose, cut, delay or change frames,
+and some 3,000 in which the programmer restarts once. The random generators have fixed seeds.
 
 Not proved: No theorem says that sockets between two processes are such a link, or how often a run over them succeeds.
 
@@ -10,19 +10,22 @@ Not proved: No theorem says that sockets between two processes are such a link, 
     stalls         in 5 % of the exchanges a frame or its rest comes late: just before the next frame of that direction
     lags           from some exchange on, each reply comes late: most runs end there
     losses of N %  1, 5 and 20 % of the exchanges fail: a frame is lost, changed or late
+    restarts       after each frame of 200 plans in turn the programmer restarts, and nothing else goes wrong
 
 Each run is checked against what is proved of a link that forges no frame. With status 0 the chip has what was written,
 and the messages are those of `emu:`. With any status the chip is the result of a prefix of the plan's writes: the
 erase, pages of flash in order, pages of EEPROM, the fuse. The messages before an error are a prefix of those of `emu:`.
-A run in which changed bytes became a valid frame by chance is counted apart, and its chip isn't judged."""
+A run in which changed bytes became a valid frame by chance is counted apart, and its chip isn't judged. If a programmer
+restarts, a run over its link ends with status 0 only if nothing but to sign on had been sent, or nothing but to leave
+was left to send."""
 
 import random
 import sys
 from concurrent.futures import ThreadPoolExecutor
 from dataclasses import dataclass
 
-from cases import named, run_cases, same, see
-from line import Link, frame_size, frames_of
+from cases import named, run_cases, same, sampled, see
+from line import BadLine, Link, frame_size, frames_of
 from program import CHIP_FILE, Room, Server, xor
 
 AT_ONCE = 24
@@ -211,6 +214,90 @@ def runs_over(name, kind):
     print(f"{name}: {good} of {kind.count} runs succeeded; in {forged} runs changed bytes became a valid frame", flush=True)
 
 
+# a part so small that few frames read all of it
+SMALL = b"""[parts.small]
+signature = "1E9007"
+flash_size = 256
+flash_page = 32
+eeprom_size = 16
+eeprom_page = 4
+eesave_bit = 3
+"""
+MEMORIES = {"flash": slice(0, 256), "eeprom": slice(256, 272), "lfuse": slice(272, 273)}
+# the part of its chip that an erase makes FF, if EESAVE is 1
+ERASED = 272
+
+
+def words_of(flash):
+    """Returns flash without the words of FF at its end."""
+    held = bytes(flash).rstrip(b"\xff")
+    return held + b"\xff" * (len(held) % 2)
+
+
+class SmallPlan:
+    """A plan that is drawn for the small part: it writes, compares and reads memories. `given` has its files, `read` the
+    files that it reads, and `chip` and `left` the chip before and after it."""
+
+    def __init__(self, seed):
+        draw = random.Random(f"small plan {seed}")
+        switch = draw.choice([[], [], [], ["-V"], ["-n"], ["-e"]])
+        drawn = [(draw.choice([*MEMORIES]), draw.choice("wwvr")) for _ in range(draw.randint(1, 4))]
+        self.chip, self.given, self.read = draw.randbytes(ERASED) + b"\x62\xd9\xff\xff", {"small.toml": SMALL}, {}
+        self.words, left, is_dry = ["-p", "small", "--parts", "small.toml", *switch], bytearray(self.chip), "-n" in switch
+        if not is_dry and ("-e" in switch or ("flash", "w") in drawn):
+            left[:ERASED] = b"\xff" * ERASED
+        for number, (memory, operation) in enumerate(drawn):
+            place, name = MEMORIES[memory], f"{number}.bin"
+            if operation == "w" and memory == "flash" and "flash:w" in " ".join(self.words):
+                # (flash that was written takes no other bytes without an erase)
+                operation = "v"
+            if operation == "r":
+                self.read[name] = words_of(left[place]) if memory == "flash" else bytes(left[place])
+            else:
+                size = draw.randint(1, place.stop - place.start)
+                # no image ends with FF, because FF at the end of a flash image is cut off
+                image = draw.randbytes(size - 1) + b"\x00" if operation == "w" else bytes(left[place])[:size]
+                if operation == "w" and not is_dry:
+                    left[place.start : place.start + size] = image
+                self.given[name] = image
+            self.words += ["-U", f"{memory}:{operation}:{name}:r"]
+        self.left = bytes(left)
+
+    def run(self, fates):
+        """Makes a run over a link with these fates. Returns its status and lines, the chip and the files that it read, and
+        the number of frames."""
+        room = Room()
+        for name, content in (self.given | {"served.bin": self.chip}).items():
+            room.put(name, content)
+        link = BadLine(room, fates, "small", ["--parts", "small.toml"])
+        status, _, messages = room.run([*self.words, "-P", f"net:127.0.0.1:{link.port}"])
+        sent = link.end()
+        return status, messages.splitlines(), room.read("served.bin"), {it: room.read(it) for it in self.read}, len(sent)
+
+
+def restarts():
+    """The programmer restarts after each frame of a plan in turn, also after its reply to the last one."""
+    plans = [SmallPlan(it) for it in range(200)]
+    with ThreadPoolExecutor(AT_ONCE) as pool:
+        good = list(pool.map(lambda plan: plan.run({}), plans))
+        for number, (plan, found) in enumerate(zip(plans, good)):
+            wanted = (0, found[1], plan.left, plan.read, found[4])
+            same(f"plan {number}, {plan.words}: without a restart", found, wanted)
+        tried = [(plan, it, found) for plan, found in zip(plans, good) for it in range(1, found[4] + 1)]
+        tried = sampled("restarts", 150, tried)
+        found = list(pool.map(lambda it: it[0].run({it[1]: "restart"}), tried))
+    for (plan, at, good), (status, told, *held, _) in zip(tried, found):
+        name = f"{plan.words}: a restart after frame {at} of {good[4]}"
+        if status == 0:
+            same(name, (told, *held), good[1:4])
+            see(f"{name}: status 0", at in (1, good[4] - 1, good[4]))
+        else:
+            see(name, status == 1 and told[:-1] == good[1][: len(told) - 1], told)
+    ended_well = sum(it[0] == 0 for it in found)
+    see("some runs with a restart succeed, and some don't", 0 < ended_well < len(found), ended_well)
+    print(f"restarts: {ended_well} of {len(found)} runs succeeded", flush=True)
+
+
 def as_many_succeed():
     """Checks how many runs over links that cut frames, stall or lag succeeded. On a busy machine a pause can spoil
     some."""
@@ -222,7 +309,7 @@ def as_many_succeed():
 
 
 SUCCEEDED = {}
-CASES = {name: lambda it=(name, kind): runs_over(*it) for name, kind in KINDS.items()} | named(as_many_succeed)
+CASES = {name: lambda it=(name, kind): runs_over(*it) for name, kind in KINDS.items()} | named(restarts, as_many_succeed)
 
 if __name__ == "__main__":
     sys.exit(run_cases(CASES, __doc__, timed=["as_many_succeed"]))

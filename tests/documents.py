@@ -72,12 +72,12 @@ def the_hint():
 # the conditions of the promise, as docs/PROOFS has them
 CONDITIONS = (
     "every valid frame that arrives was sent by the other side in this run", "no command arrives twice or out of order",
-    "no reply comes 256 or more frames late", "of the part that `-p` names", "during the run",
+    "no reply comes 256 or more frames late", "of the part that `-p` names", "the programmer may restart",
 )
 
 
 def the_conditions():
-    """Each document that states the promise states all of its conditions, in the same words."""
+    """Each document that states the promise states all of its conditions, and what needs none, in the same words."""
     for page in sorted([TOP / "README.md", *TOP.glob("docs/*.md"), *TOP.glob("crates/*/README.md")]):
         words = " ".join(page.read_text().split()).lower()
         if CONDITIONS[0] in words or page.name in ("PROOFS.md", "TROUBLESHOOTING.md", "WHY.md") or page == TOP / "README.md":

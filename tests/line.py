@@ -117,16 +117,28 @@ class FrontOfReplies(Peer):
 
 class BadLine(Link):
     """A link to a programmer that the tool serves. `fates` maps frame numbers, from 1, to what goes wrong: a `lost
-    command` never arrives, a `lost answer` drops the reply, and a `late answer` sends it just before the next reply."""
+    command` never arrives, a `lost answer` drops the reply, and a `late answer` sends it just before the next reply. At
+    a `restart` the programmer restarts after its reply: it ends, and is served again with the chip that it saved."""
 
-    def __init__(self, room, fates, part="m328p"):
-        self.fates = fates
-        super().__init__(Server(room, part=part))
+    def __init__(self, room, fates, part="m328p", words=()):
+        self.fates, self.served_again = fates, lambda: Server(room, part=part, words=words)
+        super().__init__(self.served_again())
 
     def serve(self, caller):
+        frames = frames_of(caller)
+        try:
+            while self.restarts(frames, caller):
+                self.server.end()
+                self.server = self.served_again()
+        except BrokenPipeError:
+            # (the caller has gone, and its last attempts were replied to late)
+            pass
+
+    def restarts(self, frames, caller):
+        """Brings frames to the programmer, and its replies to the caller. Returns whether the programmer restarts."""
         with self.server.call() as programmer:
             answers, late = frames_of(programmer), b""
-            for frame in frames_of(caller):
+            for frame in frames:
                 self.heard.append(frame)
                 fate = self.fates.get(len(self.heard), "good")
                 if fate == "lost command":
@@ -138,3 +150,6 @@ class BadLine(Link):
                 elif fate != "lost answer":
                     caller.sendall(late + answer)
                     late = b""
+                if fate == "restart":
+                    return True
+        return False

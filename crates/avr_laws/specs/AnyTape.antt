@@ -6,7 +6,7 @@ use Rattle.stk_frame.specs.Cut.{frames, is_good}
 use Rattle.stk_host.specs.Tape.{Tape, Reading, Replied, Silent, Ended, Babbled, answer}
 use Rattle.stk_host.specs.Dialog.{Dialog, Done, Emit, Ask, played, next, frames_in, outputs}
 use Rattle.stk_emu.specs.Device.{Device, after_frame, after_frames, refusal}
-use Rattle.stk_emu.specs.Exchange.{Execution, NotExecuted, Executed, ThenRestarted, after_execution, Exchange, AsIntended, Disturbed, Refusal, NoReply, Babble, Ending}
+use Rattle.stk_emu.specs.Exchange.{Execution, NotExecuted, Executed, ThenRestarted, after_execution, Exchange, AsIntended, Disturbed, ThenRestarts, Refusal, NoReply, Babble, Ending}
 use Rattle.stk_emu.specs.DialogOverExchanges.{state_after, outputs_after}
 use Rattle.avr_tool.specs.Authentic.{first_execution, later_executions}
 
@@ -20,8 +20,9 @@ after_sent_frames m (piece ∷ sent) executions p =
 -- The exchange of a command with a reply. The reply to a command that was executed is its own, unless it is the
 -- refusal.
 abbrev pub exchange_with_reply : Execution → List ℕ → Exchange
+exchange_with_reply NotExecuted body = Disturbed NotExecuted Refusal
 exchange_with_reply Executed body = if bytes_eq body refusal then Disturbed Executed Refusal else AsIntended
-exchange_with_reply execution body = Disturbed execution Refusal
+exchange_with_reply (ThenRestarted execution) body = ThenRestarts (exchange_with_reply execution body)
 
 -- The exchange of a command, by what happened to it and what was read.
 abbrev pub exchange_by : Execution → Reading → Exchange

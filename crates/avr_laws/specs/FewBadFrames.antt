@@ -1,6 +1,6 @@
 -- A link on which few frames go wrong.
 use Rattle.std.specs.Prelude.{ℕ, zero, suc, ◌+◌, ◌≤◌, List, [], ◌∷◌}
-use Rattle.stk_emu.specs.Exchange.{Exchange, Execution, NotExecuted, Executed, ThenRestarted, OtherReading, Refusal, NoReply, Babble, Ending, AsIntended, Disturbed, first_exchange, later_exchanges}
+use Rattle.stk_emu.specs.Exchange.{Exchange, Execution, NotExecuted, Executed, ThenRestarted, OtherReading, Refusal, NoReply, Babble, Ending, AsIntended, Disturbed, ThenRestarts, first_exchange, later_exchanges}
 
 -- For how many bad frames a command that goes wrong counts. A restart of the programmer or the end of the link counts
 -- 4, because no attempt can succeed after it.
@@ -19,6 +19,7 @@ badness_of_reading Ending = 3
 abbrev pub badness : Exchange → ℕ
 badness AsIntended = 0
 badness (Disturbed execution instead) = badness_of_execution execution + badness_of_reading instead
+badness (ThenRestarts one_exchange) = 4
 
 -- How many of the first `n` frames go wrong, so counted.
 abbrev pub badness_of_first : ℕ → List Exchange → ℕ

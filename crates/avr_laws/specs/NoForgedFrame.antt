@@ -8,11 +8,11 @@ use Rattle.stk_emu.specs.Device.{Device, refusal}
 use Rattle.stk_emu.specs.Exchange.{Execution, NotExecuted, Executed, ThenRestarted, after_execution}
 use Rattle.avr_tool.specs.Authentic.{first_execution, later_executions, on_reading}
 
--- The frame of the reply to a command; nothing if it wasn't executed, or if the programmer restarted after it.
+-- The frame of the reply to a command, also if the programmer restarted since; nothing if it wasn't executed.
 abbrev pub frame_of_reply : {P : Type 0} → Device P → ℕ → List ℕ → P → Execution → List ℕ
 frame_of_reply m n bytes p NotExecuted = []
 frame_of_reply m n bytes p Executed = frame n (m.reply bytes p)
-frame_of_reply m n bytes p (ThenRestarted execution) = []
+frame_of_reply m n bytes p (ThenRestarted execution) = frame_of_reply m n bytes p execution
 
 -- The piece is one of the first `k` of these.
 abbrev pub IsAmongFirst : ℕ → List (List ℕ) → List ℕ → Type 0

@@ -30,9 +30,25 @@ after_commands m zero commands p = p
 after_commands m (suc i) [] p = p
 after_commands m (suc i) (command ∷ commands) p = after_commands m i commands (m.after (body command) p)
 
+-- A command that brings no data and changes nothing.
+pub record FailsAt {P : Type 0} (m : Device P) (command : Command) (p : P) : Type 0 where
+  pub none : (bytes : List ℕ) → reply_to m command p ≡ Data bytes → ⊥
+  pub after : m.after (body command) p ≡ p
+
+-- Each of these commands fails right after a restart, unless that changes nothing.
+abbrev pub FailOnceRestarted : {P : Type 0} → Device P → List Command → Type 0
+FailOnceRestarted m [] = Unit {0}
+FailOnceRestarted {P} m (command ∷ commands) =
+    ((p : P) → (m.reset p ≡ p) ⊎ FailsAt m command (m.reset p)) × FailOnceRestarted m commands
+
+-- No attempt at these commands goes on after a restart between two of them.
+abbrev pub Unbroken : {P : Type 0} → Device P → List Command → Type 0
+Unbroken m [] = Unit {0}
+Unbroken m (command ∷ commands) = FailOnceRestarted m commands
+
 -- The commands of a step lead from `Before` to `After`, also if the step is cut short and repeated. A prefix of them
 -- keeps `After`, and leads from `Before` to either. All of them lead to `After` if each brought its data. A restart
--- keeps both conditions.
+-- keeps both conditions, and between two commands it ends the attempt.
 pub record IsRepeatable {P : Type 0} (m : Device P) (commands : List Command) (Before After : P → Type 0) : Type 0 where
   pub prefix : (p : P) (i : ℕ) → Before p → Before (after_commands m i commands p)
       ⊎ After (after_commands m i commands p)
@@ -41,6 +57,7 @@ pub record IsRepeatable {P : Type 0} (m : Device P) (commands : List Command) (B
       → After (after_commands m (length commands) commands p)
   pub restart_keeps : (p : P) → Before p → Before (m.reset p)
   pub restart_keeps_after : (p : P) → After p → After (m.reset p)
+  pub unbroken : Unbroken m commands
 
 -- A programmer with empty buffers, in programming mode or restarted. No extended address is set that a step would not
 -- set again. Address and parameters don't matter, because each attempt of a step loads its address. Outside

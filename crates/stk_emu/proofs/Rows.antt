@@ -1,3 +1,4 @@
--- Worked examples of replies and effects.
+-- Worked examples of replies, effects and restarts.
 pub mod Replies
 pub mod Effects
+pub mod Restarts

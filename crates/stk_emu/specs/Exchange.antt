@@ -18,10 +18,11 @@ pub data OtherReading : Type 0 where
   Ending : OtherReading
 
 -- The command was executed and its own reply read, or something else happened. No exchange reads the reply to another
--- command.
+-- command. The programmer may have restarted after either.
 pub data Exchange : Type 0 where
   AsIntended : Exchange
   Disturbed : Execution → OtherReading → Exchange
+  ThenRestarts : Exchange → Exchange
 
 -- The programmer after a command: `executed` if it was executed, else `kept`; then any restarts.
 abbrev pub after_execution : {P : Type 0} → Execution → P → P → (P → P) → P
@@ -33,10 +34,12 @@ after_execution (ThenRestarted execution) executed kept reset = reset (after_exe
 abbrev pub after_exchange : {P : Type 0} → Exchange → P → P → (P → P) → P
 after_exchange AsIntended executed kept reset = executed
 after_exchange (Disturbed execution instead) executed kept reset = after_execution execution executed kept reset
+after_exchange (ThenRestarts one_exchange) executed kept reset = reset (after_exchange one_exchange executed kept reset)
 
 abbrev pub execution_in : Exchange → Execution
 execution_in AsIntended = Executed
 execution_in (Disturbed execution instead) = execution
+execution_in (ThenRestarts one_exchange) = ThenRestarted (execution_in one_exchange)
 
 -- How listening ends in an exchange, given the body of the programmer's own reply.
 abbrev pub reading_of_exchange : Exchange → List ℕ → Reading
@@ -45,6 +48,7 @@ reading_of_exchange (Disturbed execution Refusal) reply = Replied refusal
 reading_of_exchange (Disturbed execution NoReply) reply = Silent
 reading_of_exchange (Disturbed execution Babble) reply = Babbled
 reading_of_exchange (Disturbed execution Ending) reply = Ended
+reading_of_exchange (ThenRestarts one_exchange) reply = reading_of_exchange one_exchange reply
 
 -- After the list all exchanges go as intended.
 abbrev pub first_exchange : List Exchange → Exchange
@@ -55,8 +59,15 @@ abbrev pub later_exchanges : List Exchange → List Exchange
 later_exchanges [] = []
 later_exchanges (one_exchange ∷ exchanges) = exchanges
 
--- An authentic reading is no reply, the refusal, or the programmer's own reply to this command, which it executed.
+-- The command was executed.
+abbrev pub WasExecuted : Execution → Type 0
+WasExecuted NotExecuted = ⊥
+WasExecuted Executed = Unit {0}
+WasExecuted (ThenRestarted execution) = WasExecuted execution
+
+-- An authentic reading is no reply, the refusal, or the programmer's own reply to this command, which it executed. It
+-- may have restarted since.
 abbrev pub IsAuthentic : {P : Type 0} → Device P → List ℕ → P → Execution → Reading → Type 0
-IsAuthentic m bytes p execution (Replied body) = ((execution ≡ Executed) × (body ≡ m.reply bytes p))
+IsAuthentic m bytes p execution (Replied body) = (WasExecuted execution × (body ≡ m.reply bytes p))
     ⊎ (body ≡ refusal)
 IsAuthentic m bytes p execution _ = Unit {0}

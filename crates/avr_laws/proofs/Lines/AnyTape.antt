@@ -1,5 +1,5 @@
 -- A dialog over any tape goes along exchanges.
-use Rattle.std.proofs.Common.{◌≡◌, ◌≤◌, ℕ, zero, suc, List, [], ◌∷◌, ◌++◌, length, map, take, refl, sym, ap, ◌∙◌, arith, Option, Some, None, rules}
+use Rattle.std.proofs.Common.{◌≡◌, ◌≤◌, ℕ, zero, suc, List, [], ◌∷◌, ◌++◌, length, map, take, refl, sym, ap, ◌∙◌, arith, inl, inr, Option, Some, None, rules}
 use Rattle.std.proofs.lemmas.Bool.{cond-true}
 use Rattle.std.proofs.lemmas.Slice.Eq.{bytes_eq-Decides}
 use Rattle.std.proofs.lemmas.Option.{none-some}
@@ -7,13 +7,13 @@ use Rattle.std.specs.Prelude.{filter}
 use Rattle.stk_frame.specs.Frame.{frame}
 use Rattle.stk_frame.specs.Cut.{frames, is_good}
 use Rattle.stk_frame.proofs.Laws.{frame_is_good, body_of_frame}
-use Rattle.stk_host.specs.Tape.{Tape, Reading, answer}
+use Rattle.stk_host.specs.Tape.{Tape, Reading, Replied, Silent, Ended, Babbled, answer}
 use Rattle.stk_host.specs.Dialog.{Dialog, Done, Emit, Ask, Frame, Played, played, prepend_events, continue_with_reading, next, frames_in}
 use Rattle.stk_emu.specs.Device.{Device, after_frame, after_frames}
 use Rattle.stk_emu.specs.Lawful.{IsFrameBody}
 use Rattle.stk_emu.specs.Exchange.{Execution, NotExecuted, Executed, ThenRestarted, NoReply, Exchange, Disturbed, after_execution, after_exchange, reading_of_exchange, IsAuthentic}
 use Rattle.stk_emu.specs.DialogOverExchanges.{state_after, SendsValidBodies}
-use Rattle.avr_laws.specs.AnyTape.{after_sent_frames, exchange_by, exchanges_from, exchanges_on_tape, GoesAlongExchanges, FramesByRestart, adding_received, received_frames, good_frames, after_received_bytes, ReceivedSentFrames}
+use Rattle.avr_laws.specs.AnyTape.{after_sent_frames, exchange_by, exchange_with_reply, exchanges_from, exchanges_on_tape, GoesAlongExchanges, FramesByRestart, adding_received, received_frames, good_frames, after_received_bytes, ReceivedSentFrames}
 use Rattle.avr_tool.specs.Authentic.{first_execution, later_executions, on_reading, RepliesAreAuthentic}
 use Rattle.avr_tool.proofs.Given.LongerTape.{reading_extends}
 use Rattle.avr_tool.proofs.Lines.Plays.{played_along, emitted_played, done_played, waits_played}
@@ -24,13 +24,22 @@ IsExchangeOf m bytes p execution reading one_exchange =
     (reading_of_exchange one_exchange (m.reply bytes p) ≡ reading)
     × (after_exchange one_exchange (m.after bytes p) p m.reset ≡ after_execution execution (m.after bytes p) p m.reset)
 
-not_anew : (execution : Execution) → ◌≡◌ {A = Execution} (ThenRestarted execution) Executed → ⊥
-not_anew execution e = cc
+by_reply : {P : Type 0} (m : Device P) (bytes : List ℕ) (p : P) (execution : Execution) (came : List ℕ)
+    → IsAuthentic m bytes p execution (Replied came)
+    → IsExchangeOf m bytes p execution (Replied came) (exchange_with_reply execution came)
+by_reply m bytes p NotExecuted came (inl own) = absurd own.0
+by_reply m bytes p NotExecuted came (inr is) = (ap Replied (sym is), refl)
+by_reply m bytes p Executed came h = search (rules, bytes_eq-Decides)
+by_reply m bytes p (ThenRestarted execution) came h =
+    let inner = by_reply m bytes p execution came h in (inner.0, ap m.reset inner.1)
 
 pub authentic_exchange : {P : Type 0} (m : Device P) (bytes : List ℕ) (p : P) (execution : Execution)
     (reading : Reading) → IsAuthentic m bytes p execution reading → IsExchangeOf m bytes p execution reading
     (exchange_by execution reading)
-authentic_exchange m bytes p execution reading h = search (rules, bytes_eq-Decides, not_anew)
+authentic_exchange m bytes p execution (Replied came) h = by_reply m bytes p execution came h
+authentic_exchange m bytes p execution Silent h = (refl, refl)
+authentic_exchange m bytes p execution Ended h = (refl, refl)
+authentic_exchange m bytes p execution Babbled h = (refl, refl)
 
 -- without a further command the programmer stays as it is
 none_asked : {E R P : Type 0} (m : Device P) (d : Dialog E R) (p : P) (exchanges : List Exchange)

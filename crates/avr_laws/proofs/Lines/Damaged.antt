@@ -369,7 +369,7 @@ module _ {P : Type 0} (m : Device P) (bodies : (bytes : List ℕ) (p : P) → Is
       → IsReply (frame_of_reply m n bytes p execution)
   given_reply n bytes p NotExecuted = inl refl
   given_reply n bytes p Executed = inr (n, m.reply bytes p, bodies bytes p, refl)
-  given_reply n bytes p (ThenRestarted execution) = inl refl
+  given_reply n bytes p (ThenRestarted execution) = given_reply n bytes p execution
 
   pub brings_no_frame : {E R : Type 0} (d : Dialog E R) (n : ℕ) (come : List Arrival) (p : P)
       (executions : List Execution) (before : List (List ℕ)) → AllReplies before

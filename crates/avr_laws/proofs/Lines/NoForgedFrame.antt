@@ -7,7 +7,7 @@ use Rattle.stk_frame.proofs.Laws.{body_of_frame}
 use Rattle.stk_host.specs.Tape.{Tape, Reading, Replied, answer, reading_from_first, timeout_or_end, first_reply, is_reply, past_skipped, leading_bytes, reply_byte_limit}
 use Rattle.stk_host.specs.Dialog.{Dialog, Done, Emit, Ask, next}
 use Rattle.stk_emu.specs.Device.{Device, refusal}
-use Rattle.stk_emu.specs.Exchange.{Execution, Executed, after_execution, IsAuthentic}
+use Rattle.stk_emu.specs.Exchange.{Execution, NotExecuted, Executed, ThenRestarted, after_execution, IsAuthentic}
 use Rattle.avr_laws.specs.AnyTape.{FramesByRestart, adding_received, received_frames, ReceivedSentFrames, executions_by_arrival}
 use Rattle.avr_tool.specs.Authentic.{first_execution, later_executions, on_reading, RepliesAreAuthentic}
 use Rattle.avr_tool.proofs.Lines.Plays.{tail_is}
@@ -99,8 +99,9 @@ module _ {P : Type 0} (m : Device P) where
       by_sent execution (inl e) = inr (sym t.2 ∙ e)
       by_sent execution (inr (inr among)) = absurd
           (not_past 255 n 1 before t.0 (omega arith) (omega arith) past good number among)
-      by_sent Executed (inr (inl same)) = inl (refl, sym t.2 ∙ (ap body_of same ∙ body_of_frame n (m.reply bytes p)))
-      by_sent execution (inr (inl same)) = absurd (none_good t.0 same good)
+      by_sent Executed (inr (inl same)) = inl (tt, sym t.2 ∙ (ap body_of same ∙ body_of_frame n (m.reply bytes p)))
+      by_sent NotExecuted (inr (inl same)) = absurd (none_good t.0 same good)
+      by_sent (ThenRestarted execution) (inr (inl same)) = by_sent execution (inr (inl same))
 
   by_reading : (n : ℕ) (bytes : List ℕ) (p : P) (execution : Execution) (before : List (List ℕ)) (reading : Reading)
       (tape left : Tape) → answer n tape ≡ Some (reading, left) → Past n 1 before
@@ -111,9 +112,16 @@ module _ {P : Type 0} (m : Device P) where
       own n bytes p execution before body past (search (rules, taken))
   by_reading n bytes p execution before reading tape left e past were = tt
 
+  its_number : (n : ℕ) (bytes : List ℕ) (p : P) (execution : Execution)
+      → (frame_of_reply m n bytes p execution ≡ [])
+      ⊎ ((seq_of (frame_of_reply m n bytes p execution) + 1) % 256 ≡ next n % 256)
+  its_number n bytes p NotExecuted = inl refl
+  its_number n bytes p Executed = search rules
+  its_number n bytes p (ThenRestarted execution) = its_number n bytes p execution
+
   more_past : (n : ℕ) (bytes : List ℕ) (p : P) (execution : Execution) (before : List (List ℕ)) → Past n 1 before
       → Past (next n) 1 (frame_of_reply m n bytes p execution ∷ before)
-  more_past n bytes p execution before past = search (rules, further_back)
+  more_past n bytes p execution before past = (its_number n bytes p execution, further_back n 1 before past)
 
   authentic_by : {E R : Type 0} (bytes : List ℕ) (go_on : Reading → Dialog E R) (n : ℕ) (tape : Tape) (p : P)
       (executions : List Execution) (before : List (List ℕ)) (o : Option (Reading × Tape)) → answer n tape ≡ o

@@ -16,7 +16,7 @@ use Rattle.avr_part.specs.BuiltIn.{m328p}
 use Rattle.avr_part.specs.State.{fresh_state}
 use Rattle.stk_emu.specs.Device.{device}
 use Rattle.stk_emu.specs.Programmer.{Programmer, fresh_programmer}
-use Rattle.stk_emu.specs.Exchange.{Execution, Executed}
+use Rattle.stk_emu.specs.Exchange.{Execution, Executed, ThenRestarted}
 use Rattle.stk_frame.specs.Cut.{body_of, cut, frames, seq_of}
 use Rattle.stk_frame.specs.Frame.{frame}
 use Rattle.stk_host.specs.Tape.{Replied, Reading, Tape, answer, leading_bytes, is_reply, reply_byte_limit, on_tape}
@@ -69,6 +69,25 @@ own piece reply pieces others tape left p executions before reading read cut_is 
     AreNotForged (seq_of piece) (frame (seq_of piece) (device.reply (body_of piece) p) ∷ before)
     (cut (take reply_byte_limit (leading_bytes tape)))
     × NoneForged device pieces left (device.after (body_of piece) p) executions
+    (frame (seq_of piece) (device.reply (body_of piece) p) ∷ before))) (sym read) (
+      subst (AreNotForged (seq_of piece) (frame (seq_of piece) (device.reply (body_of piece) p) ∷ before)) (sym cut_is)
+          ((λ good. inr (inl (sym own_is)), λ other. absurd (true≢false (sym taken ∙ other)))),
+      rest,
+    )
+
+-- the same, if the programmer restarted after its reply
+restarted : (piece reply : List ℕ) (pieces others : List (List ℕ)) (tape left : Tape) (p : Programmer)
+    (executions : List Execution) (before : List (List ℕ)) (reading : Reading)
+    → answer (seq_of piece) tape ≡ Some (reading, left) → cut (take reply_byte_limit (leading_bytes tape)) ≡ reply
+    ∷ others → frame (seq_of piece) (device.reply (body_of piece) p) ≡ reply → is_reply (seq_of piece) reply ≡ true
+    → NoneForged device pieces left (device.reset (device.after (body_of piece) p)) executions
+    (frame (seq_of piece) (device.reply (body_of piece) p) ∷ before)
+    → NoneForged device (piece ∷ pieces) tape p (ThenRestarted Executed ∷ executions) before
+restarted piece reply pieces others tape left p executions before reading read cut_is own_is taken rest =
+    subst (on_reading (λ reading left.
+    AreNotForged (seq_of piece) (frame (seq_of piece) (device.reply (body_of piece) p) ∷ before)
+    (cut (take reply_byte_limit (leading_bytes tape)))
+    × NoneForged device pieces left (device.reset (device.after (body_of piece) p)) executions
     (frame (seq_of piece) (device.reply (body_of piece) p) ∷ before))) (sym read) (
       subst (AreNotForged (seq_of piece) (frame (seq_of piece) (device.reply (body_of piece) p) ∷ before)) (sym cut_is)
           ((λ good. inr (inl (sym own_is)), λ other. absurd (true≢false (sym taken ∙ other)))),
@@ -147,6 +166,35 @@ worked_forges_none =
     own asked_sixth sixth [] [] (on_tape (sixth)) [] at_sixth [] sent_fifth
     (Replied (body_of sixth)) refl refl refl refl (
     tt))))))
+
+-- ---- the same run, if the programmer restarts just before LEAVE
+
+abbrev pub idle : List Execution
+idle = Executed ∷ Executed ∷ Executed ∷ Executed ∷ ThenRestarted Executed ∷ Executed ∷ []
+
+pub idle_came : ReceivedSentFrames (asked_first ++ asked_second ++ asked_third ++ asked_fourth ++ asked_fifth)
+    (asked_sixth ∷ []) (frames worked_frames) idle
+idle_came = record { good = refl }
+
+pub idle_forges_none : NoneForged device (frames worked_frames) worked_replies programmer idle []
+unfolding answer
+idle_forges_none =
+    own asked_first first (asked_second ∷ asked_third ∷ asked_fourth ∷ asked_fifth ∷ asked_sixth ∷ []) (second ∷
+    third ∷ fourth ∷ fifth ∷ sixth ∷ []) (on_tape (first ++ second ++ third ++ fourth ++ fifth ++ sixth))
+    (on_tape (second ++ third ++ fourth ++ fifth ++ sixth)) programmer (Executed ∷ Executed ∷ Executed ∷
+    ThenRestarted Executed ∷ Executed ∷ []) [] (Replied (body_of first)) refl refl refl refl (own asked_second
+    second (asked_third ∷ asked_fourth ∷ asked_fifth ∷ asked_sixth ∷ []) (third ∷ fourth ∷ fifth ∷ sixth ∷ [])
+    (on_tape (second ++ third ++ fourth ++ fifth ++ sixth)) (on_tape (third ++ fourth ++ fifth ++ sixth))
+    at_second (Executed ∷ Executed ∷ ThenRestarted Executed ∷ Executed ∷ []) sent_first (Replied (body_of
+    second)) refl refl refl refl (own asked_third third (asked_fourth ∷ asked_fifth ∷ asked_sixth ∷ []) (fourth
+    ∷ fifth ∷ sixth ∷ []) (on_tape (third ++ fourth ++ fifth ++ sixth)) (on_tape (fourth ++ fifth ++ sixth))
+    at_third (Executed ∷ ThenRestarted Executed ∷ Executed ∷ []) sent_second (Replied (body_of third)) refl refl
+    refl refl (own asked_fourth fourth (asked_fifth ∷ asked_sixth ∷ []) (fifth ∷ sixth ∷ []) (on_tape (fourth
+    ++ fifth ++ sixth)) (on_tape (fifth ++ sixth)) at_fourth (ThenRestarted Executed ∷ Executed ∷ []) sent_third
+    (Replied (body_of fourth)) refl refl refl refl (restarted asked_fifth fifth (asked_sixth ∷ []) (sixth ∷ [])
+    (on_tape (fifth ++ sixth)) (on_tape (sixth)) at_fifth (Executed ∷ []) sent_fourth (Replied (body_of fifth))
+    refl refl refl refl (own asked_sixth sixth [] [] (on_tape (sixth)) [] (device.reset at_sixth) [] sent_fifth
+    (Replied (body_of sixth)) refl refl refl refl (tt))))))
 
 -- ---- `-U lfuse:r:fuse:r`: the file has the chip's byte, and no other
 

@@ -13,7 +13,7 @@ use Rattle.avr_tool.specs.Authentic.{first_execution, later_executions, on_readi
 use Rattle.avr_tool.proofs.Lines.Plays.{cons_none, head_is}
 use Rattle.stk_emu.specs.Device.{Device, reply_frame, after_frame, after_frames, replies}
 use Rattle.stk_emu.specs.Lawful.{IsFrameBody}
-use Rattle.stk_emu.specs.Exchange.{Executed, after_execution, IsAuthentic}
+use Rattle.stk_emu.specs.Exchange.{Executed, WasExecuted, after_execution, IsAuthentic}
 use Rattle.stk_emu.proofs.Replies.BodySizes.{RepliesFitFrames}
 use Rattle.stk_emu.proofs.Wires.Arrivals.{none_skipped}
 use Rattle.avr_laws.specs.TwoProcesses.{all_executed}
@@ -227,7 +227,7 @@ module _ {P : Type 0} (m : Device P) (sound : RepliesFitFrames m) where
       → SendsValidBodies (Ask bytes go_on) → on_reading (Reading_is bytes go_on n p h) (answer n tape)
   authentic_by bytes go_on n tape p h count more each (inl c) few asks =
       subst (on_reading (Reading_is bytes go_on n p h)) (sym c.is) (
-        inl (c.execution, refl),
+        inl (subst WasExecuted (sym c.execution) tt, refl),
         subst (RepliesAreAuthentic m (go_on (Replied (m.reply bytes p))) (next n) c.left
             (after_execution (first_execution (all_executed h)) (m.after bytes p) p m.reset)) (sym (search rules))
             (each (Replied (m.reply bytes p)) c.left

@@ -1,19 +1,19 @@
 -- A device behind a link that may make any exchange of any command, in the logic of dialogs: attempts and steps of a
 -- host.
-use Rattle.std.proofs.Common.{◌≡◌, ℕ, zero, suc, List, [], ◌∷◌, ◌++◌, length, refl, ◌⊎◌, inl, inr, Ok, Err, rules}
+use Rattle.std.proofs.Common.{◌≡◌, ℕ, zero, suc, List, [], ◌∷◌, ◌++◌, length, refl, sym, subst, ◌⊎◌, inl, inr, Ok, Err, rules}
 use Rattle.stk_frame.specs.declared.command.Command.{Command}
 use Rattle.stk_frame.specs.Commands.{body}
 use Rattle.stk_host.specs.declared.fault.StepFault.{StepFault}
-use Rattle.stk_host.specs.declared.fault.StepFault.TheVariants.{NoAnswer}
+use Rattle.stk_host.specs.declared.fault.StepFault.TheVariants.{LinkEnded, NoAnswer}
 use Rattle.stk_host.specs.Tape.{Reading}
 use Rattle.stk_host.specs.Dialog.{Dialog, Done, Emit, Ask}
-use Rattle.stk_host.specs.Steps.{Reply, Data, reply_from_reading, with_data, exchange, attempt, StepOutcome, step}
+use Rattle.stk_host.specs.Steps.{Reply, Data, Again, Stop, reply_from_reading, with_data, exchange, attempt, StepOutcome, step}
 use Rattle.stk_host.proofs.Dialogs.Logic.{World, HoldsFrom, Upholds, NoOutput, OnReply, OnOutcome, done, ask, wider, attempts}
-use Rattle.stk_emu.specs.Exchange.{Exchange, Execution, NotExecuted, Executed, ThenRestarted}
+use Rattle.stk_emu.specs.Exchange.{Exchange, Execution, NotExecuted, Executed, ThenRestarted, AsIntended, Disturbed, ThenRestarts, Refusal, NoReply, Babble, Ending}
 use Rattle.stk_emu.specs.Exchange.{after_execution, after_exchange, reading_of_exchange, first_exchange, later_exchanges}
 use Rattle.stk_emu.specs.Device.{Device}
 use Rattle.stk_emu.specs.DialogOverExchanges.{state_after}
-use Rattle.stk_emu.proofs.Repeatable.{on_data, joined_reply, reply_to, after_commands, IsRepeatable}
+use Rattle.stk_emu.proofs.Repeatable.{on_data, joined_reply, reply_to, after_commands, FailsAt, FailOnceRestarted, Unbroken, IsRepeatable}
 use Rattle.avr_tool.proofs.Leads.{Leads, IsDataOfAttempt}
 
 -- What holds at each move holds along all links, so no list of exchanges and no count of commands is needed.
@@ -61,7 +61,8 @@ module _ {P : Type 0} (m : Device P) where
   -- data are those of all commands, each executed and replied to.
   module _ (Stands : P → Type 0) (After : StepOutcome → P → Type 0) (restart_keeps : (q : P) → Stands q
       → Stands (m.reset q))
-      (failed : (fault : StepFault) (q : P) → Stands q → After (Err fault) q) where
+      (failed : (fault : StepFault) (q : P) → Stands q → After (Err fault) q)
+      (data_kept : (got : List ℕ) (q : P) → After (Ok got) q → After (Ok got) (m.reset q)) where
     abbrev Tries : Dialog ⊥ Reply → P → Type 0
     Tries d p = Keeps Stands (OnReply Stands After) d p
 
@@ -77,26 +78,92 @@ module _ {P : Type 0} (m : Device P) where
     lost Executed executed p o s = o
     lost (ThenRestarted execution) executed p o s = restart_keeps _ (lost execution executed p o s)
 
-    by_exchange : (one_exchange : Exchange) (command : Command) (go_on : List ℕ → Dialog ⊥ Reply) (p : P)
-        → Stands (m.after (body command) p) → Stands p
-        → Tries (with_data go_on (reply_to m command p)) (m.after (body command) p)
-        → Tries (with_data go_on (reply_from_reading command (reading_of_exchange one_exchange
-        (m.reply (body command) p)))) (after_exchange one_exchange (m.after (body command) p) p m.reset)
-    by_exchange one_exchange command go_on p o s right = search (rules, lost)
+    -- after some restarts
+    abbrev restarted : ℕ → P → P
+    restarted zero q = q
+    restarted (suc n) q = restarted n (m.reset q)
 
-    attempt_goes : (commands : List Command) (before : List ℕ) (p : P)
+    last_restart : (n : ℕ) (q : P) → restarted (suc n) q ≡ m.reset (restarted n q)
+    last_restart zero q = refl
+    last_restart (suc n) q = last_restart n (m.reset q)
+
+    stands_restarted : (n : ℕ) (q : P) → Stands q → Stands (restarted n q)
+    stands_restarted zero q s = s
+    stands_restarted (suc n) q s = stands_restarted n (m.reset q) (restart_keeps q s)
+
+    data_restarted : (n : ℕ) (got : List ℕ) (q : P) → After (Ok got) q → After (Ok got) (restarted n q)
+    data_restarted zero got q a = a
+    data_restarted (suc n) got q a = data_restarted n got (m.reset q) (data_kept got q a)
+
+    -- whatever was read, and after any restarts
+    by_exchange : (one_exchange : Exchange) (n : ℕ) (command : Command) (go_on : List ℕ → Dialog ⊥ Reply) (p : P)
+        → Stands (m.after (body command) p) → Stands p
+        → ((i : ℕ) → Tries (with_data go_on (reply_to m command p)) (restarted i (m.after (body command) p)))
+        → Tries (with_data go_on (reply_from_reading command (reading_of_exchange one_exchange
+        (m.reply (body command) p)))) (restarted n (after_exchange one_exchange (m.after (body command) p) p m.reset))
+    by_exchange AsIntended n command go_on p o s right = right n
+    by_exchange (Disturbed execution Refusal) n command go_on p o s right =
+        done (stands_restarted n _ (lost execution _ p o s))
+    by_exchange (Disturbed execution NoReply) n command go_on p o s right =
+        done (stands_restarted n _ (lost execution _ p o s))
+    by_exchange (Disturbed execution Babble) n command go_on p o s right =
+        done (stands_restarted n _ (lost execution _ p o s))
+    by_exchange (Disturbed execution Ending) n command go_on p o s right =
+        done (failed LinkEnded _ (stands_restarted n _ (lost execution _ p o s)))
+    by_exchange (ThenRestarts one_exchange) n command go_on p o s right =
+        by_exchange one_exchange (suc n) command go_on p o s right
+
+    -- a command that fails ends the attempt
+    never : (go_on : List ℕ → Dialog ⊥ Reply) (reply : Reply) (q : P) → Stands q
+        → ((bytes : List ℕ) → reply ≡ Data bytes → ⊥) → Tries (with_data go_on reply) q
+    never go_on (Data bytes) q s none = absurd (none bytes refl)
+    never go_on (Again fault) q s none = done s
+    never go_on (Stop fault) q s none = done (failed fault q s)
+
+    failing : (command : Command) (commands : List Command) (before : List ℕ) (q : P) → Stands q
+        → FailsAt m command q → Tries (attempt (command ∷ commands) before) q
+    unfolding attempt exchange
+    failing command commands before q s f =
+        let stays : Stands (m.after (body command) q) = subst Stands (sym f.after) s in
+        let go_on : List ℕ → Dialog ⊥ Reply = λ bytes. attempt commands (before ++ bytes) in
+        ask s (λ one_exchange. by_exchange one_exchange 0 command go_on q stays s
+        (λ i. never go_on (reply_to m command q) _ (stands_restarted i _ stays) f.none))
+
+    -- the rest of an attempt, after any restarts
+    rest_goes : (commands : List Command) (before : List ℕ) (q : P) → Stands q → FailOnceRestarted m commands
+        → Tries (attempt commands before) q → (n : ℕ) → Tries (attempt commands before) (restarted n q)
+    unfolding attempt exchange
+    rest_goes [] before q s fails rest n = done (data_restarted n before q rest.holds)
+    rest_goes (command ∷ commands) before q s fails rest zero = rest
+    rest_goes (command ∷ commands) before q s fails rest (suc n) =
+        subst (λ (x : P). Tries (attempt (command ∷ commands) before) x) (sym (last_restart n q))
+        (elim (fails.0 (restarted n q)) [
+          | inl same ↦ subst (λ (x : P). Tries (attempt (command ∷ commands) before) x) (sym same)
+              (rest_goes (command ∷ commands) before q s fails rest n)
+          | inr f ↦ failing command commands before (m.reset (restarted n q))
+              (restart_keeps _ (stands_restarted n q s)) f
+        ])
+
+    later_unbroken : (commands : List Command) → FailOnceRestarted m commands → Unbroken m commands
+    later_unbroken [] fails = tt
+    later_unbroken (command ∷ commands) fails = fails.1
+
+    attempt_goes : (commands : List Command) (before : List ℕ) (p : P) → Unbroken m commands
         → ((i : ℕ) → Stands (after_commands m i commands p))
         → ((got : List ℕ) → joined_reply m commands before p ≡ Data got
         → After (Ok got) (after_commands m (length commands) commands p)) → Tries (attempt commands before) p
     unfolding attempt exchange
-    attempt_goes [] before p prefixes whole = done (whole before refl)
-    attempt_goes (command ∷ commands) before p prefixes whole =
+    attempt_goes [] before p unbroken prefixes whole = done (whole before refl)
+    attempt_goes (command ∷ commands) before p unbroken prefixes whole =
         let q = m.after (body command) p in
         let go_on : List ℕ → Dialog ⊥ Reply = λ bytes. attempt commands (before ++ bytes) in
-        ask (prefixes 0) (λ one_exchange. by_exchange one_exchange command go_on p (prefixes 1) (prefixes 0)
-        (replied (reply_to m command p) (λ bytes. joined_reply m commands (before ++ bytes) q) go_on q
-        (λ got. After (Ok got) (after_commands m (length commands) commands q)) (prefixes 1)
-        (λ bytes each. attempt_goes commands (before ++ bytes) q (λ i. prefixes (suc i)) each) whole))
+        ask (prefixes 0) (λ one_exchange. by_exchange one_exchange 0 command go_on p (prefixes 1) (prefixes 0)
+        (λ n. replied (reply_to m command p) (λ bytes. joined_reply m commands (before ++ bytes) q) go_on
+        (restarted n q) (λ got. After (Ok got) (after_commands m (length commands) commands q))
+        (stands_restarted n q (prefixes 1))
+        (λ bytes each. rest_goes commands (before ++ bytes) q (prefixes 1) unbroken
+        (attempt_goes commands (before ++ bytes) q (later_unbroken commands unbroken) (λ i. prefixes (suc i)) each) n)
+        whole))
 
   -- A step leads from its first condition to its second. With data the second holds, otherwise either.
   module _ (commands : List Command) (Before After : P → Type 0) (fits : IsRepeatable m commands Before After) where
@@ -120,7 +187,10 @@ module _ {P : Type 0} (m : Device P) where
     wholes q (inr a) got has = fits.again q (length commands) a
 
     pub try_goes : (p : P) → Either p → Keeps Either (OnReply Either AfterStep) (attempt commands []) p
-    try_goes p stood = search (rules, attempt_goes, restart_keeps, prefixes, wholes)
+    try_goes p stood =
+        attempt_goes Either AfterStep restart_keeps (λ fault q stands. stands)
+        (λ got q x. (fits.restart_keeps_after q x.0, x.1)) commands [] p fits.unbroken (prefixes p stood)
+        (λ got has. (wholes p stood got has, record { from = p; stood = stood; is = has }))
 
     step_goes : (p : P) → Before p → Keeps Either AfterStep (step commands) p
     step_goes p before =

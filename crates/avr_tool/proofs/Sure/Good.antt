@@ -7,7 +7,7 @@ use Rattle.stk_host.specs.declared.fault.StepFault.TheVariants.{NoAnswer}
 use Rattle.stk_host.specs.Dialog.{Dialog, Done, Emit, Ask}
 use Rattle.stk_host.specs.Steps.{Reply, Data, Again, Stop, StepOutcome, reply_from_reading, with_data, exchange, attempt, step}
 use Rattle.stk_host.proofs.Dialogs.Logic.{HoldsFrom, NoOutput, OnReply, done, ask, wider, attempts}
-use Rattle.stk_emu.specs.Exchange.{Exchange, Execution, ThenRestarted, OtherReading, Ending, AsIntended, Disturbed, after_exchange, reading_of_exchange, first_exchange, later_exchanges}
+use Rattle.stk_emu.specs.Exchange.{Exchange, Execution, ThenRestarted, OtherReading, Ending, AsIntended, Disturbed, ThenRestarts, after_exchange, reading_of_exchange, first_exchange, later_exchanges}
 use Rattle.stk_emu.specs.Programmer.{Programmer}
 use Rattle.stk_emu.specs.Device.{device}
 use Rattle.stk_emu.proofs.Repeatable.{on_data, joined_reply, IsRepeatable}
@@ -31,6 +31,7 @@ GoesOn instead = Unit {0}
 abbrev pub IsSteady : Exchange → Type 0
 IsSteady AsIntended = Unit {0}
 IsSteady (Disturbed execution instead) = Stands execution × GoesOn instead
+IsSteady (ThenRestarts one_exchange) = ⊥
 
 abbrev pub AreSteady : List Exchange → Type 0
 AreSteady [] = Unit {0}

@@ -20,7 +20,7 @@ use Rattle.stk_emu.specs.Device.{device}
 use Rattle.stk_emu.specs.Effect.{Memories}
 use Rattle.stk_emu.specs.Settled.{Ready}
 use Rattle.avr_tool.proofs.Leads.{AllFit, memories_after_steps}
-use Rattle.stk_emu.proofs.Repeatable.{on_data, reply_to, joined_reply, after_commands, IsRepeatable, Settled}
+use Rattle.stk_emu.proofs.Repeatable.{on_data, reply_to, joined_reply, after_commands, FailsAt, Unbroken, IsRepeatable, Settled}
 use Rattle.stk_emu.specs.WriteOperations.{memories_after_step, IsStep, Erases, ProgramsPage, ProgramsEepromRun, ProgramsFuse, ProgramsLock, ReadsFlash, ReadsEeprom, ReadsFuse, ReadsLock, ReadsSignature, ReadsCalibration, AreSteps}
 use Rattle.stk_emu.proofs.Replies.Commands.{executes_command, executed_none, steady, ready_settled, settled_ready, restart_is_settled}
 use Rattle.avr_tool.proofs.WriteOperations.Steps.{step_ready, address_fits}
@@ -92,12 +92,20 @@ record Idles (part : Part) (commands : List Command) : Type 0 where
   keeps : (m : Memories) (p : Programmer) (i : ℕ) → p.mode ≡ false → Settled part m p
       → Settled part m (after_commands device i commands p)
   none : (p : Programmer) (bytes : List ℕ) → p.mode ≡ false → joined_reply device commands [] p ≡ Data bytes → ⊥
+  unbroken : Unbroken device commands
+
+-- after a restart the programmer is outside
+fails_restarted : (c : Command) → FailsOutside c → (p : Programmer) → FailsAt device c (device.reset p)
+fails_restarted c fails p =
+    let f = fails (device.reset p) refl in
+    record { none = λ bytes e. stop_no f.fault bytes (sym f.reply ∙ e); after = f.after }
 
 one_idles : (part : Part) (c : Command) → FailsOutside c → Idles part (c ∷ [])
 one_idles part c fails = record {
   keeps = λ m p i off s. keeps m p i off s;
   none = λ p bytes off e. stop_no (fails p off).fault bytes
       (sym (ap (λ r. on_data r (λ b. Data b)) (fails p off).reply) ∙ e);
+  unbroken = tt;
 }
   where
     keeps : (m : Memories) (p : Programmer) (i : ℕ) → p.mode ≡ false → Settled part m p
@@ -120,6 +128,7 @@ two_idles part address c few fails = record {
   none = λ p bytes off e.
       let f = fails (device.after (body (LoadAddress address)) p) (outside p off) in
       search rules;
+  unbroken = (λ p. inr (fails_restarted c fails p), tt);
 }
   where
     outside : (p : Programmer) → p.mode ≡ false → (device.after (body (LoadAddress address)) p).mode ≡ false
@@ -162,7 +171,11 @@ module _ (part : Part) (sound : IsPart part) where
       let short = page_most part.flash_page (omega arith) sound.flash_fits in
       as_written _ commands e (two_idles part (flash_address part (number * part.flash_page)) (program_page bytes)
       (address_fits part sound (number * part.flash_page) (omega arith)) (page_fails bytes (omega arith)))
-  idles commands (ProgramsEepromRun address bytes is_run e) = search (rules, two_idles, run_fails)
+  idles commands (ProgramsEepromRun address bytes is_run e) =
+      let inside = is_run.inside in
+      let most = sound.eeprom_most in
+      as_written _ commands e (two_idles part address (program_eeprom_block bytes) (omega arith)
+      (run_fails bytes (omega arith)))
   idles commands (ProgramsFuse f v e) = as_written _ commands e (one_idles part (program_fuse f v) (fuse_fails f v))
   idles commands (ProgramsLock v e) = as_written _ commands e (one_idles part (program_lock v) (lock_fails v))
   idles commands (ReadsFlash start count is_block words e) =
@@ -171,7 +184,12 @@ module _ (part : Part) (sound : IsPart part) where
       let few = is_block.few in
       as_written _ commands e (two_idles part (flash_address part start) (read_flash_block count)
       (address_fits part sound start (omega arith)) (flash_read_fails count (omega arith)))
-  idles commands (ReadsEeprom start count is_block e) = search (rules, as_written, two_idles, eeprom_read_fails)
+  idles commands (ReadsEeprom start count is_block e) =
+      let inside = is_block.inside in
+      let most = sound.eeprom_most in
+      let few = is_block.few in
+      as_written _ commands e (two_idles part start (read_eeprom_block count) (omega arith)
+      (eeprom_read_fails count (omega arith)))
   idles commands (ReadsFuse f e) = as_written _ commands e (one_idles part (read_fuse f) (fuse_read_fails f))
   idles commands (ReadsLock e) = as_written _ commands e (one_idles part read_lock lock_read_fails)
   idles commands (ReadsSignature place few e) =
@@ -210,6 +228,7 @@ module _ (part : Part) (sound : IsPart part) where
         (settled_ready part m p (in_mode_by_data commands p bytes is has) s)));
     restart_keeps = λ p s. restart_is_settled part m p s;
     restart_keeps_after = λ p s. restart_is_settled part (memories_after_step part commands m) p s;
+    unbroken = (idles commands is).unbroken;
   }
     where
       ready : IsRepeatable steady commands (Ready part m) (Ready part (memories_after_step part commands m))

@@ -1,5 +1,4 @@
 -- Each step leads from its memories to those that it leaves, also if it is cut short and repeated.
-use Rattle.std.proofs.lemmas.Grind.{common_steps}
 use Rattle.std.proofs.Common.{◌≡◌, ℕ, ◌*◌, ◌<◌, ◌^◌, List, [], ◌∷◌, sym, subst, arith, rules}
 use Rattle.std.proofs.lemmas.List.{length-replicate}
 use Rattle.avr_part.specs.declared.part.Mem.TheVariants.{Flash, Eeprom}
@@ -8,7 +7,7 @@ use Rattle.stk_frame.specs.declared.command.Command.{Command}
 use Rattle.stk_frame.specs.declared.command.Command.TheVariants.{SignOn}
 use Rattle.stk_frame.specs.declared.command.Fuse.{Fuse}
 use Rattle.stk_frame.specs.Commands.{body}
-use Rattle.stk_frame.specs.HostCommands.{enter, leave, program_page, program_eeprom_block, program_fuse, read_flash_block, read_eeprom_block, read_fuse, read_lock}
+use Rattle.stk_frame.specs.HostCommands.{enter, leave, program_page, program_eeprom_block, program_fuse, read_flash_block, read_eeprom_block, read_fuse, read_lock, read_signature, read_calibration}
 use Rattle.stk_host.specs.Places.{flash_address, load_flash, load_eeprom}
 use Rattle.stk_emu.specs.Programmer.{Programmer}
 use Rattle.stk_emu.specs.Device.{device}
@@ -17,7 +16,7 @@ use Rattle.stk_emu.specs.Settled.{HasMemories, Ready}
 use Rattle.stk_emu.proofs.Repeatable.{IsRepeatable, Settled}
 use Rattle.stk_emu.specs.WriteOperations.{memories_after_step, IsStep, Erases, ProgramsPage, ProgramsEepromRun, ProgramsFuse, ProgramsLock, ReadsFlash, ReadsEeprom, ReadsFuse, ReadsLock, ReadsSignature, ReadsCalibration, IsPage, FitsEepromPage, IsBlock, AreWords}
 use Rattle.stk_emu.proofs.Memories.LaidImages.{laid_twice, and_in_twice, and_byte}
-use Rattle.stk_emu.proofs.Replies.Commands.{one_fits, steady, one_steady, two_steady, settled_idle, ready_settled, ready_idle, restart_keeps_memories, restart_is_settled, enter_does, leave_keeps, load_keeps, fuse_does, lock_does, erase_does, fuse_read_after, lock_read_after, calibration_read_after}
+use Rattle.stk_emu.proofs.Replies.Commands.{one_fits, steady, in_mode_is, one_steady, two_steady, settled_idle, ready_settled, ready_idle, restart_keeps_memories, restart_is_settled, enter_does, leave_keeps, load_keeps, fuse_does, lock_does, erase_does, fuse_read_after, lock_read_after, calibration_read_after}
 use Rattle.stk_emu.proofs.Memories.Runs.{run_does}
 use Rattle.stk_emu.proofs.Memories.Pages.{page_does}
 use Rattle.avr_tool.proofs.Given.ReadReplies.{flash_read_keeps, eeprom_read_keeps}
@@ -62,7 +61,7 @@ module _ (part : Part) where
   enter_ready m = search (rules, one_steady, enter_does, ready_idle)
 
   pub leave_steady : (m : Memories) → IsRepeatable steady (leave ∷ []) (HasMemories part m) (HasMemories part m)
-  leave_steady m = search (rules, one_steady)
+  leave_steady m = one_steady leave _ _ (λ p s. leave_keeps part m p s) (λ p s. leave_keeps part m p s)
 
   module _ (sound : IsPart part) where
     again_of : (commands : List Command) (m : Memories) (q : Programmer)
@@ -133,5 +132,7 @@ module _ (part : Part) where
     step_ready commands m (ReadsFuse f e) = by_commands _ commands m e (fuse_read_fits f m)
     step_ready commands m (ReadsLock e) = by_commands _ commands m e
         (quiet read_lock m (λ p s. subst (Ready part m) (sym (lock_read_after p s.mode)) s))
-    step_ready commands m (ReadsSignature place few e) = by_commands _ commands m e (search (rules, quiet))
-    step_ready commands m (ReadsCalibration e) = grind (arith, common_steps, quiet, calibration_read_after)
+    step_ready commands m (ReadsSignature place few e) = by_commands _ commands m e
+        (quiet (read_signature place) m (λ p s. subst (Ready part m) (sym (in_mode_is p _ _ s.mode)) s))
+    step_ready commands m (ReadsCalibration e) = by_commands _ commands m e
+        (quiet read_calibration m (λ p s. subst (Ready part m) (sym (calibration_read_after p s.mode)) s))

@@ -12,7 +12,7 @@ use Rattle.stk_frame.specs.HostCommands.{enter, leave, erase, program_fuse, prog
 use Rattle.stk_frame.proofs.DecodedBodies.{read_back}
 use Rattle.stk_emu.specs.Programmer.{Programmer, Response, execute, execute_command}
 use Rattle.stk_emu.specs.Device.{Device, device}
-use Rattle.stk_emu.proofs.Repeatable.{after_commands, IsRepeatable, Settled}
+use Rattle.stk_emu.proofs.Repeatable.{after_commands, IsRepeatable, Settled, FailsAt}
 use Rattle.stk_emu.specs.Effect.{Memories}
 use Rattle.stk_emu.specs.WriteOperations.{memories_after_step}
 use Rattle.stk_emu.specs.Settled.{HasMemories, Ready}
@@ -36,8 +36,9 @@ module _ {P : Type 0} (m : Device P) where
       → ((p : P) → After p → After (m.after (body c) p))
       → ((p : P) → Before p → After (m.after (body d) (m.after (body c) p)))
       → ((p : P) → After p → After (m.after (body d) (m.after (body c) p))) → ((p : P) → Before p → Before (m.reset p))
-      → ((p : P) → After p → After (m.reset p)) → IsRepeatable m (c ∷ d ∷ []) Before After
-  two_fits c d Before After first first_again does again restart_keeps restart_keeps_after =
+      → ((p : P) → After p → After (m.reset p)) → ((p : P) → (m.reset p ≡ p) ⊎ FailsAt m d (m.reset p))
+      → IsRepeatable m (c ∷ d ∷ []) Before After
+  two_fits c d Before After first first_again does again restart_keeps restart_keeps_after ends =
       search (rules, prefixes, agains)
     where
       prefixes : (p : P) (i : ℕ) → Before p → Before (after_commands m i (c ∷ d ∷ []) p)
@@ -66,7 +67,8 @@ pub two_steady : (c d : Command) (Before After : Programmer → Type 0)
     → ((p : Programmer) → Before p → After (device.after (body d) (device.after (body c) p)))
     → ((p : Programmer) → After p → After (device.after (body d) (device.after (body c) p)))
     → IsRepeatable steady (c ∷ d ∷ []) Before After
-two_steady c d Before After first first_again does again = search (rules, two_fits)
+two_steady c d Before After first first_again does again =
+    two_fits steady c d Before After first first_again does again (λ p b. b) (λ p a. a) (λ p. inl refl)
 
 -- a command of programming mode, in that mode
 pub in_mode_is : (p : Programmer) (x y : Response) → p.mode ≡ true → (cond p.mode x y).1 ≡ x.1
