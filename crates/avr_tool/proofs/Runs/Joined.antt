@@ -4,23 +4,24 @@ use Rattle.avr_plan.specs.declared.settings.Settings.{Settings}
 use Rattle.avr_desk.specs.Fault.{CountsNeverFall}
 use Rattle.avr_desk.specs.Lines.{memory_line, not_opened_line, not_read_line}
 use Rattle.avr_desk.specs.Record.{DeskState, Record, Bytes, after_err}
-use Rattle.avr_desk.specs.OutputEvents.{OutputEvent, PrintsLine, IsBytePrefixOf, ReportsLineAs, after_events}
+use Rattle.avr_desk.specs.OutputEvents.{OutputEvent, PrintsLine, CreatesFile, IsPartOfEvent, IsBytePrefixOf, ReportsLineAs, after_events}
 use Rattle.avr_desk.proofs.Stages.Outputs.{kept_append, after_append}
 use Rattle.avr_desk.proofs.Lines.ReportedAs.{follows_on, follows_same, same_on}
 use Rattle.avr_plan.specs.Plan.{Plan}
 use Rattle.avr_plan.specs.Planning.{planned}
-use Rattle.avr_desk.specs.StageRuns.{StageCompleted, StageRefused, BreakCause, LineNotPrinted, NotOpened, NotRead, NoMemory, NoMemoryForFile, ReportsBreakAs, events_of_break}
-use Rattle.avr_desk.specs.Stage.{Produced, StageResult}
-use Rattle.stk_host.specs.Dialog.{Event, Played, Emitted, prepend_events, bytes_sent, outputs}
-use Rattle.stk_host.specs.Transcript.{LinkState, heard, Grows}
+use Rattle.avr_desk.specs.declared.record.Opening.{Opening}
+use Rattle.stk_host.specs.Play.{IsPrefixOfEvents}
+use Rattle.avr_desk.specs.StageRuns.{StageCompleted, StageRefused, RestOfStage, IsNextEvent, BreakFitsNext, BreakCause, LineNotPrinted, NotOpened, NotRead, NoMemory, NoMemoryForFile, ReportsBreakAs, events_of_break}
+use Rattle.avr_desk.specs.Stage.{Produced, Refused, NotReadToEnd, StageOutcome, StageResult, events_with_refusal}
+use Rattle.stk_host.specs.Dialog.{Event, Played, Emitted, played, prepend_events, bytes_sent, outputs}
+use Rattle.stk_host.specs.Transcript.{LinkState, Transcript, heard, Grows}
 use Rattle.stk_host.specs.Tape.{Tape}
 use Rattle.stk_host.proofs.Transcripts.Laws.{grows_none}
-use Rattle.stk_host.proofs.Transcripts.InDialogs.{prefix_behind}
 use Rattle.avr_session.specs.Run.{RunsSession, RunsSettings, StopsSession}
-use Rattle.avr_session.specs.Runs.{Devices, devices, Cause, SendingFailed, ReceivingFailed, FileFailed, PrintingFailed, AllocationFailed, ReportsCause, cause_line}
+use Rattle.avr_session.specs.Runs.{Devices, devices, Cause, StopsAt, NotCreated, NotWritten, SendingFailed, ReceivingFailed, FileFailed, PrintingFailed, AllocationFailed, ReportsCause, cause_line}
 use Rattle.avr_session.specs.Session.{session}
 use Rattle.avr_session.specs.Stopping.{RanToStatus}
-use Rattle.avr_tool.specs.Headline.{run, run_after_planning, IsInTurn, IsRun, IsPrefixOfRun, InSession, InPlanning, stop_line, opened_at, StoppedInSession, StoppedPlanning, IsStopped}
+use Rattle.avr_tool.specs.Headline.{run, run_after_planning, IsNext, FitsNext, IsInTurn, IsRun, IsPrefixOfRun, Reason, StopsThere, InSession, InPlanning, stop_line, opened_at, StoppedInSession, StoppedPlanning, IsStopped}
 
 pub emitted_outputs : (output_events : List OutputEvent) (events : List (Event OutputEvent))
     → outputs (map Emitted output_events ++ events) ≡ output_events ++ outputs events
@@ -153,6 +154,108 @@ break_part (NotRead name bytes) notice x y is_reported =
 break_part NoMemory notice x y is_reported = line_part memory_line notice x y is_reported
 break_part (NoMemoryForFile reading) notice x y is_reported = line_part memory_line notice x y is_reported
 
+emitted_append : (whole later : List OutputEvent) (events : List (Event OutputEvent))
+    → map Emitted (whole ++ later) ++ events ≡ map Emitted whole ++ (map Emitted later ++ events)
+emitted_append [] later events = refl
+emitted_append (event ∷ whole) later events = ap (λ rest. Emitted event ∷ rest) (emitted_append whole later events)
+
+-- ---- the place of a stop
+
+-- in a session, behind what planning did
+same_place : (before whole begun later : List (Event OutputEvent)) (cause : Cause) (during : Transcript)
+    → StopsAt cause during whole begun later → StopsAt cause during (before ++ whole) begun later
+same_place before whole begun later SendingFailed during place = place
+same_place before whole begun later ReceivingFailed during place = place
+same_place before whole begun later (FileFailed file NotCreated) during place = place
+same_place before whole begun later (FileFailed file NotWritten) during (inl place) = inl (
+  (
+    before ++ place.0.0,
+    ap (λ (events : List (Event OutputEvent)). before ++ events) place.0.1
+        ∙ sym (append_assoc before place.0.0 (Emitted (CreatesFile file) ∷ [])),
+  ),
+  place.1,
+)
+same_place before whole begun later (FileFailed file NotWritten) during (inr place) = inr place
+same_place before whole begun later PrintingFailed during place = place
+same_place before whole begun later AllocationFailed during place = place
+
+-- in planning, among the events of the whole run
+is_next : (event : OutputEvent) (later : List OutputEvent) (more : List (Event OutputEvent))
+    → IsNextEvent event later → IsNext event (map Emitted later ++ more)
+is_next event later more (behind, is) =
+    (map Emitted behind ++ more, ap (λ (events : List OutputEvent). map Emitted events ++ more) is)
+
+fits_next : (break : BreakCause) (openings : List Opening) (later : List OutputEvent)
+    (more : List (Event OutputEvent)) → BreakFitsNext break openings later
+    → FitsNext break openings (map Emitted later ++ more)
+fits_next (LineNotPrinted line) openings later more fits = is_next _ later more fits
+fits_next (NotOpened name) openings later more fits = is_next _ later more fits
+fits_next (NotRead name bytes) openings later more fits = is_next _ later more fits
+fits_next NoMemory openings later more fits = tt
+fits_next (NoMemoryForFile reading) openings later more fits = is_next _ later more fits
+
+-- the line of a refusal is an event of planning
+with_line : (tape : Tape) (later : List OutputEvent) (outcome : StageOutcome Plan)
+    → (more : List (Event OutputEvent)) × (map Emitted later ++ (run_after_planning outcome tape).events
+    ≡ map Emitted (events_with_refusal later outcome) ++ more)
+with_line tape later (Produced plan) = ((run_after_planning (Produced plan) tape).events, refl)
+with_line tape later (Refused line) = (
+  [],
+  sym (emitted_append later (PrintsLine line ∷ []) []),
+)
+with_line tape later NotReadToEnd = ([], refl)
+
+module _ (settings : Settings) (x y : Devices) (stopped : StoppedPlanning settings x y) (openings : List Opening) where
+  abbrev rest : RestOfStage (planned settings (stopped.broke.passed ++ openings)) stopped.broke.whole
+      stopped.broke.break openings
+  rest = stopped.broke.rest openings
+
+  abbrev behind : List (Event OutputEvent)
+  behind = map Emitted rest.later
+      ++ (run_after_planning (planned settings (stopped.broke.passed ++ openings)).stage_outcome []).events
+
+  abbrev prefix_planned : IsPrefixOfEvents IsPartOfEvent (map Emitted stopped.broke.whole ++ [])
+      (run settings (stopped.broke.passed ++ openings) []).events
+  prefix_planned = record {
+    whole = map Emitted stopped.broke.whole;
+    begun = [];
+    later = behind;
+    shown_is = refl;
+    events_are = ap (λ (done : List OutputEvent). map Emitted done
+        ++ (run_after_planning (planned settings (stopped.broke.passed ++ openings)).stage_outcome []).events)
+        rest.output_events_are ∙ emitted_append stopped.broke.whole rest.later _;
+    part = tt;
+  }
+
+  place_planned : FitsNext stopped.broke.break openings behind
+  place_planned =
+      let both = with_line [] rest.later (planned settings (stopped.broke.passed ++ openings)).stage_outcome in
+      subst (FitsNext stopped.broke.break openings) (sym both.1)
+      (fits_next stopped.broke.break openings _ both.0 rest.broken)
+
+module _ (settings : Settings) (x y : Devices) (stopped : StoppedInSession settings x y) (openings : List Opening) where
+  abbrev planned_events : List (Event OutputEvent)
+  planned_events = map Emitted stopped.made.output_events
+
+  abbrev in_session : IsPrefixOfEvents IsPartOfEvent stopped.then_is.shown
+      (played (session stopped.plan) 1 (heard stopped.then_is.during)).events
+  in_session = stopped.then_is.breaks.prefix
+
+  abbrev session_prefix : IsPrefixOfEvents IsPartOfEvent (planned_events ++ stopped.then_is.shown)
+      (run settings (stopped.made.passed ++ openings) (heard stopped.then_is.during)).events
+  session_prefix = record {
+    whole = planned_events ++ in_session.whole;
+    begun = in_session.begun;
+    later = in_session.later;
+    shown_is = ap (λ (events : List (Event OutputEvent)). planned_events ++ events) in_session.shown_is
+        ∙ sym (append_assoc planned_events in_session.whole in_session.begun);
+    events_are = ap (λ (p : StageResult Plan). (after_planning p (heard stopped.then_is.during)).events)
+        (stopped.made.comes openings)
+        ∙ (ap (λ (events : List (Event OutputEvent)). planned_events ++ events) in_session.events_are
+        ∙ sym (append_assoc planned_events in_session.whole in_session.later));
+    part = in_session.part;
+  }
+
 stopped_prefix : (settings : Settings) (x y : Devices) → StoppedInSession settings x y → IsPrefixOfRun settings x y
 stopped_prefix settings x y stopped = record {
   openings = stopped.made.passed;
@@ -161,7 +264,9 @@ stopped_prefix settings x y stopped = record {
   reason = InSession stopped.then_is.cause;
   notice = stopped.then_is.notice;
   reported_part = cause_part _ stopped.then_is.cause stopped.then_is.notice _ y.desk stopped.then_is.stops.is_reported;
-  prefix = search (rules, prefix_behind);
+  prefix = λ later. session_prefix settings x y stopped later;
+  place = λ later. same_place (map Emitted stopped.made.output_events) _ _ _ stopped.then_is.cause
+      stopped.then_is.during stopped.then_is.place;
   in_turn = λ later. subst (λ stage_outcome. IsInTurn stage_outcome stopped.then_is.during)
       (sym (outcomes_equal (stopped.made.comes later))) stopped.then_is.breaks.in_turn;
   all_sent = emitted_bytes stopped.made.output_events stopped.then_is.shown ∙ stopped.then_is.breaks.all_sent;
@@ -169,11 +274,6 @@ stopped_prefix settings x y stopped = record {
   kept = shown_kept stopped.made.output_events stopped.then_is.shown stopped.then_is.notice x.desk.kept
       stopped.between.kept y.desk.kept stopped.made.kept stopped.then_is.kept;
 }
-
-emitted_append : (whole later : List OutputEvent) (events : List (Event OutputEvent))
-    → map Emitted (whole ++ later) ++ events ≡ map Emitted whole ++ (map Emitted later ++ events)
-emitted_append [] later events = refl
-emitted_append (event ∷ whole) later events = ap (λ rest. Emitted event ∷ rest) (emitted_append whole later events)
 
 last_is : (break : BreakCause) (notice : Bytes) → events_of_break break notice ≡ opened_at (InPlanning break)
     ++ PrintsLine notice ∷ []
@@ -201,7 +301,8 @@ planned_prefix settings x y stopped = record {
   reason = InPlanning stopped.broke.break;
   notice = stopped.broke.notice;
   reported_part = break_part stopped.broke.break stopped.broke.notice x.desk y.desk stopped.broke.is_reported;
-  prefix = search (rules, emitted_append);
+  prefix = λ later. prefix_planned settings x y stopped later;
+  place = λ later. (refl, place_planned settings x y stopped later);
   in_turn = λ later. search rules;
   all_sent = emitted_bytes stopped.broke.whole [];
   grows = subst (λ (l : LinkState). Grows x.link.transcript [] l.transcript) (sym stopped.same)
@@ -213,6 +314,18 @@ planned_prefix settings x y stopped = record {
 pub stop_prefix : (settings : Settings) (x y : Devices) (status : ℕ) → IsStopped settings x y status
     → IsPrefixOfRun settings x y
 stop_prefix settings x y status e' = search (rules, stopped_prefix, planned_prefix)
+
+-- a text other than the next line is no prefix
+abbrev line_of : List (Event OutputEvent) → Bytes
+line_of (Emitted (PrintsLine line) ∷ more) = line
+line_of other = []
+
+pub another_text : (settings : Settings) (x y : Devices) (p : IsPrefixOfRun settings x y) (text line : Bytes)
+    (more : List (Event OutputEvent)) → p.reason ≡ InPlanning (LineNotPrinted text)
+    → (p.prefix []).later ≡ Emitted (PrintsLine line) ∷ more → (text ≡ line → ⊥) → ⊥
+another_text settings x y p text line more because next other =
+    let there = subst (λ (reason : Reason). StopsThere reason p.during [] (p.prefix [])) because (p.place []) in
+    other (ap line_of (sym there.1.1 ∙ next))
 
 -- the same openings and the same items received lead to one status
 pub one_status : (settings : Settings) (h i j k : Devices) (m n : ℕ) (x : IsRun settings h i m)
