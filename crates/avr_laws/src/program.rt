@@ -1,7 +1,7 @@
 //! The promise of the program: what its contract and the laws of runs state together.
 ghost use Rattle.std.specs.Prelude.{◌≡◌, []};
 ghost use Rattle.avr_desk.specs.Handles.{IsTrueRecord};
-ghost use Rattle.avr_desk.specs.Shown.{IsNewDesk};
+ghost use Rattle.avr_desk.specs.Shown.{IsNewDesk, IsTrueSince as IsTrueDesk};
 ghost use Rattle.avr_laws.specs.KeptByPort.{KeepsCommandLine};
 ghost use Rattle.avr_tool.specs.Sockets.{IsOverAddress};
 ghost use Rattle.stk_host.specs.Links.{TranscriptIsTrueSince};
@@ -15,7 +15,7 @@ use stk_host::StreamLink;
 
 /// Runs a command line as [`avr_tool::run_command_line`] does, at a new desk and over a link on which nothing has
 /// passed. States what its status 0 means, over any files, any network and any streams: the plan that the command line
-/// and the opened files ask for was kept. Output and messages are not in the clauses `files` and `streams`.
+/// and the opened files ask for was kept.
 // Proof: `words_kept` (KeptByPort/EachPort), by `kept` (Outcomes/Kept) over a link, and `file_kept` (KeptByPort/InFile)
 // over the emulator.
 pub fn a_program_with_status_0_kept_its_plan<
@@ -40,6 +40,8 @@ pub fn a_program_with_status_0_kept_its_plan<
     ensures files { IsNewDesk S.FileSystem desk.old
         → IsTrueRecord S.FileSystem S.File.Read S.File.Write S.Input.Read desk.new.system desk.new.opened
         desk.new.hold desk.new.kept }
+    // The messages took what the record has of them. So did standard output, if no created file is the output, too.
+    ensures shows { IsTrueDesk S.FileSystem S.File.Read S.File.Write S.Input.Read O.Write M.Write desk.old desk.new }
     ensures streams { TranscriptIsTrueSince R.remaining W.contents link.old link.new }
 {
     run_command_line(line, network, alloc, desk, link)
