@@ -18,10 +18,9 @@ is_same_file one other = false
 
 -- the same, and nobody has written to the file in between
 abbrev pub is_unchanged : Option Identity → Option Identity → Bool
-is_unchanged (Some one) (Some other) = is_same_file (Some one) (Some other) && (one.length == other.length)
-    && (one.seconds == other.seconds) && (one.nanoseconds == other.nanoseconds)
-is_unchanged None None = true
-is_unchanged one other = false
+is_unchanged (Some one) (Some other) =
+    is_same_file (Some one) (Some other) && (one.length == other.length) && (one.written == other.written)
+is_unchanged one other = is_same_file one other
 
 -- this error of the call counts as success; every other one is an error
 abbrev pub is_forgiven : Attempt → ErrorKind → Bool

@@ -74,7 +74,7 @@ pub trait Folder {
     /// What was seen at the place is still there, a file or none, and the new file still has its first name.
     ghost finds_seen_and_new: { Self → Option Self.Seen → Self.New → Type 0 };
 
-    /// The name doesn't lead to a file that this run holds.
+    /// The name doesn't lead to a file that this run holds, or makes beside it.
     ghost leads_to_no_held_file: { Self → Bytes → Type 0 };
 
     /// This run holds no file by this name.
@@ -120,7 +120,7 @@ pub trait Folder {
         ensures keeps { CrashLeavesNoMore left self.old self.new }
         ensures gives { ChangesCalls has_done (with_calls (Gives ∷ [])) self.old self.new };
 
-    /// Opens a file for reading.
+    /// Opens a file for reading. Fails if its name is one that a run gives to files beside a chip.
     fn open(&mut self, name: &str) -> io::Result<Self::File>
         ensures named { Counts has_done 0 self.old ⊎ is_free self.old name.now
             → MatchResult result (λ file. is_of file name.now)
@@ -196,7 +196,8 @@ pub trait Folder {
             (λ error. Preserves has_done self.old self.new) }
         ensures keeps { CrashLeavesNoMore left self.old self.new };
 
-    /// Fails with `ResourceBusy` if a name leads to the held place, or to the file that was seen there.
+    /// Fails with `ResourceBusy` if a name leads to the held place, to the file that was seen there, to the lock file, or
+    /// to where the new file is made.
     fn check_not_held(
         &mut self,
         name: &str,

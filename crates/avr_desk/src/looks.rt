@@ -9,15 +9,14 @@ use std::io;
 use std::io::ErrorKind;
 use std::io::ErrorKind::{InvalidInput, PermissionDenied, TooManyLinks, Unsupported};
 
-/// Which file it is, as long as the file exists. Its length and the time of its last change tell whether somebody has
-/// written to it.
+/// Which file it is, as long as the file exists. Its length and the time of the last write, in nanoseconds, tell
+/// whether somebody has written to it.
 #[derive(Clone, Copy)]
 pub(crate) struct Identity {
     pub(crate) device: u64,
     pub(crate) number: u64,
     pub(crate) length: u64,
-    pub(crate) seconds: u64,
-    pub(crate) nanoseconds: u64,
+    pub(crate) written: u64,
 }
 
 /// A call that not every file system can do, or that not every user may do. Some of its errors count as success:
@@ -45,14 +44,10 @@ pub(crate) fn is_unchanged(one: Option<Identity>, other: Option<Identity>) -> bo
     ensures { result ≡ is_unchanged one other }
 {
     match (one, other) {
-        (Some(one), Some(other)) => {
-            is_same_file(Some(one), Some(other))
-                && one.length == other.length
-                && one.seconds == other.seconds
-                && one.nanoseconds == other.nanoseconds
+        (Some(a), Some(b)) => {
+            is_same_file(one, other) && a.length == b.length && a.written == b.written
         }
-        (None, None) => true,
-        _ => false,
+        _ => is_same_file(one, other),
     }
 }
 

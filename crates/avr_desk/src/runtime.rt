@@ -13,6 +13,11 @@ use std::path::Path;
 use std::rt::Files;
 use std::{fs, io};
 
+/// What the paths of lock file and new file have after the chip's.
+const LOCK: &str = ".avrstk-lock";
+
+const NEW: &str = ".avrstk-new";
+
 /// A file. An empty write waits until it is on the disk, if the file system can sync it. A read that finds the end
 /// closes it, so that it isn't open when another file gets its name.
 #[derive(Drop)]
@@ -72,12 +77,12 @@ pub struct Held {
 }
 
 fn identity(file: &Metadata) -> Identity {
+    let seconds = file.mtime().cast_unsigned().wrapping_mul(1_000_000_000);
     Identity {
         device: file.dev(),
         number: file.ino(),
         length: file.size(),
-        seconds: file.mtime().cast_unsigned(),
-        nanoseconds: file.mtime_nsec().cast_unsigned(),
+        written: seconds.wrapping_add(file.mtime_nsec().cast_unsigned()),
     }
 }
 
@@ -100,8 +105,8 @@ fn place_of(alloc: Global, name: &str, path: String) -> io::Result<Place>
 {
     Ok(Place {
         name: String::from_str(alloc, name)?,
-        lock: [path.as_str(), ".avrstk-lock"].concat(alloc)?,
-        new: [path.as_str(), ".avrstk-new"].concat(alloc)?,
+        lock: [path.as_str(), LOCK].concat(alloc)?,
+        new: [path.as_str(), NEW].concat(alloc)?,
         path,
     })
 }
@@ -112,6 +117,16 @@ fn target<R: Files>(rt: &R, alloc: Global, name: &str) -> io::Result<String> {
         return Ok(rt.canonicalize(alloc, name)?.into_string());
     }
     Ok(String::from_str(alloc, name)?)
+}
+
+/// Fails if a name leads to a file that runs make beside a chip, and remove.
+fn check_unreserved<R: Files>(rt: &R, alloc: Global, name: &str) -> io::Result<()> {
+    let target = target(rt, alloc, name);
+    let path = target.as_ref().map_or(name, |path| path.as_str());
+    if path.ends_with(LOCK) || path.ends_with(NEW) {
+        return Err(io::Error::from(ErrorKind::ResourceBusy));
+    }
+    Ok(())
 }
 
 /// Returns the folder of a path.
@@ -196,6 +211,23 @@ fn check_free(rt: &impl Files, name: &str, held: &Held, seen: &Option<Metadata>)
     let is_link = is_link(rt.symlink_metadata(name))?;
     let is_place = is_one_place(rt, name, held.place.path.as_str())?;
     if leads(identity_of(seen), there, is_link, is_place) {
+        return Err(io::Error::from(ErrorKind::ResourceBusy));
+    }
+    Ok(())
+}
+
+/// Fails if a name leads to the lock file of a place, or to the path of its new file. An empty file is put there for a
+/// moment, because a link may lead there though there is none.
+fn check_apart<R: Files<File = File>>(rt: &R, name: &str, place: &Place) -> io::Result<()> {
+    let new = place.new.as_str();
+    let made = unless(ErrorKind::AlreadyExists, File::create_new(rt, new))?;
+    let (there, beside) = (rt.metadata(name), rt.symlink_metadata(new));
+    if made.is_some() {
+        rt.remove_file(new)?;
+    }
+    let (there, beside) = (identified(there)?, identified(beside)?);
+    let lock = identified(rt.symlink_metadata(place.lock.as_str()))?;
+    if there.is_some() && (is_same_file(there, beside) || is_same_file(there, lock)) {
         return Err(io::Error::from(ErrorKind::ResourceBusy));
     }
     Ok(())
@@ -305,6 +337,7 @@ impl<'a, R: Files<File = File> + Input + Alloc<A = Global>> Folder for &'a R {
     }
 
     fn open(&mut self, name: &str) -> io::Result<Synced> {
+        check_unreserved(*self, self.alloc(), name)?;
         fs::open(*self, name).map(Synced::new)
     }
 
@@ -366,7 +399,8 @@ impl<'a, R: Files<File = File> + Input + Alloc<A = Global>> Folder for &'a R {
         held: &Held,
         seen: &Option<Metadata>,
     ) -> io::Result<()> {
-        check_free(*self, name, held, seen)
+        check_free(*self, name, held, seen)?;
+        check_apart(*self, name, &held.place)
     }
 
     fn make(&mut self, held: &Held, seen: &Option<Metadata>) -> io::Result<File> {
