@@ -81,17 +81,23 @@ def mode_of(path):
     return stat.S_IMODE(path.stat().st_mode)
 
 
-def traced(prepare, words, how=None, meanwhile=None):
+def traced(prepare, words, how=None, meanwhile=None, when=1):
     """Returns the status of a run under strace, its messages, and its calls for the chip, its folder or a file beside
-    it. strace does this at a call. What is done meanwhile begins with that call, which is held for two seconds."""
+    it. strace does this at a call. What is done meanwhile begins with that call, the first of its name or a later one,
+    which is held for two seconds."""
     prepare()
-    inject = ["-e", f"inject={how}" + (":delay_enter=2000000:when=1" if meanwhile else "")] if how else []
+    inject = ["-e", f"inject={how}" + (f":delay_enter=2000000:when={when}" if meanwhile else "")] if how else []
     started = room.start(words, **tracing("-y", "-s", "50000", "-e", "trace=%file,%desc", *inject))
     if meanwhile:
-        wait_until(lambda: re.search(rf"^{how}\(".encode(), room.read("calls") or b"", re.M))
+        wait_until(lambda: len(re.findall(rf"^{how}\(".encode(), room.read("calls") or b"", re.M)) >= when)
         meanwhile(started)
     status, _, messages = end_of(started)
     return status, messages, calls_in((room.read("calls") or b"").decode(), FOLDER)
+
+
+def number_of(prepare, words, name, text):
+    """Returns which call of this name the first one is whose words have this text, in a run of its own."""
+    return next(it.number for it in traced(prepare, words)[2] if it.name == name and text in it.words)
 
 
 def is_safe(what, old, status, calls):
@@ -111,13 +117,18 @@ def each_power_cut():
         new, what = with_fuse(old, 0x62), f"chip {bool(old)}"
         status, _, calls = traced(prepare, writes_fuse(0x62))
         same(f"{what}: the run", status, 0)
+        synced = [it.words.split("<")[1].split(">")[0] for it in calls if it.name == "fsync"]
+        new_or_chip = os.path.join(FOLDER, "chip.bin" if old else NEW_FILE.name)
+        same(f"{what}: what is synced", synced, [os.path.join(FOLDER, NEW_FILE.name), FOLDER, new_or_chip])
         is_safe(what, old, status, calls)
         see("without the file's sync a chip may be torn", power_cuts(calls, old, os.path.join(FOLDER, NEW_FILE.name))[0] - {old, new})
         see("without the folder's sync the new chip may be lost", old in power_cuts(calls, old, FOLDER)[1])
         # (the last three are those of a file system without hard links, which does without)
         errors = [it for it in itertools.product(calls, ["EIO", "ENOENT", "EMFILE"])]
         errors += [it for it in itertools.product(calls, ["EPERM", "EOPNOTSUPP", "EMLINK"]) if it[0].name == "link"]
-        for call, error in sampled(f"{what}: failing calls", 20, errors):
+        kept = [it for it in errors if it[0].name in ["link", "rename", "fsync"]]
+        others = [it for it in errors if it not in kept]
+        for call, error in kept + sampled(f"{what}: other failing calls", 20, others):
             status, _, failed = traced(prepare, writes_fuse(0x62), f"{call.name}:error={error}:when={call.number}")
             is_safe(f"{what}: {error} at {call.name} {call.words[:80]}", old, status, failed)
             stays = status == 1 and call.name in ["link", "rename"] and call.words.endswith('"chip.bin"')
@@ -154,6 +165,7 @@ def others_meanwhile():
 
     for what, prepare, call, act, chip, left in [
         ("another chip", fresh_room, "fsync", lambda it: put(CHIP), b"mine", []),
+        ("a copy into the chip", fresh_room, "fsync", lambda it: CHIP.write_bytes(FRESH), FRESH, []),
         ("no chip", fresh_room, "fsync", lambda it: CHIP.unlink(), None, []),
         ("another new file", fresh_room, "fsync", lambda it: put(NEW_FILE), OLD, []),
         ("no new file", fresh_room, "fsync", lambda it: NEW_FILE.unlink(), OLD, []),
@@ -168,16 +180,75 @@ def others_meanwhile():
 
 
 def reads_on_the_disk():
-    """A file that a memory was read into is synced before the read's line is printed; if the sync fails with EIO,
-    the run fails. A file system that syncs no files or folders is no failure."""
+    """A file that a memory was read into is synced before the read's line is printed; if the sync fails, the run
+    fails. So it does with EROFS, which ext4 answers after an error. A file that can't be synced (EINVAL) is no
+    failure."""
     failed = (1, lines(SIGNATURE, "error: out.bin: cannot be written"))
     good = (0, lines(SIGNATURE, "eeprom: 1024 bytes read", "done"))
-    # (the new chip is synced between the two)
-    for how, wanted in [("error=EIO:when=1", failed), ("error=EINVAL:when=1+2", good), ("error=EROFS:when=1+2", good)]:
+    for how, wanted in [("error=EIO:when=1", failed), ("error=EROFS:when=1", failed), ("error=EINVAL:when=1", good)]:
         found = traced(fresh_room, [*EMULATED, "-U", "eeprom:r:out.bin:r"], f"fsync:{how}")
         same(f"{how}: the run", found[:2], wanted)
         see(f"{how}: what was read is there", room.read("out.bin") == OLD[EEPROM:LFUSE])
         see(f"{how}: the file is synced first", re.search(rb"^fsync\(\d+<([^>]*)>", room.read("calls"), re.M)[1].endswith(b"/out.bin"))
+
+
+def forgiven():
+    """Errors that count as success end no run, and all other errors of the same calls do. The calls are a folder's
+    opening and sync, a hard link, and the two that set the new file's group and owner."""
+    may_not = {"EPERM", "EACCES"}
+    others = "EINVAL ENOSYS EOPNOTSUPP EMLINK EROFS EIO ENOSPC EDQUOT ENOENT EINTR EBADF ENOMEM ESTALE"
+    errors = sorted(may_not | set(others.split()))
+    all_tried = []
+    for prepare, name, text, which, passed in [
+        (fresh_room, "openat", f"<{FOLDER}>", 0, may_not | {"EINTR"}),
+        (fresh_room, "fsync", f"<{FOLDER}>", 0, {"EINVAL", "EINTR"}),
+        (fresh_room, "fchown", "avrstk-new", 0, may_not | {"EINVAL", "ENOSYS", "EOPNOTSUPP"}),
+        (fresh_room, "fchown", "avrstk-new", 1, may_not | {"EINVAL", "ENOSYS", "EOPNOTSUPP"}),
+        (room.clear, "link", "avrstk-new", 0, may_not | {"EMLINK", "ENOSYS", "EOPNOTSUPP"}),
+    ]:
+        # (a folder's descriptor is in the result of its opening, and so is not among the words)
+        found = [it for it in traced(prepare, writes_fuse(0x62))[2] if it.name == name]
+        found = [it for it in found if text in it.words or (name == "openat" and '"."' in it.words)]
+        all_tried += [(prepare, found[which], it, it in passed) for it in errors]
+    # (an opening or a sync that a signal interrupts is made again)
+    for prepare, call, error, passes in sampled("errors of calls", 40, all_tried):
+        status = traced(prepare, writes_fuse(0x62), f"{call.name}:error={error}:when={call.number}")[0]
+        same(f"{error} at {call.name} {call.words[:60]}: the run", status, 0 if passes else 1)
+        see(f"{error} at {call.name}: the chip", not passes or room.read("chip.bin")[LFUSE] == 0x62)
+
+
+def whose_lock():
+    """A lock is held while its file has the name. A run whose lock file another run removes, before it is locked, is
+    told that the chip is in use. While a run removes its lock file, another one is refused. A pipe that gets the lock
+    file's name after the look blocks no run, and what a link that gets the new file's name leads to stays as it is."""
+
+    def stale():
+        fresh_room()
+        LOCK_FILE.touch()
+
+    def put_pipe(started):
+        os.mkfifo(room.folder / "pipe")
+        (room.folder / "pipe").rename(LOCK_FILE)
+
+    def put_link(started):
+        room.put("victim", b"mine")
+        NEW_FILE.symlink_to("victim")
+
+    good = lambda started: is_good("a run meanwhile", room.run(writes_fuse(0x22)), with_fuse(OLD, 0x22))
+    refused = lambda started: same("a run meanwhile", room.run(writes_fuse(0x22)), (1, b"", IN_USE))
+    words, in_use, unwritable = writes_fuse(0x11), (1, IN_USE), (1, UNWRITABLE)
+    opening = number_of(stale, words, "openat", "O_RDWR|O_NOCTTY|O_CLOEXEC")
+    for what, prepare, call, when, act, wanted in [
+        ("locked late", stale, "flock", 1, good, in_use),
+        ("unlocked", fresh_room, "unlink", number_of(fresh_room, words, "unlink", "avrstk-lock"), refused, (0, None)),
+        ("a pipe", stale, "openat", opening, put_pipe, unwritable),
+        ("a link", fresh_room, "openat", number_of(fresh_room, words, "openat", "avrstk-new"), put_link, unwritable),
+    ]:
+        status, messages, _ = traced(prepare, words, call, act, when)
+        last = messages.splitlines(True)[-1] if wanted[1] else None
+        same(f"{what}: the run", (status, last), wanted)
+        same(f"{what}: what a link leads to", room.read("victim"), b"mine") if call == "a link" else None
+        see(f"{what}: the chip is whole", len(room.read("chip.bin")) == CHIP_FILE)
 
 
 @contextlib.contextmanager
@@ -261,8 +332,9 @@ def what_is_refused():
 
 
 def read_into_the_chip():
-    """A read into the chip's own file is refused, also by a link to it, and the chip stays whole. A file of the same
-    name in another folder is another file. A name that isn't UTF-8 is as good as any."""
+    """A read into the chip's own file is refused, also by a link to it, and the chip stays whole. So is a read into a
+    file that the run makes beside it, and no image is read from there. A file of the same name in another folder is
+    another file. A name that isn't UTF-8 is as good as any."""
     for prepare, old in STARTS:
         for name in ["chip.bin", "./chip.bin", "link.bin", "odd.bin", "name.bin"][: 5 if old else 4]:
             prepare()
@@ -273,6 +345,20 @@ def read_into_the_chip():
             found = room.run([*EMULATED, "-U", f"eeprom:r:{name}:r", "-U", "lfuse:w:0x62:m"])
             same(f"{name}: the run", (found[0], found[2]), (1, lines(SIGNATURE, f"error: {name}: cannot be created")))
             see(f"{name}: the chip is whole", (room.read("chip.bin"), beside()) == (old or FRESH, []))
+        for its in [LOCK_FILE.name, NEW_FILE.name]:
+            for name in [its, f"./{its}", "link", "far", f"here/{its}"]:
+                prepare()
+                (room.folder / "link").symlink_to(its)
+                (room.folder / "far").symlink_to(room.folder / "link")
+                (room.folder / "here").symlink_to(".")
+                found = room.run([*EMULATED, "-U", f"eeprom:r:{name}:r", "-U", "lfuse:w:0x62:m"])
+                told = (1, lines(SIGNATURE, f"error: {name}: cannot be created"))
+                same(f"{name} to {its}: the run", (found[0], found[2]), told)
+                see(f"{name} to {its}: the chip is whole", (room.read("chip.bin"), beside()) == (old or FRESH, []))
+                room.put(its, b"mine")
+                found = room.run(["-p", "m328p", "-P", "emu:chip.bin", "-U", f"eeprom:w:{name}:r"])
+                same(f"{name} to {its}: an image", found, (1, b"", lines(f"error: {name}: cannot be opened")))
+                see(f"{name} to {its}: it stays", room.read(its) == b"mine")
     with tempfile.TemporaryDirectory() as other:
         fresh_room()
         (room.folder / "odd.bin").symlink_to(f"{other}/caf\udce9.bin")
@@ -291,7 +377,8 @@ def a_full_disk():
 
 
 def mounted():
-    """A chip file at which a file is mounted can't be replaced: it is written in place."""
+    """A chip file at which a file is mounted can't be replaced: it is written in place, and synced. If that fails, the
+    new file beside it stays, which is then the only whole chip."""
     room.clear()
     room.put("real.bin", OLD)
     room.put("chip.bin", b"")
@@ -300,9 +387,19 @@ def mounted():
         return leave_out("a chip that is mounted", "this may not mount")
     try:
         is_good("a run", room.run(writes_fuse(0x62)))
+        see("the file has the chip", room.read("real.bin") == with_fuse(OLD, 0x62))
+        if not shutil.which("strace"):
+            return leave_out("calls on a chip that is mounted", "strace is not installed")
+        status, _, calls = traced(lambda: None, writes_fuse(0x63))
+        over = next(at for at, it in enumerate(calls) if it.name == "openat" and "O_TRUNC" in it.words)
+        names = [it.name for it in calls[over:] if it.name in ["write", "fsync", "unlink"]]
+        same("what is done in place", (status, names), (0, ["write", "fsync", "unlink", "unlink"]))
+        write = next(it for it in calls[over:] if it.name == "write")
+        status = traced(lambda: None, writes_fuse(0x64), f"write:error=EIO:when={write.number}")[0]
+        same("a write in place that fails: the run and the mounted file", (status, room.read("real.bin")), (1, b""))
+        see("the new file is the whole chip", room.read(NEW_FILE.name) == with_fuse(OLD, 0x64))
     finally:
         subprocess.run(["umount", "chip.bin"], cwd=room.folder, check=True)
-    see("the file has the chip", room.read("real.bin") == with_fuse(OLD, 0x62))
 
 
 @contextlib.contextmanager
@@ -420,7 +517,7 @@ def stormy():
     same("what runs shouldn't do", odd, set())
 
 
-TRACED = named(each_power_cut, ended_anywhere, others_meanwhile, reads_on_the_disk)
+TRACED = named(each_power_cut, ended_anywhere, others_meanwhile, reads_on_the_disk, forgiven, whose_lock)
 if not shutil.which("strace"):
     TRACED = {name: lambda name=name: leave_out(name, "strace is not installed") for name in TRACED}
 

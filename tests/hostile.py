@@ -87,7 +87,7 @@ def descriptors_are_closed():
 
 def closed_streams_stay_closed():
     """If standard streams were closed before the start, only frames go over a `net:` link."""
-    for closed, status in [("0<&-", 0), ("1>&-", 0), ("2>&-", 1), ("0<&- 1>&- 2>&-", 1)]:
+    for closed, status in [("0<&-", 0), ("1>&-", 0), ("2>&-", 1), ("1>&- 2>&-", 1), ("0<&- 1>&- 2>&-", 1)]:
         peer = FrontOfReplies(REPLIES, resets=False)
         found = room.run(["-p", "m328p", "-P", f"net:127.0.0.1:{peer.port}"], closed=closed)
         frames = peer.end()

@@ -1,6 +1,7 @@
 //! The files of a system by their names, as a program's desk uses them.
-ghost use Rattle.std.specs.Prelude.{◌≡◌, ◌∷◌, [], MatchOption, MatchResult, Option, Some, true};
+ghost use Rattle.std.specs.Prelude.{◌≡◌, ◌∷◌, [], IfErr, MatchOption, MatchResult, Option, Some, true};
 ghost use Rattle.std.specs.IoError.{error_kind};
+ghost use Rattle.std.specs.declared.io.Error.{Error};
 ghost use Rattle.std.specs.Option.{option_copied};
 ghost use Rattle.avr_desk.specs.Journal.{Counts, ChangesCalls, SystemCalls, Gives, CrashMayAlsoLeave, CrashLeavesNoMore, Opens, IsUncounted, with_calls, count_of, with_one_more_held, made};
 ghost use Rattle.avr_desk.specs.Record.{Bytes};
@@ -46,6 +47,9 @@ pub trait FileSystem {
 
     /// Another process held the file of this name.
     ghost denies: { Bytes → Type 0 };
+
+    /// A call that was to hold the file of this name failed with this error.
+    ghost fails: { Bytes → Error → Type 0 };
 
     /// The file of this name was replaced with these bytes. From some moment on each crash leaves them, until the run
     /// replaces the file again.
@@ -106,11 +110,13 @@ pub trait FileSystem {
             (λ lock. MatchOption lock (denies name.now × Preserves has_done self.old self.new)
             (λ hold. holds hold name.now × ChangesCalls has_done with_one_more_held self.old self.new))
             (λ error. Preserves has_done self.old self.new) }
+        ensures fails { IfErr result (fails name.now) }
         ensures leaves { CrashMayAlsoLeave left name.now (began name.now) self.old self.new };
 
     /// Returns whether `hold` is the lock on the file of this name.
     fn is_held(&self, hold: &Self::Hold, name: &str) -> bool
-        ensures held { result ≡ true → holds hold.now name.now };
+        ensures held { result ≡ true → holds hold.now name.now }
+        ensures only { holds hold.now name.now → result ≡ true };
 
     /// Replaces the held file with `bytes`, all of them or none.
     ///

@@ -1,21 +1,31 @@
 //! What follows from the results of system calls. Nothing here makes a call.
-ghost use Rattle.std.specs.Prelude.{◌≡◌, ◌⊎◌, ◌==◌, ◌&&◌, ◌%◌, ◌*◌, bit_and, bit_or, if◌then◌else◌, IfOk, IfErr, OnOk, MatchOption, MatchResult, None, Ok, Err, Option, Some, true, false};
+ghost use Rattle.std.specs.Prelude.{◌≡◌, ◌==◌, ◌&&◌, ◌%◌, ◌*◌, bit_and, bit_or, if◌then◌else◌, IfOk, IfErr, OnOk, MatchOption, MatchResult, None, Ok, Err, Option, Some, true, false};
 ghost use Rattle.std.specs.IoError.{error_kind};
 ghost use Rattle.std.specs.Option.{is_none};
-ghost use Rattle.avr_desk.specs.Looks.{is_same_file, leads, locked};
+ghost use Rattle.avr_desk.specs.Looks.{is_forgiven, is_same_file, is_unchanged, leads, locked};
 
 use std::fs::TryLockError;
 use std::io;
 use std::io::ErrorKind;
-use std::io::ErrorKind::{
-    InvalidInput, PermissionDenied, ReadOnlyFilesystem, TooManyLinks, Unsupported,
-};
+use std::io::ErrorKind::{InvalidInput, PermissionDenied, TooManyLinks, Unsupported};
 
-/// Which file it is, as long as the file exists.
+/// Which file it is, as long as the file exists. Its length and the time of the last write, in nanoseconds, tell
+/// whether somebody has written to it.
 #[derive(Clone, Copy)]
 pub(crate) struct Identity {
     pub(crate) device: u64,
     pub(crate) number: u64,
+    pub(crate) length: u64,
+    pub(crate) written: u64,
+}
+
+/// A call that not every file system can do, or that not every user may do. Some of its errors count as success:
+/// docs/DECISIONS lists them.
+#[derive(Clone, Copy)]
+pub(crate) enum Attempt {
+    Sync,
+    Link,
+    SetOwner,
 }
 
 /// Returns whether two looks found the same file, or none.
@@ -26,6 +36,18 @@ pub(crate) fn is_same_file(one: Option<Identity>, other: Option<Identity>) -> bo
         (Some(one), Some(other)) => one.device == other.device && one.number == other.number,
         (None, None) => true,
         _ => false,
+    }
+}
+
+/// Returns whether two looks found the same file, which nobody has written to in between, or none.
+pub(crate) fn is_unchanged(one: Option<Identity>, other: Option<Identity>) -> bool
+    ensures { result ≡ is_unchanged one other }
+{
+    match (one, other) {
+        (Some(a), Some(b)) => {
+            is_same_file(one, other) && a.length == b.length && a.written == b.written
+        }
+        _ => is_same_file(one, other),
     }
 }
 
@@ -52,41 +74,45 @@ pub(crate) fn locked<T: Drop>(file: T, tried: Result<(), TryLockError>) -> io::R
     }
 }
 
-/// Returns the opened file if it is the one that was seen. The error is `NotFound` only if two looks found none,
+/// Returns the opened file if it is the one that was seen, unchanged. The error is `NotFound` only if two looks found none,
 /// because an error about an open file doesn't mean that the file is absent.
 pub(crate) fn opened<T: Drop>(
     seen: Option<Identity>,
     file: Option<T>,
     there: Option<io::Result<Identity>>,
 ) -> io::Result<T>
-    ensures same { OnOk result (MatchOption there ⊥ (λ it. IfOk it (λ own. is_same_file seen (Some own) ≡ true))) }
+    ensures same { OnOk result (MatchOption there ⊥ (λ it. IfOk it (λ own. is_unchanged seen (Some own) ≡ true))) }
     ensures absent { IfErr result (λ e. error_kind e ≡ ErrorKind.NotFound → is_none seen && is_none file ≡ true) }
 {
     match (file, there) {
-        (Some(file), Some(Ok(own))) if is_same_file(seen, Some(own)) => Ok(file),
+        (Some(file), Some(Ok(own))) if is_unchanged(seen, Some(own)) => Ok(file),
         (None, _) if seen.is_none() => Err(io::Error::from(ErrorKind::NotFound)),
         _ => Err(io::Error::from(ErrorKind::ResourceBusy)),
     }
 }
 
-/// Returns whether this error of a hard link means that the file system has none. A name in use is no such error.
-pub(crate) fn links_none(kind: ErrorKind) -> bool
-    ensures { kind ≡ ErrorKind.AlreadyExists → result ≡ false }
+/// Returns whether this error of a call counts as success.
+pub(crate) fn is_forgiven(call: Attempt, kind: ErrorKind) -> bool
+    ensures { result ≡ is_forgiven call kind }
 {
-    matches!(kind, PermissionDenied | Unsupported | TooManyLinks)
+    match call {
+        // pipes, terminals, and folders of some file systems
+        Attempt::Sync => matches!(kind, InvalidInput),
+        // file systems without hard links
+        Attempt::Link => matches!(kind, PermissionDenied | TooManyLinks | Unsupported),
+        // a user who may not, an owner that the container doesn't have, and file systems without owners
+        Attempt::SetOwner => matches!(kind, PermissionDenied | InvalidInput | Unsupported),
+    }
 }
 
-/// Returns the result of a sync. It counts as done if the file system can't sync a file of that kind.
-pub(crate) fn synced(waited: io::Result<()>) -> io::Result<()>
-    ensures done { OnOk waited (result ≡ waited) }
-    ensures passed { IfErr waited (λ error. (error_kind error ≡ ErrorKind.InvalidInput)
-        ⊎ (error_kind error ≡ ErrorKind.ReadOnlyFilesystem) → result ≡ Ok tt) }
-    ensures fails { IfErr waited (λ error. (error_kind error ≡ ErrorKind.InvalidInput → ⊥)
-        → (error_kind error ≡ ErrorKind.ReadOnlyFilesystem → ⊥) → result ≡ waited) }
+/// Returns the result of a call, or success in place of an error that counts so.
+pub(crate) fn forgiving(call: Attempt, given: io::Result<()>) -> io::Result<()>
+    ensures { MatchResult given (λ done. result ≡ given)
+        (λ error. result ≡ (if is_forgiven call (error_kind error) then Ok tt else given)) }
 {
-    match waited {
-        Err(error) if matches!(error.kind(), InvalidInput | ReadOnlyFilesystem) => Ok(()),
-        waited => waited,
+    match given {
+        Err(error) if is_forgiven(call, error.kind()) => Ok(()),
+        given => given,
     }
 }
 

@@ -4,9 +4,9 @@
 //! The run locks NAME.avrstk-lock; the system unlocks it if the run is killed. The new bytes go to NAME.avrstk-new,
 //! which only the lock holder touches. Once they are on the disk, that file is renamed to NAME. If there was no file to
 //! replace, it gets NAME as a second name, which never takes the place of another file.
-ghost use Rattle.std.specs.Prelude.{◌≡◌, ◌⊎◌, IfOk, MatchOption, MatchResult, Option, Some};
+ghost use Rattle.std.specs.Prelude.{◌≡◌, ◌⊎◌, [], IfErr, IfOk, MatchOption, MatchResult, OnOk, Option, Some};
 ghost use Rattle.avr_desk.specs.Handles.{IsHeldBy};
-ghost use Rattle.avr_desk.specs.Journal.{ChangesCalls, CrashMayAlsoLeave, IsUncounted, with_calls, with_one_more_held, made};
+ghost use Rattle.avr_desk.specs.Journal.{ChangesCalls, CrashLeavesNoMore, CrashMayAlsoLeave, IsUncounted, with_calls, with_one_more_held, made};
 ghost use Rattle.avr_desk.specs.Record.{Bytes};
 ghost use Rattle.ghosts.specs.Preserves.{Preserves};
 
@@ -21,6 +21,7 @@ pub struct Replacement<F: Folder> {
     held: F::Held,
     seen: Option<F::Seen>,
     parent: F::Parent,
+    ghost saw: { ∥ F.saw held seen ∥₁ },
 }
 
 /// Locks a place. Returns `None` if another process has locked it.
@@ -28,7 +29,7 @@ fn hold_place<F: Folder>(folder: &mut F, place: F::Place) -> io::Result<Option<F
     ensures holds { MatchResult result
         (λ held. MatchOption held (F.denies (F.name_of place) × Preserves F.has_done folder.old folder.new) (λ held.
         (F.held_name held ≡ F.name_of place) × ChangesCalls F.has_done with_one_more_held folder.old folder.new))
-        (λ error. Preserves F.has_done folder.old folder.new) }
+        (λ error. F.fails (F.name_of place) error × Preserves F.has_done folder.old folder.new) }
     ensures leaves { CrashMayAlsoLeave F.left (F.name_of place) (F.began (F.name_of place)) folder.old folder.new }
 {
     let Some(file) = folder.open_lock(&place)? else {
@@ -41,22 +42,52 @@ fn hold_place<F: Folder>(folder: &mut F, place: F::Place) -> io::Result<Option<F
 }
 
 impl<F: Folder> Replacement<F> {
+    /// Writes `bytes` to a new file, and waits until they are on the disk. Fails if the place has changed since it was
+    /// locked.
+    fn fill(&self, folder: &mut F, file: &mut F::New, bytes: &[u8]) -> io::Result<()>
+        requires { F.has file.old [] }
+        ensures ready { OnOk result (F.keeps file.new bytes.now
+            × F.finds_seen_and_new folder.new self.now.seen file.new) }
+        ensures stays { IsUncounted F.has_done F.left folder.old folder.new }
+    {
+        folder.write(file, bytes)?;
+        folder.sync(file)?;
+        folder.check_unchanged(&self.held, &self.seen, file)
+    }
+
     /// Makes a new file with `bytes`, on the disk. Fails if the place has changed since it was locked.
     fn make_ready(&self, folder: &mut F, bytes: &[u8]) -> io::Result<F::New>
         ensures ready { IfOk result (λ it. F.keeps it bytes.now × F.finds_seen_and_new folder.new self.now.seen it) }
         ensures stays { IsUncounted F.has_done F.left folder.old folder.new }
     {
-        // A killed run may have left a new file.
-        folder.remove_new(&self.held);
         let mut file = folder.make(&self.held, &self.seen)?;
-        folder.write(&mut file, bytes)?;
-        folder.sync(&mut file)?;
-        folder.check_unchanged(&self.held, &self.seen, &file)?;
-        Ok(file)
+        match self.fill(folder, &mut file, bytes) {
+            Ok(()) => Ok(file),
+            Err(error) => {
+                folder.discard(&self.held, file);
+                Err(error)
+            }
+        }
+    }
+
+    /// Waits until the new name of a file is on the disk.
+    fn settle(&self, folder: &mut F, placed: F::Placed) -> io::Result<()>
+        ensures lasts { MatchResult result
+            (λ done. (bytes : Bytes) → F.finds folder.old (F.held_name self.now.held) bytes
+            → F.lasts (F.held_name self.now.held) bytes
+            × ChangesCalls F.has_done (with_calls (made (F.held_name self.now.held))) folder.old folder.new)
+            (λ error. Preserves F.has_done folder.old folder.new) }
+        ensures spare { OnOk result (F.is_spare folder.new (F.held_name self.now.held)) }
+        ensures keeps { CrashLeavesNoMore F.left folder.old folder.new }
+    {
+        folder.sync_name(&self.held, &self.parent)?;
+        // The last call, because some file systems report a failure of the disk only here.
+        folder.sync_placed(&self.held, placed)
     }
 
     /// Removes the new file if the call that needed it last succeeded. Returns that call's result.
     fn remove_after(&self, done: io::Result<()>, folder: &mut F) -> io::Result<()>
+        requires { OnOk done (F.is_spare folder.old (F.held_name self.now.held)) }
         ensures same { result ≡ done }
         ensures stays { IsUncounted F.has_done F.left folder.old folder.new }
     {
@@ -86,6 +117,8 @@ impl<F: Folder> FileSystem for F {
     ghost holds = { λ hold name. F.held_name hold.held ≡ name };
 
     ghost denies = { F.denies };
+
+    ghost fails = { F.fails };
 
     ghost replaced = { F.lasts };
 
@@ -140,19 +173,13 @@ impl<F: Folder> FileSystem for F {
     }
 
     fn put_held(&mut self, hold: &mut Replacement<F>, bytes: &[u8]) -> io::Result<()> {
-        let file = match hold.make_ready(self, bytes) {
-            Ok(file) => file,
-            Err(error) => {
-                self.remove_new(&hold.held);
-                return Err(error);
-            }
-        };
+        let file = hold.make_ready(self, bytes)?;
         let Some(seen) = &hold.seen else {
-            self.place_new(&hold.held, file)?;
-            return hold.remove_after(self.sync_name(&hold.held, &hold.parent), self);
+            let placed = self.place_new(&hold.held, file)?;
+            return hold.remove_after(hold.settle(self, placed), self);
         };
         match self.rename(&hold.held, seen, file) {
-            Ok(()) => self.sync_name(&hold.held, &hold.parent),
+            Ok(placed) => hold.settle(self, placed),
             // A mounted file can't be renamed over, so it is written in place.
             Err(error) if error.kind() == ErrorKind::ResourceBusy => {
                 hold.remove_after(self.write_over(&hold.held, bytes), self)

@@ -2,8 +2,8 @@ ghost use Rattle.std.specs.Prelude.{◌≡◌, ⊤, IfOk, string_bytes};
 
 use crate::folder::Folder;
 use crate::looks::{
-    Identity, first_mode, given, is_same_file, leads, links_none, locked, opened,
-    permissions_after, synced, unless,
+    Attempt, Identity, first_mode, forgiving, given, is_forgiven, is_same_file, is_unchanged,
+    leads, locked, opened, permissions_after, unless,
 };
 use std::alloc::Global;
 use std::fs::{File, Metadata, OpenOptions, Permissions};
@@ -12,6 +12,11 @@ use std::os::unix::fs::{MetadataExt, OpenOptionsExt, PermissionsExt, fchown};
 use std::path::Path;
 use std::rt::Files;
 use std::{fs, io};
+
+/// What the paths of lock file and new file have after the chip's.
+const LOCK: &str = ".avrstk-lock";
+
+const NEW: &str = ".avrstk-new";
 
 /// A file. An empty write waits until it is on the disk, if the file system can sync it. A read that finds the end
 /// closes it, so that it isn't open when another file gets its name.
@@ -29,7 +34,9 @@ impl Synced {
 impl Write for Synced {
     fn write(&mut self, bytes: &[u8]) -> io::Result<usize> {
         match &mut self.file {
-            Some(file) if bytes.is_empty() => synced(file.sync_all()).and(Ok(0)),
+            Some(file) if bytes.is_empty() => {
+                forgiving(Attempt::Sync, file.sync_all()).and(Ok(0))
+            }
             Some(file) => file.write(bytes),
             None => Err(io::Error::from(ErrorKind::NotFound)),
         }
@@ -70,8 +77,13 @@ pub struct Held {
 }
 
 fn identity(file: &Metadata) -> Identity {
-    let (device, number) = (file.dev(), file.ino());
-    Identity { device, number }
+    let seconds = file.mtime().cast_unsigned().wrapping_mul(1_000_000_000);
+    Identity {
+        device: file.dev(),
+        number: file.ino(),
+        length: file.size(),
+        written: seconds.wrapping_add(file.mtime_nsec().cast_unsigned()),
+    }
 }
 
 fn own_identity(file: &File) -> io::Result<Identity> {
@@ -93,8 +105,8 @@ fn place_of(alloc: Global, name: &str, path: String) -> io::Result<Place>
 {
     Ok(Place {
         name: String::from_str(alloc, name)?,
-        lock: [path.as_str(), ".avrstk-lock"].concat(alloc)?,
-        new: [path.as_str(), ".avrstk-new"].concat(alloc)?,
+        lock: [path.as_str(), LOCK].concat(alloc)?,
+        new: [path.as_str(), NEW].concat(alloc)?,
         path,
     })
 }
@@ -105,6 +117,16 @@ fn target<R: Files>(rt: &R, alloc: Global, name: &str) -> io::Result<String> {
         return Ok(rt.canonicalize(alloc, name)?.into_string());
     }
     Ok(String::from_str(alloc, name)?)
+}
+
+/// Fails if a name leads to a file that runs make beside a chip, and remove.
+fn check_unreserved<R: Files>(rt: &R, alloc: Global, name: &str) -> io::Result<()> {
+    let target = target(rt, alloc, name);
+    let path = target.as_ref().map_or(name, |path| path.as_str());
+    if path.ends_with(LOCK) || path.ends_with(NEW) {
+        return Err(io::Error::from(ErrorKind::ResourceBusy));
+    }
+    Ok(())
 }
 
 /// Returns the folder of a path.
@@ -133,15 +155,33 @@ fn regular(found: io::Result<Metadata>) -> io::Result<Option<Metadata>> {
     }
 }
 
-/// Opens the file at `path`, if there is one. Links are not followed. Pipes are not opened, since that could block.
+/// Returns an opened file. Fails if it is no regular file.
+fn only_regular(file: File) -> io::Result<File> {
+    regular(file.metadata())?;
+    Ok(file)
+}
+
+/// Opens a regular file to read and write. Unlike opening it to read, this doesn't wait at a pipe that got its name
+/// meanwhile.
+fn open_both_ways<R: Files<File = File>>(rt: &R, path: &str) -> io::Result<File> {
+    only_regular(OpenOptions::new().read(true).write(true).open(rt, path)?)
+}
+
+/// Opens the regular file at `path`, if there is one. Links are not followed.
 fn open_regular<R: Files<File = File>>(rt: &R, path: &str) -> io::Result<Option<File>> {
-    match regular(rt.symlink_metadata(path))? {
-        Some(_) => unless(ErrorKind::NotFound, fs::open(rt, path)),
-        None => Ok(None),
+    if regular(rt.symlink_metadata(path))?.is_none() {
+        return Ok(None);
+    }
+    match unless(ErrorKind::NotFound, open_both_ways(rt, path)) {
+        // what another user left may be read only
+        Err(error) if error.kind() == ErrorKind::PermissionDenied => {
+            Ok(Some(only_regular(fs::open(rt, path)?)?))
+        }
+        opened => opened,
     }
 }
 
-/// Returns the opened file if it is the one that was seen.
+/// Returns the opened file if it is the one that was seen, unchanged.
 fn seen_file(seen: &Option<Metadata>, file: io::Result<File>) -> io::Result<Synced> {
     let file = unless(ErrorKind::NotFound, file)?;
     let there = file.as_ref().map(own_identity);
@@ -176,6 +216,23 @@ fn check_free(rt: &impl Files, name: &str, held: &Held, seen: &Option<Metadata>)
     Ok(())
 }
 
+/// Fails if a name leads to the lock file of a place, or to the path of its new file. An empty file is put there for a
+/// moment, because a link may lead there though there is none.
+fn check_apart<R: Files<File = File>>(rt: &R, name: &str, place: &Place) -> io::Result<()> {
+    let new = place.new.as_str();
+    let made = unless(ErrorKind::AlreadyExists, File::create_new(rt, new))?;
+    let (there, beside) = (rt.metadata(name), rt.symlink_metadata(new));
+    if made.is_some() {
+        rt.remove_file(new)?;
+    }
+    let (there, beside) = (identified(there)?, identified(beside)?);
+    let lock = identified(rt.symlink_metadata(place.lock.as_str()))?;
+    if there.is_some() && (is_same_file(there, beside) || is_same_file(there, lock)) {
+        return Err(io::Error::from(ErrorKind::ResourceBusy));
+    }
+    Ok(())
+}
+
 /// Fails unless what was seen is still at the place, and the new file still has its name.
 fn check_kept(rt: &impl Files, held: &Held, seen: &Option<Metadata>, new: &File) -> io::Result<()> {
     let first = held.place.new.as_str();
@@ -184,7 +241,7 @@ fn check_kept(rt: &impl Files, held: &Held, seen: &Option<Metadata>, new: &File)
     // Renaming a file to its own name changes nothing, but waits for what others have begun in the folder. So the
     // last look, right before the new file gets the name, sees what they did.
     rt.rename(first, first)?;
-    if is_own && is_same_file(identity_of(seen), identified(rt.symlink_metadata(path))?) {
+    if is_own && is_unchanged(identity_of(seen), identified(rt.symlink_metadata(path))?) {
         return Ok(());
     }
     Err(io::Error::from(ErrorKind::AlreadyExists))
@@ -195,7 +252,7 @@ fn link_or_rename<R: Files>(rt: &R, place: &Place) -> io::Result<()> {
     let (new, path) = (place.new.as_str(), place.path.as_str());
     // If the file system has no hard links, only the look before keeps another file from being replaced.
     match rt.hard_link(new, path) {
-        Err(error) if links_none(error.kind()) => rt.rename(new, path),
+        Err(error) if is_forgiven(Attempt::Link, error.kind()) => rt.rename(new, path),
         linked => linked,
     }
 }
@@ -203,18 +260,11 @@ fn link_or_rename<R: Files>(rt: &R, place: &Place) -> io::Result<()> {
 /// Gives a new file the old one's group, owner and permissions, as far as the system allows.
 fn copy_owner_and_mode(new: &File, old: &Metadata) -> io::Result<()> {
     let own = new.metadata()?;
-    let _ = fchown(new, None, given(own.gid(), old.gid()));
-    let _ = fchown(new, given(own.uid(), old.uid()), None);
+    let (group, owner) = (given(own.gid(), old.gid()), given(own.uid(), old.uid()));
+    forgiving(Attempt::SetOwner, fchown(new, None, group))?;
+    forgiving(Attempt::SetOwner, fchown(new, owner, None))?;
     let is_of_group = new.metadata()?.gid() == old.gid();
     new.set_permissions(Permissions::from_mode(permissions_after(old.mode(), is_of_group)))
-}
-
-/// Returns the new file as it is to be: like the old one, if there is one.
-fn like_old(new: File, old: &Option<Metadata>) -> io::Result<File> {
-    if let Some(old) = old {
-        copy_owner_and_mode(&new, old)?;
-    }
-    Ok(new)
 }
 
 impl<'a, R: Files<File = File> + Input + Alloc<A = Global>> Folder for &'a R {
@@ -236,6 +286,8 @@ impl<'a, R: Files<File = File> + Input + Alloc<A = Global>> Folder for &'a R {
 
     type New = File;
 
+    type Placed = File;
+
     ghost has_done = { λ done system. ⊤ };
 
     ghost left = { λ system name found. ⊥ };
@@ -245,6 +297,12 @@ impl<'a, R: Files<File = File> + Input + Alloc<A = Global>> Folder for &'a R {
     ghost lasts = { λ name bytes. ⊤ };
 
     ghost finds = { λ system name bytes. ⊤ };
+
+    ghost finds_synced = { λ system name bytes. ⊤ };
+
+    ghost is_spare = { λ system name. ⊤ };
+
+    ghost saw = { λ held seen. ⊤ };
 
     ghost finds_seen_and_new = { λ system seen file. ⊤ };
 
@@ -259,6 +317,8 @@ impl<'a, R: Files<File = File> + Input + Alloc<A = Global>> Folder for &'a R {
     ghost is_mounted = { λ name. ⊤ };
 
     ghost denies = { λ name. ⊤ };
+
+    ghost fails = { λ name error. ⊤ };
 
     ghost has = { λ file bytes. ⊤ };
 
@@ -277,6 +337,7 @@ impl<'a, R: Files<File = File> + Input + Alloc<A = Global>> Folder for &'a R {
     }
 
     fn open(&mut self, name: &str) -> io::Result<Synced> {
+        check_unreserved(*self, self.alloc(), name)?;
         fs::open(*self, name).map(Synced::new)
     }
 
@@ -323,13 +384,13 @@ impl<'a, R: Files<File = File> + Input + Alloc<A = Global>> Folder for &'a R {
     fn see(&mut self, held: &Held) -> io::Result<Option<Metadata>> {
         let (files, path) = (*self, held.place.path.as_str());
         match regular(files.metadata(path)) {
-            Ok(Some(_)) => metadata_of(OpenOptions::new().write(true).open(files, path)),
+            Ok(Some(_)) => metadata_of(open_both_ways(files, path)),
             otherwise => otherwise,
         }
     }
 
     fn open_seen(&mut self, held: &Held, seen: &Option<Metadata>) -> io::Result<Synced> {
-        seen_file(seen, fs::open(*self, held.place.path.as_str()))
+        seen_file(seen, open_both_ways(*self, held.place.path.as_str()))
     }
 
     fn check_not_held(
@@ -338,16 +399,28 @@ impl<'a, R: Files<File = File> + Input + Alloc<A = Global>> Folder for &'a R {
         held: &Held,
         seen: &Option<Metadata>,
     ) -> io::Result<()> {
-        check_free(*self, name, held, seen)
+        check_free(*self, name, held, seen)?;
+        check_apart(*self, name, &held.place)
     }
 
     fn make(&mut self, held: &Held, seen: &Option<Metadata>) -> io::Result<File> {
+        let path = held.place.new.as_str();
+        let _ = self.remove_file(path);
         let file = OpenOptions::new()
             .write(true)
             .create_new(true)
             .mode(first_mode(seen.is_some()))
-            .open(*self, held.place.new.as_str())?;
-        like_old(file, seen)
+            .open(*self, path)?;
+        let Some(old) = seen else {
+            return Ok(file);
+        };
+        match copy_owner_and_mode(&file, old) {
+            Ok(()) => Ok(file),
+            Err(error) => {
+                self.discard(held, file);
+                Err(error)
+            }
+        }
     }
 
     fn write(&mut self, file: &mut File, bytes: &[u8]) -> io::Result<()> {
@@ -367,19 +440,30 @@ impl<'a, R: Files<File = File> + Input + Alloc<A = Global>> Folder for &'a R {
         check_kept(*self, held, seen, file)
     }
 
-    fn place_new(&mut self, held: &Held, _file: File) -> io::Result<()> {
-        link_or_rename(*self, &held.place)
+    fn discard(&mut self, held: &Held, file: File) {
+        let _ = self.remove_file(held.place.new.as_str());
+        drop(file);
     }
 
-    fn rename(&mut self, held: &Held, _seen: &Metadata, _file: File) -> io::Result<()> {
-        fs::rename(*self, held.place.new.as_str(), held.place.path.as_str())
+    fn place_new(&mut self, held: &Held, file: File) -> io::Result<File> {
+        link_or_rename(*self, &held.place)?;
+        Ok(file)
+    }
+
+    fn rename(&mut self, held: &Held, _seen: &Metadata, file: File) -> io::Result<File> {
+        fs::rename(*self, held.place.new.as_str(), held.place.path.as_str())?;
+        Ok(file)
     }
 
     fn sync_name(&mut self, _held: &Held, parent: &Option<File>) -> io::Result<()> {
         match parent {
-            Some(folder) => synced(folder.sync_all()),
+            Some(folder) => forgiving(Attempt::Sync, folder.sync_all()),
             None => Ok(()),
         }
+    }
+
+    fn sync_placed(&mut self, _held: &Held, placed: File) -> io::Result<()> {
+        placed.sync_all()
     }
 
     fn write_over(&mut self, held: &Held, bytes: &[u8]) -> io::Result<()> {

@@ -354,6 +354,7 @@ system = record {
   lacks = λ name. name ≡ file;
   holds = λ hold name. ⊥;
   denies = λ name. ⊥;
+  fails = λ name error. ⊥;
   replaced = λ name bytes. name ≡ file;
   left = λ now name found. ⊥;
   began = λ name found. ⊥;
