@@ -50,8 +50,8 @@ QUICK = (*HALVES, "bad_lines", "avrdude", "chips", "why", "hostile", "parts", *S
 BOTH = ("runs", "lines")
 # counts of bench/run.py
 BENCH = ("calls", "count")
-# scripts that --all runs with the proved program; the longest first
-PROGRAM = ("faults", "mega", "vendor proof", "package", *BENCH, *QUICK)
+# scripts that --all runs with the proved program (mutants builds one of its own); the longest first
+PROGRAM = ("faults", "mutants", "mega", "vendor proof", "package", "power", *BENCH, *QUICK)
 
 LANES = len(os.sched_getaffinity(0))
 # scripts that no proof waits for give way to rt ci (but not what `rt try` starts, in a session of its own)

@@ -31,8 +31,8 @@ left = 0
 LATE = 75
 
 # the most seconds that a script waits for an expected event. It ends a hang, and is long enough for a machine that
-# stops for minutes; nothing is measured by it
-PATIENCE = 600
+# stops for minutes; nothing is measured by it. (mutants.py waits for less, and ends each script at its first failure)
+PATIENCE = int(os.environ.get("PATIENCE", 600))
 
 # the most characters printed of a found or a wanted value
 SHOWN = 600
@@ -46,6 +46,8 @@ def see(name, good, detail=""):
     else:
         failed += 1
         print(f"FAILED: {name}" + (f"\n{detail}" if detail else ""), flush=True)
+        if os.environ.get("FIRST_FAILURE") == "1":
+            sys.exit(1)
     return bool(good)
 
 

@@ -5,7 +5,7 @@ set -u
 packages=(
     gcc libc6-dev avrdude srecord gcc-avr binutils-avr avr-libc python3-intelhex simavr libsimavr-dev libelf-dev
     arduino-core-avr socat ser2net groff-base strace valgrind mandoc lintian dpkg-dev git xz-utils binutils
-    zsh fish python3-pytest cmark-gfm
+    zsh fish python3-pytest cmark-gfm python3-fusepy xfsprogs
 )
 lacking=()
 for it in "${packages[@]}"; do

@@ -5,8 +5,9 @@
                                      alone is a law or another function, for all that its clauses name
     tools/reach.py -v ..             also lists them, file by file
     tools/reach.py --check           compares the table of docs/PROOFS with the figures; --write writes them there. It also
-                                     looks for each definition (`File.name`) and law that the documents name, and for the
-                                     lemmas of avr_laws that show that the promise isn't empty
+                                     looks for each definition (`File.name`) and law that the documents name, for the
+                                     lemmas of avr_laws that show that the promise isn't empty, and for each clause of
+                                     `Folder` in the model that shows that the laws of a crash aren't
 
 A definition reaches the definitions that its text names, in its own file or brought in by `use` lines. Definitions of
 std, of other libraries and of Rust (an enum, a struct) are listed but not counted. A variable with the name of a
@@ -26,6 +27,8 @@ NAMING = ("PROOFS", "PROMISES", "CHECK", "LIBRARY")
 TABLE = "| Sentence | Where it is defined | Definitions | Lines |"
 WORLDS = "| Definition | Lemma: an example meets it | Lemma: a wrong example doesn't |"
 PROMISE = "a_program_with_status_0_kept_its_plan"
+# the trait whose clauses a crash rests on, and its model
+TRAIT, MODEL = TOP / "crates/avr_desk/src/folder.rt", TOP / "crates/avr_laws/proofs/Rows/Folder.antt"
 
 HEADER = re.compile(r"^\s*(?:(?:abbrev|unfoldable) pub|pub (?:record|data)) (\S+)")
 USE = re.compile(r"^(?:ghost )?use Rattle\.(\w+)\.specs\.(\w+)(?: as (\w+)|\.\{(.*)\})?;?$")
@@ -194,10 +197,25 @@ def unshown(page):
                 yield f"{lemma} shows nothing of {named}"
 
 
+def unmet():
+    """Yields the calls and clauses of `Folder` that its model doesn't have as they are in the trait. The clauses of a call
+    are the fields of a record of its name, and a lemma shows that the call meets them."""
+    model = MODEL.read_text()
+    records = dict(re.findall(r"^  record (\w+)Clauses\b.*? where\n(.*?)\n\n", model, re.M | re.S))
+    for call, text in re.findall(r"^    fn (\w+)\b(.*?);$", TRAIT.read_text(), re.M | re.S):
+        fields = re.findall(r"^    (\w+) : (.*(?:\n {8}.*)*)", records.get(call.title().replace("_", ""), ""), re.M)
+        stated = [(name, " ".join(clause.split())) for name, clause in fields]
+        if f"\n  {call}_met :" not in model:
+            yield f"{MODEL.name} has no lemma {call}_met"
+        for name, clause in re.findall(r"^ {8}ensures (\w+) \{ (.*?) \}$", text, re.M | re.S):
+            if (name, " ".join(clause.split())) not in stated:
+                yield f"{MODEL.name} doesn't have the clause {name} of {call} as it is in {TRAIT.name}"
+
+
 def main(words):
     if words in (["--check"], ["--write"]):
         page = with_figures(PAGE.read_text())
-        sys.exit(kept({PAGE: page, README: with_lines(README.read_text(), page)}, [*lacking(), *unshown(LAWS.read_text())]))
+        sys.exit(kept({PAGE: page, README: with_lines(README.read_text(), page)}, [*lacking(), *unshown(LAWS.read_text()), *unmet()]))
     roots = [root for it in words if it != "-v" for root in roots_of(it)] or sys.exit(__doc__)
     seen = reached(roots)
     files = sorted({(crate, file) for crate, file, _ in seen})

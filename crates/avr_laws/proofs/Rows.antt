@@ -7,3 +7,4 @@ pub mod Kept
 pub mod OtherSignature
 pub mod Served
 pub mod Promise
+pub mod Folder
