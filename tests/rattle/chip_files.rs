@@ -1,7 +1,7 @@
-//! Chip files that are missing, complete or of the wrong length, and desks that fail.
-use avr_desk::{ChipDesk, Desk, FailingDesk, MemDesk};
+//! Chip files that are missing, complete or of the wrong length, and desks that fail or lock nothing.
+use avr_desk::{ChipDesk, Desk, DeskFault, FailingDesk, MemDesk};
 use avr_part::{Chip, Mem, Part, PartFault, Parts};
-use avr_tool::{hold_chip, load_chip, save_chip};
+use avr_tool::{Unlocked, hold_chip, load_chip, save_chip};
 use std::alloc::{AllocError, Global};
 use std::test::Fail;
 
@@ -155,5 +155,37 @@ fn a_chip_that_is_refused_is_not_held(rt: HostRuntime) -> Result<(), Fail> {
         desk.messages() == b"avrstk: error: chip.bin: 3 bytes, 33796 expected\n".as_slice()
     );
     assert!(rt; desk.hold("chip.bin") == Ok(true));
+    Ok(())
+}
+
+#[test]
+fn an_unlocked_desk_locks_nothing(rt: HostRuntime) -> Result<(), Fail> {
+    let alloc = rt.alloc();
+    let mut desk = Unlocked::new(MemDesk::empty(alloc));
+    let first = hold(alloc, &mut desk)?;
+    let second = hold(alloc, &mut desk)?;
+    assert!(rt; saves(&first, &mut desk) && saves(&second, &mut desk));
+    // nothing is open after a replacement
+    assert!(rt; desk.write(b"x") == Err(DeskFault::Failed));
+    assert!(rt; desk.open("chip.bin") == Ok(()));
+    let mut byte = [0u8; 1];
+    assert!(rt; desk.read(&mut byte) == Ok(1) && byte == [255]);
+    assert!(rt; desk.into_inner().uses().len() > 0);
+    Ok(())
+}
+
+/// Saving fails at the write, so the old file is lost, and no file is used any more.
+#[test]
+fn an_unlocked_desk_may_lose_a_chip(rt: HostRuntime) -> Result<(), Fail> {
+    let alloc = rt.alloc();
+    let chip = Chip::fresh(alloc, m328p()?)?;
+    let mut desk = Unlocked::new(FailingDesk::new(desk_with(alloc, b"old")?, 2));
+    assert!(rt; save_chip(&chip, "chip.bin", &mut desk) == Err(1));
+    let inner = desk.inner().inner();
+    assert!(rt; inner.file("chip.bin") == Some(b"".as_slice()));
+    assert!(rt; inner.messages() == b"avrstk: error: chip.bin: cannot be written\n".as_slice());
+    assert!(rt; desk.open("chip.bin") == Err(DeskFault::Failed));
+    assert!(rt; desk.create("chip.bin") == Err(DeskFault::Failed));
+    assert!(rt; desk.replace("chip.bin", b"new") == Err(DeskFault::Failed));
     Ok(())
 }

@@ -22,5 +22,7 @@ pub mod Replies
 pub mod ReadByRead
 pub mod ServedRuns
 pub mod Emulating
+-- the record of a desk of six calls
+pub mod Reopened
 -- planning and session as one run
 pub mod Runs

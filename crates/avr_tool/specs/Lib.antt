@@ -49,6 +49,9 @@ pub mod Lines
 pub mod Loading
 pub mod Holding
 pub mod Saving
+pub mod Noted
+pub mod Notes
+pub mod Unlocked
 pub mod Serving
 pub mod Replying
 pub mod ServedRun

@@ -27,6 +27,9 @@
 
 mod chip_files;
 mod messages;
+// a desk of six calls for runs with a chip file
+mod noted;
+mod unlocked;
 // the emulated programmer with its chip file: a run over it, and serving it
 mod ending;
 mod over_emulator;
@@ -78,6 +81,7 @@ pub use texts::refuse_text;
 // the emulated programmer and the chip file
 pub use chip_files::{hold_chip, load_chip, save_chip};
 pub use serving_link::{Served, serve_link};
+pub use unlocked::Unlocked;
 // parts, their chips and the contents of their memories
 pub use avr_image::Image;
 pub use avr_part::{Chip, Mem, Part, PartFault, Parts};

@@ -7,13 +7,22 @@ ghost use Rattle.avr_desk.specs.Truth.{HoldsTrue};
 use avr_plan::Settings;
 use avr_desk::{Bytes, Desk, DeskFault, FailingDesk, MemDesk, SystemDesk};
 use avr_tool::run;
+use std::alloc::Global;
 use std::test::Fail;
 use stk_host::TapeLink;
 
 /// A desk of one's own: six calls, without those that lock and replace files.
 #[derive(Drop)]
-struct Own {
-    inner: MemDesk,
+pub(super) struct Own {
+    pub(super) inner: MemDesk,
+}
+
+impl Own {
+    pub(super) fn empty(alloc: Global) -> Own {
+        Own {
+            inner: MemDesk::empty(alloc),
+        }
+    }
 }
 
 impl Desk for Own {
@@ -52,9 +61,7 @@ impl Desk for Own {
 fn a_desk_of_ones_own_has_six_calls(rt: HostRuntime) -> Result<(), Fail> {
     let alloc = rt.alloc();
     let settings = Settings::for_link(alloc, "m328p")?;
-    let mut desk = Own {
-        inner: MemDesk::empty(alloc),
-    };
+    let mut desk = Own::empty(alloc);
     let mut link = TapeLink::new(alloc, Vec::new(alloc), 281);
     assert!(rt; run(alloc, &settings, &mut desk, &mut link) == 1);
     assert!(rt; desk.inner.messages() == b"avrstk: error: link ended\n".as_slice());

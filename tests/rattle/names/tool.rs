@@ -7,11 +7,12 @@
 use avr_tool::{
     Chip, Desk, DeskFault, Heard, Item, Link, LinkFault, MemDesk, Parts, PartsFault, Plan,
     PlanFault, Port, Settings, SettingsFault, StreamLink, SystemDesk, TapeLink, TaskFault, Text,
-    Update, UpdateFault, Wired, drive, drive_wired, listen, parse_update, plan, read_words, refuse,
-    run, run_emu, run_net, serve, serve_for, serve_net, serve_on, settings,
+    Unlocked, Update, UpdateFault, Wired, drive, drive_wired, listen, parse_update, plan,
+    read_words, refuse, run, run_emu, run_net, serve, serve_for, serve_net, serve_on, settings,
 };
 use std::alloc::Global;
 use std::test::Fail;
+use super::desk::Own;
 
 fn silent(alloc: Global) -> TapeLink {
     TapeLink::new(alloc, Vec::new(alloc), 281)
@@ -63,14 +64,15 @@ fn sessions(rt: HostRuntime) -> Result<(), Fail> {
     Ok(())
 }
 
+/// A desk of six calls, as it was set, does for all runs: [`Unlocked`] adds three for those with a chip file.
 #[test]
 fn ports(rt: HostRuntime) -> Result<(), Fail> {
     let alloc = rt.alloc();
-    let mut desk = MemDesk::empty(alloc);
+    let mut desk = Unlocked::new(Own::empty(alloc));
     let mut emulated = Settings::for_link(alloc, "m328p")?;
     emulated.port = Port::Emulated(Text::new(alloc, "chip.bin")?);
     let status: u8 = run_emu(alloc, &emulated, &mut desk);
-    assert!(rt; status == 0 && desk.file("chip.bin").is_some());
+    assert!(rt; status == 0 && desk.inner().inner.file("chip.bin").is_some());
     let status: u8 = serve(alloc, &served(alloc, "m328p")?, &mut desk, &mut silent(alloc));
     assert!(rt; status == 0);
     let mut idle = TapeLink::new(alloc, vec![in alloc; Item::Silence; 5]?, 281);
@@ -83,7 +85,7 @@ fn ports(rt: HostRuntime) -> Result<(), Fail> {
     assert!(rt; status == 1);
     let mut distant = Settings::for_link(alloc, "nobody")?;
     distant.port = Port::Network(Text::new(alloc, "localhost:5000")?);
-    let status: u8 = run_net(&rt, alloc, &distant, &mut desk);
+    let status: u8 = run_net(&rt, alloc, &distant, &mut desk.into_inner());
     assert!(rt; status == 1);
     Ok(())
 }

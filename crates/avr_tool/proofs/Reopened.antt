@@ -1,0 +1,243 @@
+-- The last use of a file is the open file again: what a call of the inner desk does to the record that is shown.
+use Rattle.std.proofs.Common.{◌≡◌, ◌≤◌, ℕ, Bool, true, List, [], ◌∷◌, ◌++◌, append-nil, take, length, Result, Ok, Err, OnOk, ◌&&◌, ◌==◌, not, false, None, ap, refl, sym, arith, if◌then◌else◌}
+use Rattle.std.specs.Prelude.{⊤}
+use Rattle.avr_desk.specs.Record.{Record, Bytes, all_uses, use_of, noted, written_on, is_to_read, is_to_write, after_open, after_create, after_read, after_write, with_open, with_replaced, with_tried}
+use Rattle.avr_desk.specs.declared.desk.DeskFault.{DeskFault}
+use Rattle.avr_desk.specs.declared.desk.DeskFault.TheVariants.{NotFound, Failed}
+use Rattle.avr_desk.specs.declared.record.FileUse.{FileUse}
+use Rattle.avr_desk.specs.declared.record.FileUse.TheVariants.{Opened, Created}
+use Rattle.avr_desk.specs.declared.record.Open.{Open}
+use Rattle.avr_desk.specs.declared.record.Open.TheVariants.{Closed, ToRead, ToWrite}
+use Rattle.avr_desk.specs.declared.record.Opening.TheVariants.{Absent, Found}
+use Rattle.avr_tool.specs.Noted.{Noted}
+use Rattle.avr_desk.specs.Record.{DeskState, ChangesRecord}
+use Rattle.avr_desk.specs.Stream.{SendsPart, SendsTaken}
+use Rattle.avr_desk.specs.declared.stream.Stream.TheVariants.{File}
+use Rattle.avr_tool.specs.Unlocked.{last_open, all_but_open, open_by, finished_by, open_after, record_shown, uses_shown, with_written, UnlockedState, unlocked}
+
+pub last_of : (uses : List FileUse) (used : FileUse) → last_open (uses ++ used ∷ []) ≡ open_by used
+last_of [] used = refl
+last_of (first ∷ []) used = refl
+last_of (first ∷ next ∷ uses) used = last_of (next ∷ uses) used
+
+pub before_last : (uses : List FileUse) (used : FileUse) → all_but_open (uses ++ used ∷ []) ≡ uses ++ finished_by used
+before_last [] used = refl
+before_last (first ∷ []) used = refl
+before_last (first ∷ next ∷ uses) used = ap (λ x. first ∷ x) (before_last (next ∷ uses) used)
+
+-- nothing is lost
+pub rejoined : (uses : List FileUse) → all_but_open uses ++ use_of (last_open uses) ≡ uses
+rejoined [] = refl
+rejoined (Opened (Absent name) ∷ []) = refl
+rejoined (Opened (Found reading) ∷ []) = refl
+rejoined (Created writing ∷ []) = refl
+rejoined (first ∷ next ∷ uses) = ap (λ x. first ∷ x) (rejoined (next ∷ uses))
+
+-- what is shown has all uses, whether a file is open or not
+pub all_shown : (is_open : Bool) (n : Noted) (uses : List FileUse) (r : Record)
+    → all_uses (record_shown is_open uses n r) ≡ uses
+all_shown true n uses r = rejoined uses
+all_shown false n uses r = append-nil uses
+
+-- ---- opening and creating a file
+
+pub opened_shown : (name : Bytes) (opened : Result ⊤ DeskFault) (is_open : Bool) (n : Noted) (old new : Record)
+    → new ≡ after_open name opened old → record_shown (open_after is_open opened) (all_uses new) n new
+    ≡ after_open name opened (record_shown is_open (all_uses old) n old)
+opened_shown name (Ok done) is_open n old new is = rw (
+  is,
+  before_last (all_uses old) _,
+  last_of (all_uses old) _,
+  append-nil (all_uses old),
+  all_shown is_open n (all_uses old) old,
+) refl
+opened_shown name (Err NotFound) is_open n old new is = rw (
+  is,
+  append-nil (all_uses old ++ Opened (Absent name) ∷ []),
+  all_shown is_open n (all_uses old) old,
+) refl
+opened_shown name (Err Failed) is_open n old new is = rw is refl
+
+pub created_shown : (name : Bytes) (is_open : Bool) (n : Noted) (old new : Record)
+    → new ≡ after_create name (Ok tt) old → record_shown true (all_uses new) n new
+    ≡ after_create name (Ok tt) (record_shown is_open (all_uses old) n old)
+created_shown name is_open n old new is = rw (
+  is,
+  before_last (all_uses old) _,
+  last_of (all_uses old) _,
+  append-nil (all_uses old),
+  all_shown is_open n (all_uses old) old,
+) refl
+
+-- ---- reading
+
+noted_last : (uses : List FileUse) (o : Open) (bytes : Bytes) (ended : Bool) → is_to_read o ≡ true
+    → (all_but_open (uses ++ use_of (noted bytes ended o)) ≡ all_but_open (uses ++ use_of o))
+    × (last_open (uses ++ use_of (noted bytes ended o)) ≡ noted bytes ended (last_open (uses ++ use_of o)))
+noted_last uses Closed bytes ended reads = absurd (cc)
+noted_last uses (ToWrite x) bytes ended reads = absurd (cc)
+noted_last uses (ToRead x) bytes ended reads =
+    (rw (before_last uses _, before_last uses _) refl, rw (last_of uses _, last_of uses _) refl)
+
+pub read_shown : (buf : Bytes) (done : Result ℕ DeskFault) (n : Noted) (old new : Record)
+    → new ≡ after_read buf done old → OnOk done (is_to_read old.current ≡ true)
+    → record_shown true (all_uses new) n new ≡ after_read buf done (record_shown true (all_uses old) n old)
+read_shown buf (Err fault) n old new is reads = rw is refl
+read_shown buf (Ok count) n old new is reads =
+    let last = noted_last old.uses old.current (take count buf) (count == 0 && not (length buf == 0)) reads in rw (is, last.0, last.1) refl
+
+pub to_read_shown : (uses : List FileUse) (o : Open) → is_to_read o ≡ true
+    → is_to_read (last_open (uses ++ use_of o)) ≡ true
+to_read_shown uses Closed reads = absurd (cc)
+to_read_shown uses (ToWrite x) reads = absurd (cc)
+to_read_shown uses (ToRead x) reads = rw (last_of uses _) refl
+
+-- ---- writing
+
+written_last : (uses : List FileUse) (o : Open) (bytes : Bytes) → is_to_write o ≡ true
+    → (all_but_open (uses ++ use_of (written_on bytes o)) ≡ all_but_open (uses ++ use_of o))
+    × (last_open (uses ++ use_of (written_on bytes o)) ≡ written_on bytes (last_open (uses ++ use_of o)))
+written_last uses Closed bytes writes = absurd (cc)
+written_last uses (ToRead x) bytes writes = absurd (cc)
+written_last uses (ToWrite x) bytes writes =
+    (rw (before_last uses _, before_last uses _) refl, rw (last_of uses _, last_of uses _) refl)
+
+pub written_shown : (bytes : Bytes) (n : Noted) (old new : Record) → new ≡ after_write bytes old
+    → is_to_write old.current ≡ true
+    → record_shown true (all_uses new) n new ≡ after_write bytes (record_shown true (all_uses old) n old)
+written_shown bytes n old new is writes =
+    let last = written_last old.uses old.current bytes writes in rw (is, last.0, last.1) refl
+
+written_none : (o : Open) → written_on [] o ≡ o
+written_none Closed = refl
+written_none (ToRead x) = refl
+written_none (ToWrite x) = ap (λ (b : Bytes). ToWrite (record x { bytes = b })) (append-nil x.bytes)
+
+-- a failed write may have written a prefix, or no byte if no file is open to write
+part_last : (uses : List FileUse) (o : Open) (bytes : Bytes) (k : ℕ) → k ≤ length bytes → (m : ℕ) × (m ≤ length bytes)
+    × (all_but_open (uses ++ use_of (written_on (take k bytes) o)) ≡ all_but_open (uses ++ use_of o))
+    × (last_open (uses ++ use_of (written_on (take k bytes) o))
+    ≡ written_on (take m bytes) (last_open (uses ++ use_of o)))
+part_last uses Closed bytes k within = (0, omega arith, refl, sym (written_none _))
+part_last uses (ToRead x) bytes k within = (0, omega arith, refl, sym (written_none _))
+part_last uses (ToWrite x) bytes k within =
+    let last = written_last uses (ToWrite x) (take k bytes) refl in (k, within, last.0, last.1)
+
+pub part_shown : (bytes : Bytes) (n : Noted) (k : ℕ) (old new : Record) → k ≤ length bytes
+    → new ≡ after_write (take k bytes) old → (m : ℕ) × (m ≤ length bytes) × (record_shown true (all_uses new) n new
+    ≡ after_write (take m bytes) (record_shown true (all_uses old) n old))
+part_shown bytes n k old new within is =
+    let last = part_last old.uses old.current bytes k within in
+    (last.0, last.1, rw (is, last.2, last.3) refl)
+
+pub to_write_shown : (uses : List FileUse) (o : Open) → is_to_write o ≡ true
+    → is_to_write (last_open (uses ++ use_of o)) ≡ true
+to_write_shown uses Closed writes = absurd (cc)
+to_write_shown uses (ToRead x) writes = absurd (cc)
+to_write_shown uses (ToWrite x) writes = rw (last_of uses _) refl
+
+-- ---- replacing a file
+
+pub replaced_shown : (name bytes : Bytes) (is_open : Bool) (n m : Noted) (old new : Record)
+    → new ≡ with_written name bytes old
+    → m ≡ record n { held = None; tried = n.tried ++ record { name = name; bytes = bytes } ∷ [] }
+    → record_shown false (all_uses new) m new ≡ with_replaced name bytes (record_shown is_open (all_uses old) n old)
+replaced_shown name bytes is_open n m old new is notes =
+    rw (is, notes, all_shown is_open n (all_uses old) old) refl
+
+pub tried_shown : (name bytes part : Bytes) (is_open : Bool) (n m : Noted) (old new : Record)
+    → new ≡ with_written name part old → m ≡ record n { tried = n.tried ++ record { name = name; bytes = bytes } ∷ [] }
+    → record_shown is_open new.uses m new ≡ with_tried name bytes (record_shown is_open (all_uses old) n old)
+tried_shown name bytes part is_open n m old new is notes = rw (is, notes) refl
+
+-- ---- the same for a desk that isn't broken, and has an open file where the call needs one
+
+pub opened_kept : (name : Bytes) (opened : Result ⊤ DeskFault) (is_open is_broken : Bool) (n : Noted) (old new : Record)
+    → is_broken ≡ false → new ≡ after_open name opened old
+    → record_shown (open_after is_open opened) (uses_shown is_broken new) n new
+    ≡ after_open name opened (record_shown is_open (uses_shown is_broken old) n old)
+opened_kept name opened is_open is_broken n old new sound is =
+    rw sound (opened_shown name opened is_open n old new is)
+
+pub created_kept : (name : Bytes) (is_open is_broken : Bool) (n : Noted) (old new : Record)
+    → is_broken ≡ false → new ≡ after_create name (Ok tt) old
+    → record_shown true (uses_shown is_broken new) n new
+    ≡ after_create name (Ok tt) (record_shown is_open (uses_shown is_broken old) n old)
+created_kept name is_open is_broken n old new sound is = rw sound (created_shown name is_open n old new is)
+
+pub read_kept : (buf : Bytes) (done : Result ℕ DeskFault) (is_open is_broken : Bool) (n : Noted) (old new : Record)
+    → (is_open && not is_broken) ≡ true → new ≡ after_read buf done old → OnOk done (is_to_read old.current ≡ true)
+    → record_shown is_open (uses_shown is_broken new) n new
+    ≡ after_read buf done (record_shown is_open (uses_shown is_broken old) n old)
+read_kept buf done true false n old new has is reads = read_shown buf done n old new is reads
+read_kept buf done true true n old new has is reads = absurd (cc)
+read_kept buf done false is_broken n old new has is reads = absurd (cc)
+
+pub reads_kept : (done : Result ℕ DeskFault) (is_open is_broken : Bool) (n : Noted) (old : Record)
+    → (is_open && not is_broken) ≡ true → OnOk done (is_to_read old.current ≡ true)
+    → OnOk done (is_to_read (record_shown is_open (uses_shown is_broken old) n old).current ≡ true)
+reads_kept (Err fault) is_open is_broken n old has reads = tt
+reads_kept (Ok count) true false n old has reads = to_read_shown old.uses old.current reads
+reads_kept (Ok count) true true n old has reads = absurd (cc)
+reads_kept (Ok count) false is_broken n old has reads = absurd (cc)
+
+pub writes_kept : (done : Result ℕ DeskFault) (is_open is_broken : Bool) (n : Noted) (old : Record)
+    → (is_open && not is_broken) ≡ true → OnOk done (is_to_write old.current ≡ true)
+    → OnOk done (is_to_write (record_shown is_open (uses_shown is_broken old) n old).current ≡ true)
+writes_kept (Err fault) is_open is_broken n old has writes = tt
+writes_kept (Ok count) true false n old has writes = to_write_shown old.uses old.current writes
+writes_kept (Ok count) true true n old has writes = absurd (cc)
+writes_kept (Ok count) false is_broken n old has writes = absurd (cc)
+
+sends_shown : (bytes : Bytes) (done : Result ℕ DeskFault) (n : Noted) (old new a b : DeskState)
+    → SendsTaken File bytes old new done → OnOk done (is_to_write old.kept.current ≡ true)
+    → a.kept ≡ record_shown true (all_uses old.kept) n old.kept
+    → b.kept ≡ record_shown true (all_uses new.kept) n new.kept → SendsTaken File bytes a b done
+sends_shown bytes (Ok k) n old new a b sends writes at_a at_b =
+    rw (at_a, at_b) (written_shown (take k bytes) n old.kept new.kept sends writes)
+sends_shown bytes (Err fault) n old new a b sends writes at_a at_b =
+    let p = part_shown bytes n sends.0 old.kept new.kept sends.1 sends.2 in (p.0, p.1, rw (at_a, at_b) p.2)
+
+sends_at : (bytes : Bytes) (done : Result ℕ DeskFault) (is_open is_broken : Bool) (n : Noted)
+    (old new a b : DeskState) → (is_open && not is_broken) ≡ true → SendsTaken File bytes old new done
+    → OnOk done (is_to_write old.kept.current ≡ true)
+    → a.kept ≡ record_shown is_open (uses_shown is_broken old.kept) n old.kept
+    → b.kept ≡ record_shown is_open (uses_shown is_broken new.kept) n new.kept → SendsTaken File bytes a b done
+sends_at bytes done true false n old new a b has sends writes at_a at_b =
+    sends_shown bytes done n old new a b sends writes at_a at_b
+sends_at bytes done true true n old new a b has sends writes at_a at_b = absurd (cc)
+sends_at bytes done false is_broken n old new a b has sends writes at_a at_b = absurd (cc)
+
+pub sends_kept : {D : Type 0} (view : D → DeskState) (bytes : Bytes) (done : Result ℕ DeskFault) (u : UnlockedState D)
+    (inner : D) → (u.is_open && not u.is_broken) ≡ true → SendsTaken File bytes (view u.inner) (view inner) done
+    → OnOk done (is_to_write (view u.inner).kept.current ≡ true)
+    → SendsTaken File bytes (unlocked view u) (unlocked view (record u { inner = inner })) done
+sends_kept view bytes done u inner has sends writes = sends_at bytes done u.is_open u.is_broken u.noted (view u.inner)
+    (view inner) (unlocked view u) (unlocked view (record u { inner = inner })) has sends writes refl refl
+
+pub replaced_kept : (name key bytes : Bytes) (is_open is_broken : Bool) (n : Noted) (old mid new : DeskState)
+    → key ≡ name → is_broken ≡ false → ChangesRecord (after_create name (Ok tt)) old mid
+    → ChangesRecord (after_write bytes) mid new
+    → record_shown false (uses_shown is_broken new.kept)
+    (record n { held = None; tried = n.tried ++ record { name = key; bytes = bytes } ∷ [] }) new.kept
+    ≡ with_replaced name bytes (record_shown is_open (uses_shown is_broken old.kept) n old.kept)
+replaced_kept name key bytes is_open is_broken n old mid new same sound created written =
+    rw (same, sound) (replaced_shown name bytes is_open n _ old.kept new.kept (rw (written, created) refl) refl)
+
+pub tried_kept : (name key bytes : Bytes) (is_open is_broken : Bool) (n : Noted) (old mid new : DeskState)
+    → key ≡ name → is_broken ≡ false → ChangesRecord (after_create name (Ok tt)) old mid → SendsPart File mid new bytes
+    → record_shown is_open (uses_shown true new.kept)
+    (record n { tried = n.tried ++ record { name = key; bytes = bytes } ∷ [] }) new.kept
+    ≡ with_tried name bytes (record_shown is_open (uses_shown is_broken old.kept) n old.kept)
+tried_kept name key bytes is_open is_broken n old mid new same sound created part =
+    rw (same, sound) (tried_shown name bytes (take part.0 bytes) is_open n _ old.kept new.kept
+    (rw (part.2, created) refl) refl)
+
+pub writes_whole : (name bytes : Bytes) (old mid new : DeskState) → ChangesRecord (after_create name (Ok tt)) old mid
+    → ChangesRecord (after_write bytes) mid new → ChangesRecord (with_written name bytes) old new
+writes_whole name bytes old mid new created written = rw (written, created) refl
+
+pub writes_part : (name bytes : Bytes) (old mid new : DeskState) → ChangesRecord (after_create name (Ok tt)) old mid
+    → SendsPart File mid new bytes
+    → (n : ℕ) × (n ≤ length bytes) × ChangesRecord (with_written name (take n bytes)) old new
+writes_part name bytes old mid new created part = (part.0, part.1, rw (part.2, created) refl)

@@ -1,0 +1,82 @@
+-- A desk of six calls in place of one that locks files and replaces them whole.
+use Rattle.std.specs.Prelude.{◌≡◌, ◌⊎◌, ◌≤◌, ◌+◌, ℕ, Bool, true, false, List, [], ◌∷◌, take, length, Result, Ok, Err, ⊤, if◌then◌else◌}
+use Rattle.ghosts.specs.Failures.{counted}
+use Rattle.avr_desk.specs.Record.{DeskState, Record, Bytes, ChangesRecord, showing, all_uses, after_create, after_write}
+use Rattle.avr_desk.specs.declared.desk.DeskFault.{DeskFault}
+use Rattle.avr_desk.specs.declared.desk.DeskFault.TheVariants.{NotFound, Failed}
+use Rattle.avr_desk.specs.declared.record.FileUse.{FileUse}
+use Rattle.avr_desk.specs.declared.record.FileUse.TheVariants.{Opened, Created}
+use Rattle.avr_desk.specs.declared.record.Open.{Open}
+use Rattle.avr_desk.specs.declared.record.Open.TheVariants.{Closed, ToRead, ToWrite}
+use Rattle.avr_desk.specs.declared.record.Opening.TheVariants.{Absent, Found}
+use Rattle.avr_tool.specs.Noted.{Noted}
+
+-- `is_open`: the last use of a file is the open file; otherwise none is open. `is_broken`: a replacement failed, and the
+-- inner desk's open file is what it left. `refused` counts the calls that failed without reaching the inner desk.
+pub record UnlockedState (D : Type 0) : Type 0 where
+  pub inner : D
+  pub is_open : Bool
+  pub is_broken : Bool
+  pub noted : Noted
+  pub refused : ℕ
+
+-- the file that the last use left open; below, the finished uses
+abbrev pub open_by : FileUse → Open
+open_by (Opened (Absent name)) = Closed
+open_by (Opened (Found reading)) = ToRead reading
+open_by (Created writing) = ToWrite writing
+
+abbrev pub finished_by : FileUse → List FileUse
+finished_by (Opened (Absent name)) = Opened (Absent name) ∷ []
+finished_by (Opened (Found reading)) = []
+finished_by (Created writing) = []
+
+abbrev pub last_open : List FileUse → Open
+last_open [] = Closed
+last_open (used ∷ []) = open_by used
+last_open (used ∷ next ∷ uses) = last_open (next ∷ uses)
+
+abbrev pub all_but_open : List FileUse → List FileUse
+all_but_open [] = []
+all_but_open (used ∷ []) = finished_by used
+all_but_open (used ∷ next ∷ uses) = used ∷ all_but_open (next ∷ uses)
+
+-- the uses of files that count: all of the inner desk, without the file that a failed replacement left
+abbrev pub uses_shown : Bool → Record → List FileUse
+uses_shown is_broken r = if is_broken then r.uses else all_uses r
+
+-- the record of these uses, the last one still open or not, and of what the inner desk can't record
+abbrev pub record_shown : Bool → List FileUse → Noted → Record → Record
+record_shown is_open uses noted r = record r {
+  uses = if is_open then all_but_open uses else uses;
+  current = if is_open then last_open uses else Closed;
+  held = noted.held;
+  tried = noted.tried;
+  releases = noted.releases;
+}
+
+-- the state: the inner desk's record as above, and the sum of its count of failures and the refused calls
+abbrev pub unlocked : {D : Type 0} → (D → DeskState) → UnlockedState D → DeskState
+unlocked view u = let v = view u.inner in
+    showing (record_shown u.is_open (uses_shown u.is_broken v.kept) u.noted v.kept)
+    (counted (v.failures + u.refused)) v.message_failures
+
+-- the inner desk began with this value
+abbrev pub of_unlocked : {D Start : Type 0} → (Start → D → Type 0) → Start → UnlockedState D → Type 0
+of_unlocked started_as start u = started_as start u.inner
+
+-- whether a file is open after this result of opening one
+abbrev pub open_after : Bool → Result ⊤ DeskFault → Bool
+open_after is_open (Ok done) = true
+open_after is_open (Err NotFound) = false
+open_after is_open (Err Failed) = is_open
+
+-- The inner desk created the file and wrote these bytes, all of them if the call succeeded. After a failure it wrote a
+-- prefix of them, or it couldn't create the file.
+abbrev pub with_written : Bytes → Bytes → Record → Record
+with_written name bytes r = after_write bytes (after_create name (Ok tt) r)
+
+abbrev pub WritesInPlace : Bytes → Bytes → DeskState → DeskState → Result ⊤ DeskFault → Type 0
+WritesInPlace name bytes old new (Ok done) = ChangesRecord (with_written name bytes) old new
+WritesInPlace name bytes old new (Err fault) = (new.kept ≡ old.kept)
+    ⊎ ((n : ℕ) × (n ≤ length bytes) × ChangesRecord (with_written name (take n bytes)) old new)
