@@ -94,7 +94,8 @@ class Link:
         if fate == "noise":
             return b"".join(draw.choices(NOISE, k=draw.randint(1, 3))) + came
         if fate == "babble":
-            return draw.choice([b"\x1b", b"\x00"]) * draw.choice([4079, 4080, 4095, 4096, 4097, 8200]) + came
+            last = 4096 - len(came)
+            return draw.choice([b"\x1b", b"\x00"]) * draw.choice([last, last, last + 1, 4096, 8200]) + came
         if fate == "end":
             self.has_ended = True
             return came[: draw.randrange(len(came))]
@@ -148,12 +149,13 @@ def srec_file(image, draw):
     return "".join(f"S{it[0]}{it[1:].hex().upper()}{~sum(it[1:]) & 255:02X}\n" for it in rows).encode()
 
 
-def segment_file(image):
-    """Returns an Intel HEX file whose addresses wrap inside of segments."""
+def segment_file(image, draw):
+    """Returns an Intel HEX file with segments. In some the address wraps inside of a record."""
     rows = []
     for at, part in runs_of(image):
         for it in range(0, len(part), 16):
-            segment, data = (at + it) // 16 & 0xF000, bytes(part[it : it + 16])
+            data, before = bytes(part[it : it + 16]), max(0, at + it - 0xFFF8) // 16
+            segment = draw.choice([(at + it) // 16 & 0xF000, before, before])
             rows += [bytes([2, 0, 0, 2]) + segment.to_bytes(2, "big")]
             rows += [bytes([len(data)]) + (at + it - segment * 16 & 0xFFFF).to_bytes(2, "big") + b"\x00" + data]
     return "".join(f":{(it + bytes([-sum(it) & 255])).hex()}\n" for it in [*rows, bytes([0, 0, 0, 1])]).encode()
@@ -175,13 +177,13 @@ def image_file(draw, size):
     image = image_in(draw, size)
     if draw.random() < 0.1:
         image = {at + draw.choice([size - 1, size, 65_536]): it for at, it in image.items()}
-    kind = draw.choice("iisrw")
+    kind = draw.choice("iisrww")
     if kind == "r":
         at = draw.choice([0, 1, 2, size - 1, size, size + 1, draw.randrange(size)]) % 5000
         text = draw.choice([b"", b"", b"\x7fELF", b":0400000001", b" :0"]) + bytes(draw.choices(range(256), k=at))
     else:
         runs = [(at, bytes(it)) for at, it in runs_of(image)]
-        files = {"i": lambda: hex_of(runs, draw.choice([1, 16, 32, 255])), "w": lambda: segment_file(image)}
+        files = {"i": lambda: hex_of(runs, draw.choice([1, 16, 32, 255])), "w": lambda: segment_file(image, draw)}
         text = files.get(kind, lambda: srec_file(image, draw))()
         text = damaged(text, draw) if draw.random() < 0.25 else text
     return draw.choice(["a", "", kind.replace("w", "i")] + ["i", "s", "r"] * (draw.random() < 0.1)), text
@@ -207,13 +209,13 @@ def update(draw, part, files, streams):
         return draw.choice(odd)
     if op == "r":
         form = draw.choice(["", *"isrdhob"])
-        file = draw.choice([f"out{draw.randrange(9)}.txt"] * 6 + ["a:b", "c:d:"] + ["-"] * (draw.random() < streams))
+        file = draw.choice([f"out{draw.randrange(9)}.txt"] * 6 + ["a:b", "c:d:"] + ["-"] * streams)
         return f"{memory}:r:{file}" + (f":{form or 'r'}" if form or ":" in file else "")
     size = size_of(part, memory)
     if size == 1 and draw.random() < 0.8 or draw.random() < 0.15:
         return f"{memory}:{op}:{values(draw, size)}:m"
     form, text = image_file(draw, size)
-    file = draw.choice([f"in{len(files)}.hex"] * 15 + ["-"] * (draw.random() < streams))
+    file = draw.choice([f"in{len(files)}.hex"] * 15 + ["-"] * streams)
     files.setdefault(file, text)
     return f"{memory}:{op}:{file}" + (f":{form}" if form else "")
 
@@ -235,7 +237,7 @@ def chip_file(draw, part):
     for at, it in {**image_in(draw, length), **image_in(draw, length)}.items():
         chip[at] = it
     fuses = bytes(draw.choice([0xFF, 0xD9, 0xD1, 0x62, draw.randrange(256)]) for _ in range(3))
-    return draw.choice([None, *[bytes(chip) + fuses + draw.choice([b"\xff"] * 5 + [b"\xfe", b"\xfc"])] * 3])
+    return draw.choice([None, *[bytes(chip) + fuses + draw.choice([b"\xff"] * 3 + [b"\xfe", b"\xfc"])] * 3])
 
 
 def words_of(draw, part, port, updates):
@@ -260,9 +262,10 @@ class Drawn:
     def __init__(self, seed, kinds):
         draw = random.Random(seed)
         self.seed, self.files, self.kind = seed, {}, draw.choice(kinds)
-        part = draw.choices([*BUILT_IN, OWN], [10, 6, 1, 3])[0]
+        part = draw.choices([*BUILT_IN, OWN], [10, 6, 3, 3])[0]
         count = draw.choice([0, 1, 1, 1, 2, 2, 3, 17 if draw.random() < 0.1 else 5])
-        updates = [update(draw, part, self.files, 0.1 if self.kind == "stdio:" else 0.7) for _ in range(count)]
+        streams = draw.choice([0, 0, 0, 0, 0, 1] if self.kind == "stdio:" else [0, 0, 1, 1, 1, 20])
+        updates = [update(draw, part, self.files, streams) for _ in range(count)]
         self.words = words_of(draw, part, self.kind, updates)
         self.files["p.toml"] = part_file(draw).encode()
         chip = chip_file(draw, part)
