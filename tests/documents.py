@@ -1,6 +1,6 @@
 #!/usr/bin/env python3
 """Compares what docs/CHECK and CONTRIBUTING quote with the sources, and the logic's checksum in documents with that of
-the kit.
+the kit. Checks that each worked row has its test.
 
 Not proved: No proof covers documents.
 
@@ -110,5 +110,28 @@ def the_logic():
             see(f"the logic that {page} names", sums and sums <= set(ran.stdout.split()), (sums, ran.stdout))
 
 
+# the worked rows that were set before the code
+ROWS = 84
+# what tests in Rattle, in Python and in tables write differently
+NOTATION = re.compile(r"""0x|\\x|[\s,"'&_]""")
+
+
+def bare(written):
+    """Returns a text without commas, quotes, blanks and signs of hexadecimal numbers."""
+    return NOTATION.sub("", written)
+
+
+def worked_rows():
+    """Each worked row that was set before the code has a test, and the test's file has the row's bytes and lines."""
+    rows = [it.split(" | ", 3) for it in text("tests/tables/rows.txt").splitlines() if not it.startswith("#")]
+    same("worked rows", len({it[0] for it in rows}), ROWS)
+    for name, _, file, held in rows:
+        known = bare(text(file))
+        for part in held.split(" ; "):
+            see(f"{name}: {file} has {part}", len(bare(part)) > 3 and bare(part) in known)
+
+
+CASES = named(what_check_quotes, the_first_change, the_hint, the_conditions, files_of_recipes, the_logic, worked_rows)
+
 if __name__ == "__main__":
-    sys.exit(run_cases(named(what_check_quotes, the_first_change, the_hint, the_conditions, files_of_recipes, the_logic), __doc__))
+    sys.exit(run_cases(CASES, __doc__))

@@ -95,6 +95,19 @@ def images_are_refused():
         refused(f"{update} of {content}", [*EMULATED, "-U", update], told)
 
 
+def no_update_is_begun():
+    """If an update is refused, nothing is sent for those before it, and no file of theirs is made."""
+    room.keep("bad.hex", b":0400000001020304F3\n:00000001FF\n")
+    rows = [
+        ("-U lfuse:r:out.h:h -U flash:w:bad.hex", "bad.hex: line 1: bad checksum"),
+        ("-U lfuse:w:0xE2:m -U signature:w:1:m", "signature is read-only"),
+    ]
+    # (over standard streams frames would be the output)
+    for (words, told), port in itertools.product(rows, [STDIO, EMULATED]):
+        refused(f"{port[3]} {words}", [*port, *words.split()], told)
+        same(f"{port[3]} {words}: the file of the read", room.read("out.h"), None)
+
+
 def images_are_taken():
     """Tests an image on standard input, one at the size limit, and end records. (What is read of an image is proved;
     tests/rattle/plans.rs has its limits by the byte.)"""
@@ -121,6 +134,7 @@ def part_files():
 
     parts("a = = 1", "p.toml: not TOML")
     parts(re.sub("flash_page.*\n", "", good), "p.toml: flash_page is missing")
+    parts(re.sub("eeprom_page.*\n", "", good), "p.toml: eeprom_page is missing")
     parts(re.sub("flash_page.*\n", "flash_page = 3\n", good), "p.toml: flash_page has a bad value")
     parts(re.sub(r"eeprom_size.*\n", "eeprom_size = 1023\n", good), "p.toml: sizes do not fit")
     parts("#" * (PART_FILE_LIMIT + 1), f"p.toml: longer than {PART_FILE_LIMIT} bytes")
@@ -288,8 +302,8 @@ def pattern(line):
 
 
 CASES = named(
-    *(settings_are_refused, help_is_printed, words_are_refused, images_are_refused, images_are_taken),
-    *(part_files, chip_files, nothing_is_written, replies_are_bad, the_named_host_is_called, nobody_else_is_called),
+    *(settings_are_refused, help_is_printed, words_are_refused, images_are_refused, no_update_is_begun),
+    *(images_are_taken, part_files, chip_files, nothing_is_written, replies_are_bad, the_named_host_is_called, nobody_else_is_called),
     *(ports_are_refused, long_lines, a_line_is_one_write, runs_share_a_log, each_line_was_met),
 )
 

@@ -13,7 +13,7 @@ import shlex
 import sys
 from collections import namedtuple
 
-from cases import bytes_of, run_cases, same, see, table
+from cases import bytes_of, named, run_cases, same, see, table
 from line import BadLine
 from program import CHIP_FILE, FRAMES, SIGNATURE, Room, frame, lines
 
@@ -30,6 +30,7 @@ room = Room()
 room.keep("few.bin", b"\x0c\x94\x34\x00\xff\x12")
 room.keep("a.hex", b":03000000010203F7\n:00000001FF\n")
 room.keep("two_pages.hex", b":0100000011EE\n:01008200225B\n:00000001FF\n")
+room.keep("high.hex", b":020000040002F8\n:0100000055AA\n:00000001FF\n")
 room.keep("gaps.hex", b":0100000011EE\n:0100020033CA\n:00000001FF\n")
 
 
@@ -109,8 +110,27 @@ BAD_LINES = {
     ),
 }
 
+
+def a_large_flash():
+    """A byte above 128 KiB is written to an ATmega2560: the address of its page has bit 31."""
+    room.clear()
+    peer = BadLine(room, {}, part="m2560")
+    words = ["-p", "m2560", "-P", f"net:127.0.0.1:{peer.port}", "-V", "-U", "flash:w:high.hex"]
+    told = ["device signature = 1E 98 01", "chip erased", "flash: 1 bytes written", "done"]
+    same("a large flash", room.run(words), (0, b"", lines(*told)))
+    sent = peer.end()
+    same("the number of frames", len(sent), 9)
+    page = frame(8, bytes.fromhex("130100C10A404C20FFFF 55") + b"\xff" * 255)
+    wanted = [bytes.fromhex("1B 07 00 05 0E 06 80 01 00 00 90"), page, bytes.fromhex("1B 09 00 03 0E 11 01 01 0E")]
+    same("frames 7 to 9", sent[6:], wanted)
+    chip = room.read("served.bin") or b""
+    same("the chip's bytes other than FF", {at: it for at, it in enumerate(chip) if it != 0xFF}, {0x20000: 0x55})
+    same("the chip's length", len(chip), 266_244)
+
+
 CASES = {label: lambda it=(label, Run(*cells)): over_both(*it) for label, *cells in table("runs")}
 CASES |= {label: lambda it=(label, run, fates): over_line(*it) for label, (run, fates) in BAD_LINES.items()}
+CASES |= named(a_large_flash)
 
 if __name__ == "__main__":
     sys.exit(run_cases(CASES, __doc__, timed=BAD_LINES))

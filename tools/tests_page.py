@@ -16,7 +16,7 @@ from kept import TOP, kept
 
 PAGE = TOP / "tests/README.md"
 # the modules that the scripts share, and the runner
-SHARED = ("all", "cases", "disk", "line", "program", "recorder", "records")
+SHARED = ("all", "cases", "disk", "line", "model", "program", "recorder", "records")
 
 HEAD = """# What is tried where
 

@@ -11,6 +11,7 @@ use avr_part::Mem;
 use avr_plan::{Plan, plan};
 use avr_session::drive;
 use std::alloc::Global;
+use std::ops::Range;
 use std::process::Abort;
 use std::test::Fail;
 use stk_emu::{Fate, Fates, Wired};
@@ -202,21 +203,21 @@ fn plan_of(alloc: Global, run: &SoundRun) -> Result<Plan, Fail> {
     }
 }
 
-/// Lets each call of the link fail. Odd calls send a frame: if one fails, no more is sent than in the run before. Even
-/// calls receive the reply. Only the session is run anew, since planning makes no call of the link.
-fn fail_each_link_call(rt: &impl Abort, alloc: Global, run: &SoundRun) -> Result<(), Fail> {
+/// Lets each of these calls of the link fail. Odd calls send a frame: if one fails, no more is sent than in the run
+/// before. Even calls receive the reply. Only the session is run anew, since planning makes no call of the link.
+fn fail_link_calls(
+    rt: &impl Abort,
+    alloc: Global,
+    run: &SoundRun,
+    calls: Range<u64>,
+) -> Result<(), Fail> {
     let sound = sound(rt, alloc, run)?;
     let plan = plan_of(alloc, run)?;
-    let mut failures = 0u64;
-    let mut sent = 0usize;
-    for n in 1..2_000u64 {
+    let mut before = if calls.start == 1 { Some(0) } else { None };
+    for n in calls {
         let mut desk = MemDesk::empty(alloc);
         let mut link = FailingLink::new(wire_of(alloc, run)?, n, 281);
         let status = drive(alloc, &plan, &mut desk, &mut link);
-        if status == 0 {
-            break;
-        }
-        failures = failures.wrapping_add(1);
         let sends = n % 2 == 1;
         let notice = if sends {
             "error: link cannot be written"
@@ -225,14 +226,27 @@ fn fail_each_link_call(rt: &impl Abort, alloc: Global, run: &SoundRun) -> Result
         };
         let wire = link.inner();
         broke_off(rt, alloc, &sound, (&desk, wire, status), &[notice], n)?;
-        assert!(rt;
-            sends == (wire.sent().len() == sent) && sent <= wire.sent().len(),
-            "call {n}"
-        );
-        sent = wire.sent().len();
+        let sent = wire.sent().len();
+        if let Some(before) = before {
+            assert!(rt; sends == (sent == before) && before <= sent, "call {n}");
+        }
+        before = Some(sent);
     }
-    assert!(rt; failures == run.link_calls);
     Ok(())
+}
+
+/// Checks that a run makes as many calls of the link as it says.
+fn no_other_call_fails(rt: &impl Abort, alloc: Global, run: &SoundRun) -> Result<(), Fail> {
+    let plan = plan_of(alloc, run)?;
+    let mut desk = MemDesk::empty(alloc);
+    let mut link = FailingLink::new(wire_of(alloc, run)?, run.link_calls + 1, 281);
+    assert!(rt; drive(alloc, &plan, &mut desk, &mut link) == 0);
+    Ok(())
+}
+
+fn fail_each_link_call(rt: &impl Abort, alloc: Global, run: &SoundRun) -> Result<(), Fail> {
+    fail_link_calls(rt, alloc, run, 1..run.link_calls + 1)?;
+    no_other_call_fails(rt, alloc, run)
 }
 
 #[test]
@@ -249,8 +263,27 @@ fn each_call_of_the_link_fails_over_an_empty_flash(rt: HostRuntime) -> Result<()
 
 /// (only in ./test --all)
 #[test]
-fn each_call_of_the_link_fails_over_the_whole_eeprom(rt: HostRuntime) -> Result<(), Fail> {
-    fail_each_link_call(&rt, rt.alloc(), &EEPROM)
+fn each_call_of_the_link_fails_over_quarter_1_of_an_eeprom(rt: HostRuntime) -> Result<(), Fail> {
+    fail_link_calls(&rt, rt.alloc(), &EEPROM, 1..261)
+}
+
+/// (only in ./test --all)
+#[test]
+fn each_call_of_the_link_fails_over_quarter_2_of_an_eeprom(rt: HostRuntime) -> Result<(), Fail> {
+    fail_link_calls(&rt, rt.alloc(), &EEPROM, 260..521)
+}
+
+/// (only in ./test --all)
+#[test]
+fn each_call_of_the_link_fails_over_quarter_3_of_an_eeprom(rt: HostRuntime) -> Result<(), Fail> {
+    fail_link_calls(&rt, rt.alloc(), &EEPROM, 520..781)
+}
+
+/// (only in ./test --all)
+#[test]
+fn each_call_of_the_link_fails_over_quarter_4_of_an_eeprom(rt: HostRuntime) -> Result<(), Fail> {
+    fail_link_calls(&rt, rt.alloc(), &EEPROM, 780..1041)?;
+    no_other_call_fails(&rt, rt.alloc(), &EEPROM)
 }
 
 /// Returns the report of a failure of this call of the desk.
