@@ -328,15 +328,18 @@ def installed():
         script = Path(folder, "bin/avrstk-serve")
         served = ran(["0", "-p", "atmega32u4", "--chip", "chip.bin", "--", "true"], script, AVRSTK="")
         same("it serves", served, (0, "", ""))
-        shown = [ran(["--version"], it, AVRSTK="")[2].splitlines() for it in (SCRIPT, script)]
+        scripts = [SCRIPT, script, script.with_name("avrstk"), TOP / "avrstk"]
+        shown = [ran(["--version"], it, AVRSTK="")[2].splitlines() for it in scripts]
         stamp = ran(["--stamp-of", PROGRAM], TOP / "avrstk", AVRSTK="")[2].splitlines()
         rows = [it for it in stamp if not it.startswith(("sources", "program"))] or ["not known whether it is proved"]
         wanted = [f"avrstk {VERSION}", *rows]
         same("--version, installed", shown[1], wanted)
         same("--version, in the clone", NAMED or shown[0], NAMED or wanted)
+        same("--version of avrstk", [shown[2], NAMED or shown[3]], [wanted, NAMED or wanted])
         Path(folder, "lib/avrstk/avrstk.stamp").unlink()
-        told = ran(["--version"], script, AVRSTK="")[2]
-        same("without a stamp", told.splitlines()[1:], ["not known whether it is proved"])
+        for it in scripts[1:3]:
+            told = ran(["--version"], it, AVRSTK="")
+            same("without a stamp", told, (0, "", f"avrstk {VERSION}\nnot known whether it is proved\n"))
 
 
 def status_of_sessions():
