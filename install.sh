@@ -4,12 +4,14 @@
 # are installed as a site, if cmark-gfm is there to make it. With --with-c the library for C is installed too: archive,
 # shared library, header, pkg-config's file.
 #
-#     ./install.sh [--with-c] [PREFIX]      PREFIX is /usr/local by default
+#     ./install.sh [--with-c] [PREFIX]      PREFIX is /usr/local by default; ~/.local needs no other user's rights
 #     ./install.sh --remove [PREFIX]        removes what any version of this script installed there, and the folders that
 #                                           it made, by the manifest share/avrstk/manifest
+#     ./install.sh --help                   prints this text
 #
-# The environment variable AVRSTK names another program to install. With DESTDIR, for packages, all files go under
-# $DESTDIR/PREFIX, without the manifest.
+# A file that is there and that no version installed is never replaced or removed, and no file outside PREFIX is written
+# or removed: links that lead out of it are refused. The environment variable AVRSTK names another program to install.
+# With DESTDIR, for packages, all files go under $DESTDIR/PREFIX, without the manifest, and replace those there.
 set -euo pipefail
 
 top=$(dirname "$(readlink -f "$0")")
@@ -20,7 +22,7 @@ fail() {
 }
 
 usage() {
-    echo "usage: install.sh [--with-c | --remove] [PREFIX]" >&2
+    echo "usage: install.sh [--with-c | --remove | --help] [PREFIX]" >&2
     exit 1
 }
 
@@ -28,6 +30,7 @@ remove='' with_c=''
 case ${1:-} in
     --remove) remove=yes && shift ;;
     --with-c) with_c=yes && shift ;;
+    -h | --help) sed -n '2,/^set /s/^# \{0,1\}//p' "$0" && exit 0 ;;
 esac
 prefix=${1-/usr/local}
 [ $# -le 1 ] && [[ $prefix != -* ]] || usage
@@ -40,6 +43,9 @@ if [ -n "$destination" ]; then
 else
     prefix=$(realpath -m -- "$prefix")
 fi
+# no link may lead out of this folder
+top_folder=$prefix
+[ -z "$destination" ] || top_folder=$(realpath -m -- "$destination")
 # (the manifest has one name per line)
 [[ $given$prefix != *$'\n'* ]] || fail "the folder's name has a newline"
 
@@ -69,9 +75,19 @@ html=share/doc/avrstk/html
 # the names of installed files, and of the folders that were made for them (these end with a slash), under the prefix
 manifest=$prefix/share/avrstk/manifest
 
+# Fails if a link leads from the folder of one of these files out of the prefix.
+check_links() {
+    local folder real
+    printf '%s\n' "${@%/*}" | LC_ALL=C sort -u | while IFS= read -r folder; do
+        real=$(realpath -m -- "$folder")
+        [[ $real/ == "${top_folder%/}"/* ]] || fail "$folder leads to $real, out of $top_folder"
+    done
+}
+
 # Fails if one of these names can't be installed, before anything is written.
 check() {
-    local file folder
+    local file folder known=$'\n'
+    [ ! -f "$manifest" ] || known+=$(cat "$manifest")$'\n'
     for file in "$manifest" "${@/#/"$prefix/"}"; do
         [ ! -d "$file" ] || fail "$file is a folder"
         folder=$(dirname "$file")
@@ -79,11 +95,14 @@ check() {
             folder=$(dirname "$folder")
         done
         [ -d "$folder" ] || fail "$folder is not a folder"
-        [ -w "$folder" ] || fail "$folder cannot be written"
+        [ -w "$folder" ] || fail "$folder cannot be written: run it by sudo, or give a folder of your own: $0 ~/.local"
+        [ -n "$destination" ] || [ "$file" = "$manifest" ] || [[ ! -e $file && ! -L $file ]] ||
+            [[ $known == *$'\n'"${file#"${prefix%/}/"}"$'\n'* ]] || fail "$file is there, but not by this script: nothing is installed"
     done
     if [ -L "$manifest" ] || { [ -e "$manifest" ] && [ ! -f "$manifest" ]; }; then
         fail "$manifest is no manifest of this script"
     fi
+    check_links "$manifest" "${@/#/"$prefix/"}"
 }
 
 # Prints the names of all folders of the files to install that aren't there yet.
@@ -142,6 +161,7 @@ remove() {
         # (only names under the prefix)
         [[ $name == ./ || /${name%/}/ != */@(|.|..)/* ]] || fail "$manifest: '$name' is no installed file: nothing is removed"
     done
+    check_links "$manifest" "${names[@]/#/"$prefix/"}" || return 1
     for name in "${names[@]}"; do
         [[ $name != */ && (-e $prefix/$name || -L $prefix/$name) ]] || continue
         { rm -f -- "$prefix/$name" && echo "removed $prefix/$name"; } || status=1
@@ -203,6 +223,10 @@ self=$0
 [ ! -L "$self" ] || self=$(readlink -f "$self")
 folder=${self%/*}
 [ "$folder" != "$self" ] || folder=.
+if [ "$*" = --version ]; then
+    cat "$folder/../lib/avrstk/avrstk.stamp" 2>/dev/null | version "$folder/../lib/avrstk/avrstk"
+    exit 0
+fi
 run "$folder/../lib/avrstk/avrstk" "$@"
 END
 add 755 "$built" lib/avrstk/avrstk

@@ -93,7 +93,7 @@ _avrstk() {
     script=${script##*/}
     case $script in
         avrstk-serial) options="-p -c -P -U -e -D -V -n -F -A -q -b -v -C -l --parts --wait --retry --backup --version -h --help" ;;
-        avrstk-serve) options="-p --chip --parts --idle --listen --pty --log --lose --lose-reply --corrupt --corrupt-reply --late --drop --seed --bootloader --locked --no-chip --version -h --help" ;;
+        avrstk-serve) options="-p --chip --parts --idle --timeout --listen --pty --log --log-limit --lose --lose-reply --corrupt --corrupt-reply --late --drop --seed --bootloader --locked --no-chip --version -h --help" ;;
         *) script=avrstk ;;
     esac
     typed=${line##*[[:blank:]]}
@@ -107,7 +107,7 @@ _avrstk() {
     before=${before##*[[:blank:]]}
     value=$typed
     case $before in
-        -[pcPUb] | --parts | --chip | --serve | --wait | --idle | --retry | --backup | --listen | --pty | --log | --lose | --lose-reply | --corrupt | --corrupt-reply | --late | --drop | --seed) found=$(_avrstk_value "$before") ;;
+        -[pcPUb] | --parts | --chip | --serve | --wait | --idle | --timeout | --retry | --backup | --listen | --pty | --log | --log-limit | --lose | --lose-reply | --corrupt | --corrupt-reply | --late | --drop | --seed) found=$(_avrstk_value "$before") ;;
         *) case $typed in
             --parts=* | --chip=*)
                 front=${typed%%=*}=

@@ -76,9 +76,11 @@ complete -c avrstk-serial -l backup -r -F -d 'folder for a backup'
 complete -c avrstk-serial -s p -x -a auto -d "the chip's part"
 complete -c avrstk-serve -l chip -r -F -d 'chip file'
 complete -c avrstk-serve -l idle -x -d 'idle timeout'
+complete -c avrstk-serve -l timeout -x -d 'time of the command'
 complete -c avrstk-serve -l listen -x -d 'address to listen at'
 complete -c avrstk-serve -l pty -r -F -d 'link to a terminal'
 complete -c avrstk-serve -l log -r -F -d 'file of commands'
+complete -c avrstk-serve -l log-limit -x -d 'limit of the log'
 for fault in lose lose-reply corrupt corrupt-reply late drop
     complete -c avrstk-serve -l $fault -x -d 'fault of a frame: a command, number or share'
 end

@@ -9,6 +9,7 @@ Not proved: No proof covers avrstk-serve, which is Python, and sockets and termi
 
 import ast
 import os
+import pty
 import resource
 import select
 import shlex
@@ -32,9 +33,9 @@ M328P = ["-p", "m328p", "--chip", "chip.bin"]
 room = Room()
 
 
-def ran(words, script=SCRIPT, before=None, **own):
+def ran(words, script=SCRIPT, before=None, timeout=PATIENCE, **own):
     """Returns the status, the messages and the output of the script. `own` are variables of its environment."""
-    how = {"cwd": room.folder, "env": environment() | own, "preexec_fn": before, "timeout": PATIENCE}
+    how = {"cwd": room.folder, "env": environment() | own, "preexec_fn": before, "timeout": timeout}
     it = subprocess.run([script, *words], **how, capture_output=True, text=True)
     return it.returncode, it.stderr, it.stdout
 
@@ -82,12 +83,13 @@ def environment(program=PROGRAM):
     return os.environ | {"AVRSTK": str(program)}
 
 
-def runs():
-    """Returns the numbers of the runs in the room."""
+def runs(name=b"avrstk_session"):
+    """Returns the numbers of the runs in the room, or of other programs."""
     found = []
     for it in Path("/proc").glob("[0-9]*"):
         try:
-            if (it / "cwd").resolve() == room.folder.resolve() and b"avrstk_session" in (it / "cmdline").read_bytes():
+            folder = (it / "cwd").resolve()
+            if room.folder.resolve() in [folder, *folder.parents] and name in (it / "cmdline").read_bytes():
                 found.append(int(it.name))
         except OSError:
             pass
@@ -136,13 +138,16 @@ def listens():
 
 def clients_that_send_nothing():
     """A client that only connects starts no run and delays no other client, before, while or after that one is served.
-    It needs few open files for them."""
+    It needs few open files for them: of nine that have sent nothing the oldest is hung up on."""
     with Serving(before=lambda: resource.setrlimit(resource.RLIMIT_NOFILE, (20, 20))) as it:
         for _ in range(100):
             it.call().close()
         silent = [it.call() for _ in range(100)]
         # (a later client is served only after the server has seen these)
         same("a client after them", it.writes_fuse(0x60), 0)
+        ended = [it for it in silent if select.select([it], [], [], 0)[0]]
+        same("those that are hung up on", ended, silent[: len(ended)])
+        see("and the others are eight, or seven beside that client", len(silent) - len(ended) in (7, 8), len(ended))
         wait_until(lambda: fuse() == 0x60)
         with it.call() as client:
             see("a session", begins(client))
@@ -323,15 +328,18 @@ def installed():
         script = Path(folder, "bin/avrstk-serve")
         served = ran(["0", "-p", "atmega32u4", "--chip", "chip.bin", "--", "true"], script, AVRSTK="")
         same("it serves", served, (0, "", ""))
-        shown = [ran(["--version"], it, AVRSTK="")[2].splitlines() for it in (SCRIPT, script)]
+        scripts = [SCRIPT, script, script.with_name("avrstk"), TOP / "avrstk"]
+        shown = [ran(["--version"], it, AVRSTK="")[2].splitlines() for it in scripts]
         stamp = ran(["--stamp-of", PROGRAM], TOP / "avrstk", AVRSTK="")[2].splitlines()
         rows = [it for it in stamp if not it.startswith(("sources", "program"))] or ["not known whether it is proved"]
         wanted = [f"avrstk {VERSION}", *rows]
         same("--version, installed", shown[1], wanted)
         same("--version, in the clone", NAMED or shown[0], NAMED or wanted)
+        same("--version of avrstk", [shown[2], NAMED or shown[3]], [wanted, NAMED or wanted])
         Path(folder, "lib/avrstk/avrstk.stamp").unlink()
-        told = ran(["--version"], script, AVRSTK="")[2]
-        same("without a stamp", told.splitlines()[1:], ["not known whether it is proved"])
+        for it in scripts[1:3]:
+            told = ran(["--version"], it, AVRSTK="")
+            same("without a stamp", told, (0, "", f"avrstk {VERSION}\nnot known whether it is proved\n"))
 
 
 def status_of_sessions():
@@ -364,17 +372,74 @@ def a_command():
         (["/nowhere/it"], 1, "avrstk-serve: /nowhere/it: No such file or directory\n"),
         ([], 1, "avrstk-serve: no command after --\n"),
         (["sh", "-c", 'rm chip.bin; mkdir chip.bin; "$@"; exit 0', "sh", *client], 1, None),
+        (["sh", "-c", 'rm chip.bin; mkdir chip.bin; "$@"; exit 3', "sh", *client], 3, None),
         (["false"], 1, None),
     ]
     for words, status, told in rows:
         found = ran(["0", *M328P, "--", *words])
         same(f"{words}: the status, and no run is left", (found[0], runs()), (status, []))
         see(f"{words}: its messages", told is None or found[1:] == (told, ""), found)
-    (room.folder / "chip.bin").rmdir()
-    for command, status in [("echo begun; exec sleep 600", 143), ("trap '' TERM; echo begun; while :; do sleep 0.1; done", 137)]:
-        with Serving("--", "sh", "-c", command) as it:
+        shutil.rmtree(room.folder / "chip.bin", ignore_errors=True)
+    # (a child, one that has lost its parent, one that ignores the signal)
+    rows = [("exec sleep 600", 143, "TERM"), ("sleep 600; true", 143, "INT"), ("(sleep 600 & sleep 600 &); sleep 600; true", 143, "HUP")]
+    for command, status, name in [*rows, ("trap '' TERM; while :; do sleep 600; done", 137, "TERM")]:
+        with Serving("--", "sh", "-c", f"echo begun; {command}") as it:
             same(f"{command}: its output", it.said, b"begun\n")
-            same(f"{command}: SIGTERM ends it too", it.end(), (status, ""))
+            same(f"{command}: SIG{name} ends it too", it.end(signal.Signals[f"SIG{name}"]), (status, ""))
+            same(f"{command}: and all that it started", runs(b"sleep"), [])
+    told = "avrstk-serve: sh is ended: it went on for 0.5 seconds (--timeout)\n"
+    same("--timeout", ran(["0", *M328P, "--timeout", "0.5", "--", "sh", "-c", "sleep 600; true"]), (124, told, ""))
+    same("all is ended", runs(b"sleep"), [])
+
+
+# a client that goes on once it was hung up on, as AVRDUDE does: at a port or a device, with a child
+GOES_ON = """
+case $1 in *:*) exec 3<>"/dev/tcp/${1%:*}/${1#*:}" ;; *) exec 3<>"$1" ;; esac
+printf "\\33\\1\\0\\1\\16\\1\\24" >&3
+sleep ${PAUSE:-600}; true
+"""
+
+
+def a_job_ends():
+    """If a session fails, or the server ends it, a command has ten seconds to end, or to begin a session that ends
+    well. Then the command is ended with all that it has started."""
+    begun, held = time.monotonic(), {}
+    for options, before, after, status, told in table("jobs"):
+        folder = Path(tempfile.mkdtemp(dir=room.folder))
+        (folder / "sub").mkdir()
+        client = f"{before}; (eval '{GOES_ON}') {after}"
+        words = [*options.split(), "-p", "m328p", "--chip", "sub/chip.bin", "--", "bash", "-c", client, "bash", "{}"]
+        how = {"cwd": folder, "env": environment(), "stderr": subprocess.PIPE, "text": True}
+        held[options, before] = subprocess.Popen([SCRIPT, *words], **how), int(status), told
+    try:
+        for name, (it, status, told) in held.items():
+            found = it.communicate(timeout=60)[1]
+            same(f"{name}: the status", it.returncode, status)
+            see(f"{name}: its messages", told in found and ("is ended: it went on for 10 seconds after that" in found) == status, found)
+        see("ten seconds", 10 <= time.monotonic() - begun, time.monotonic() - begun)
+        same("nothing is left", runs(b"sleep") + runs(), [])
+    finally:
+        for it in runs(b"sleep") + runs(b"avrstk-serve"):
+            os.kill(it, signal.SIGKILL)
+        for it in room.folder.glob("tmp*"):
+            shutil.rmtree(it)
+
+
+def at_a_terminal():
+    """A command reads the terminal at which the server was started, and Ctrl-C there ends both."""
+    for keys, status in [(b"7\n", 7), (b"\x03", 130)]:
+        child, terminal = pty.fork()
+        if child == 0:
+            words = [SCRIPT, "0", *M328P, "--", "sh", "-c", 'echo begun; read it </dev/tty; exit "$it"']
+            os.chdir(room.folder)
+            os.execve(SCRIPT, list(map(str, words)), environment())
+        shown = b""
+        while b"begun" not in shown:
+            shown += os.read(terminal, 100)
+        os.write(terminal, keys)
+        wait_until(lambda: os.waitid(os.P_PID, child, os.WEXITED | os.WNOHANG | os.WNOWAIT))
+        same(f"{keys}: the status", os.WEXITSTATUS(os.waitpid(child, 0)[1]), status)
+        os.close(terminal)
 
 
 def no_inner_port():
@@ -474,10 +539,24 @@ def devices():
         same("it ends", it.end(), (0, ""))
     same("nothing is left", [it.name for it in room.folder.glob("device*")], [])
     with Serving("--pty", "device", port=None) as it:
+        client = os.open(link, os.O_RDWR | os.O_NOCTTY)
+        (room.folder / f"device.avrstk-{it.started.pid}").write_text("somebody's")
+        os.write(client, FRAMES[0])
+        same("a client beside a file with such a name", os.read(client, 100), REPLIES[: ENDS[0]])
+        os.close(client)
+        wait_until(lambda: not runs())
+        client = os.open(link, os.O_RDWR | os.O_NOCTTY)
         link.unlink()
         link.symlink_to("blink.hex")
-        same("another link", it.end(), (0, ""))
-        same("stays", os.readlink(link), "blink.hex")
+        os.write(client, FRAMES[0])
+        same("one that waits when another link is in its place", os.read(client, 100), REPLIES[: ENDS[0]])
+        os.close(client)
+        same("the server ends", it.started.wait(timeout=PATIENCE), 1)
+        same("the messages", it.messages.read_text(), "avrstk-serve: device: File exists\n")
+        same("the other link stays", os.readlink(link), "blink.hex")
+    link.unlink()
+    words = ["--pty", "device", *M328P, "--", "sh", "-c", 'cd / && [ -e {} ] && [ {} = "$AVRSTK_PORT" ]']
+    same("a command in another folder", ran(words), (0, "", ""))
 
 
 def avrdudes_in_a_row():
@@ -526,6 +605,36 @@ def logged():
     same("its lines", marks(), [row for row, in table("log")])
 
 
+def logs_that_take_no_more():
+    """No log stops the server: a pipe that nobody reads, or whose reader stops, a full disk, --log-limit. A message
+    reports that once, and a line in the log the lines that are missing."""
+    pipe = room.folder / "pipe"
+    os.mkfifo(pipe)
+    told = "avrstk-serve: pipe: nobody reads this pipe\n"
+    same("nobody reads it", ran(["0", *M328P, "--log", "pipe"], timeout=20), (1, told, ""))
+    reader = os.open(pipe, os.O_RDONLY | os.O_NONBLOCK)
+    with Serving("--log", "pipe") as it, it.call() as client:
+        client.settimeout(60)
+        for _ in range(1_500):
+            see("a reply", begins(client))
+        held = os.read(reader, 1 << 20)
+        see("whole lines", held.endswith(b"\n") and held.count(b": SIGN_ON 01\n") == held.count(b"\n"), held[-200:])
+        see("a reply", begins(client))
+        missing = b"%d lines are missing" % (1_500 - held.count(b"\n"))
+        same("what is missing", os.read(reader, 1 << 20).partition(b"\n")[0], missing)
+        same("it ends", it.end(), (0, "avrstk-serve: --log: lines are missing: its reader is too slow\n"))
+    os.close(reader)
+    room.put("log", b"x" * 10)
+    rows = [("/dev/full", [], "No space left on device"), ("log", ["--log-limit", "100"], "it is as long as --log-limit allows")]
+    for name, words, why in rows:
+        with Serving("--log", name, *words) as it, it.call() as client:
+            for _ in range(10):
+                see("a reply", begins(client))
+            same(f"{name}: it ends", it.end(), (0, f"avrstk-serve: --log: lines are missing: {why}\n"))
+    log = room.read("log")
+    see("the log within its limit", log.endswith(b": SIGN_ON 01\n") and len(log) <= 100, log)
+
+
 def state_of(memory, old):
     """Returns what a memory holds: the old bytes, none, the new image, or a mixture."""
     image = bytes(image_of(room.read("blink.hex")).values())
@@ -560,11 +669,11 @@ CASES = named(
     *(listens, clients_that_send_nothing, one_after_another, half_closed, clients_that_reset, a_chip_in_use),
     *(idle_clients, ends_at_a_signal, refused, installed, status_of_sessions, a_command),
     *(no_inner_port, errors_end_one_session, signals_that_are_ignored, other_addresses, devices, logged),
-    *(avrdudes_in_a_row, faults),
+    *(avrdudes_in_a_row, faults, a_job_ends, at_a_terminal, logs_that_take_no_more),
 )
 
 # an idle time, or AVRDUDE's own timeouts
-TIMED = ["idle_clients", "devices", "logged", "avrdudes_in_a_row", "faults", "a_command"]
+TIMED = ["idle_clients", "devices", "logged", "avrdudes_in_a_row", "faults", "a_command", "a_job_ends"]
 
 if __name__ == "__main__":
     sys.exit(run_cases({name: lambda it=it: (room.clear(), it()) for name, it in CASES.items()}, __doc__, timed=TIMED))

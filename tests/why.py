@@ -16,7 +16,7 @@ import time
 
 from cases import PATIENCE, leave_out, named, run_cases, same, see
 from line import BadLine
-from program import CHIP_FILE, PROGRAM, TOP, Room, Server, frame, has_avrdude, lines
+from program import CHIP_FILE, ENDS, PROGRAM, REPLIES, TOP, Room, Server, frame, has_avrdude, lines
 
 COMMANDS = {"SIGN_ON": 0x01, "CHIP_ERASE": 0x12, "PROGRAM_FLASH": 0x13, "READ_FLASH": 0x14}
 # the other commands, which set an address or a mode: SET_PARAMETER, LOAD_ADDRESS, ENTER and LEAVE
@@ -141,7 +141,38 @@ def no_answer():
         see("four attempts to sign on, four to leave", wanted in heard, heard)
 
 
-CASES = named(table_is_printed, frames_are_sent, bad_files, no_answer)
+def closed_connection():
+    """Checks what avrstk and AVRDUDE do once the other side has closed the connection, as README says."""
+    see("README's row", re.search(r"^\| a connection that .* never ends, .* `link ended` at once", (TOP / "README.md").read_text(), re.M))
+    quiet = {"stdin": subprocess.DEVNULL, "stdout": subprocess.DEVNULL, "stderr": subprocess.PIPE}
+    with socket.create_server(("127.0.0.1", 0)) as door:
+        port = ["-p", "m328p", "-P", f"net:127.0.0.1:{door.getsockname()[1]}"]
+        for tool in [[PROGRAM], ["avrdude", "-qq", "-c", "stk500v2"]]:
+            if tool[0] != PROGRAM and not has_avrdude():
+                leave_out("AVRDUDE at a closed connection", "AVRDUDE 7.1 is not installed")
+                continue
+            started = subprocess.Popen([*tool, *port], **quiet)
+            client = door.accept()[0]
+            client.recv(100)
+            client.sendall(REPLIES[: ENDS[0]])
+            client.close()
+            begun = time.monotonic()
+            if tool[0] == PROGRAM:
+                told = started.communicate(timeout=PATIENCE)[1]
+                same("`link ended`", (started.returncode, told), (1, lines("error: link ended")))
+                see("at once", time.monotonic() - begun < 2, time.monotonic() - begun)
+                continue
+            used = lambda: sum(map(int, open(f"/proc/{started.pid}/stat").read().rpartition(")")[2].split()[11:13]))
+            time.sleep(5)
+            before = used()
+            time.sleep(10)
+            see("AVRDUDE goes on after 15 s", started.poll() is None, started.poll())
+            see("and uses the processor", used() - before > 10, used() - before)
+            started.kill()
+            started.communicate()
+
+
+CASES = named(table_is_printed, frames_are_sent, bad_files, no_answer, closed_connection)
 
 if __name__ == "__main__":
-    sys.exit(run_cases(CASES, __doc__, timed=["frames_are_sent", "no_answer"]))
+    sys.exit(run_cases(CASES, __doc__, timed=["frames_are_sent", "no_answer", "closed_connection"]))

@@ -1,6 +1,6 @@
 #!/bin/sh
-# Runs avrstk's program, and hints at avrstk-serial if that takes the options. ./avrstk of a clone reads this file, and
-# install.sh makes the installed avrstk from it.
+# Runs avrstk's program, and hints at avrstk-serial if that takes the options; prints the version. ./avrstk of a clone
+# reads this file, and install.sh makes the installed avrstk from it.
 
 # Whether avrstk refuses one of these options but avrstk-serial takes it: a device, a part that isn't built in, another
 # programmer, an option of AVRDUDE that it ignores. Such a run opens no file and sends nothing, so it can run as a child.
@@ -24,7 +24,11 @@ is_for_serial() {
                 ;;
         esac
     done
-    [ -z "$ignored" ] && [ "$programmer" = stk500v2 ] || return 0
+    case $programmer in
+        stk500v2) [ -z "$ignored" ] || return 0 ;;
+        wiring | avrispv2 | stk500) return 0 ;;
+        *) return 1 ;;
+    esac
     case $port in
         /dev/* | tty* | COM[0-9]* | usb*) return 0 ;;
     esac
@@ -32,6 +36,12 @@ is_for_serial() {
     case $part in
         m328p | t85 | m2560) return 1 ;;
     esac
+}
+
+# Prints the version of the program $1, and what its stamp on standard input says: whether it is proved, its commit.
+version() {
+    echo "avrstk $("$1" --help | tr '\n' ' ' | sed 's/.*This is *avrstk *\([0-9.]*\)\. *$/\1/')"
+    grep -v -e '^sources: ' -e '^program ' || echo "not known whether it is proved"
 }
 
 # Runs the program $1 with the other arguments.

@@ -1,14 +1,16 @@
 """The faults and the log of avrstk-serve: what becomes of the frames between a client and its run."""
 
-from avrstk_common import READ, Frames, is_frame, came, ready, refuse, say
+from avrstk_common import READ, Fault, Frames, is_frame, came, ready, refuse, say
 
 import collections
+import errno
 import functools
 import operator
 import os
 import random
 import re
 import time
+from typing import Optional
 
 # the names of the commands in a log
 COMMANDS = {
@@ -30,9 +32,10 @@ REFUSED = {"--bootloader": {CHIP_ERASE, 0x17, 0x19, 0x1C}, "--no-chip": {0x10}}
 
 
 def seconds(option, given):
-    is_number = re.fullmatch(r"[0-9]{1,9}(\.[0-9]+)?", given) and float(given)
+    number = given.partition(":")[2] if option == "--late" else given
+    is_number = re.fullmatch(r"[0-9]{1,9}(\.[0-9]+)?", number) and float(number)
     refuse((not is_number, f"{option} {given}: not a number of seconds"))
-    return float(given)
+    return float(number)
 
 
 def which(given, chance):
@@ -57,24 +60,66 @@ def spoiled(frame):
     return frame[:-2] + bytes([frame[-2] ^ 1, frame[-1]])
 
 
+def is_one_place(name: str, other: str) -> bool:
+    have_one = os.path.exists(name) and os.path.exists(other) and os.path.samefile(name, other)
+    return have_one or os.path.realpath(name) == os.path.realpath(other)
+
+
+class Log:
+    """The file of --log, with at most `limit` bytes. No pipe makes the server wait: lines that the file doesn't take at
+    once are lost. The first time a message reports that, and the next line in the log says how many."""
+
+    def __init__(self, name: str, limit: int):
+        try:
+            self.file = os.open(name, os.O_WRONLY | os.O_APPEND | os.O_CREAT | os.O_NONBLOCK | os.O_NOCTTY, 0o666)
+        except OSError as fault:
+            raise Fault(f"{name}: {'nobody reads this pipe' if fault.errno == errno.ENXIO else fault.strerror}")
+        self.room, self.rest, self.lost, self.is_told = limit - os.fstat(self.file).st_size, b"", 0, False
+
+    def put(self, line: str) -> None:
+        """Appends a line. A line that was cut is completed before the next one."""
+        line = f"{self.lost} lines are missing\n{line}".encode() if self.lost else line.encode()
+        try:
+            self.rest = self.rest and self.rest[os.write(self.file, self.rest) :]
+            if len(line) <= self.room and not self.rest:
+                self.rest, self.room, self.lost = line[os.write(self.file, line) :], self.room - len(line), 0
+                return
+            why = "its reader is too slow" if self.rest else "it is as long as --log-limit allows"
+        except OSError as fault:
+            why = "its reader is too slow" if isinstance(fault, BlockingIOError) else fault.strerror
+        self.lost += 1
+        if not self.is_told:
+            self.is_told = True
+            say(f"--log: lines are missing: {why}")
+
+
 class Traffic:
     """The frames between clients and their runs: each command has a line in the log, and faults are made of some."""
 
     def __init__(self, options):
         """Takes the options in their order, each with its value."""
-        last = dict(options)
-        self.file = open(last.get("--log", os.devnull), "a", buffering=1, encoding="ascii")
+        self.last = last = dict(options)
         self.is_bootloader = "--bootloader" in last
         self.refused = set().union(*(codes for it, codes in REFUSED.items() if it in last))
         self.client = self.count = 0
-        self.lateness = seconds("--late", last.get("--late", "0:1").partition(":")[2])
+        self.lateness = seconds("--late", last.get("--late", "0:1"))
         given = [(it, value) for it, value in options if it in FAULTS]
         seed, each = last.get("--seed", str(random.randrange(1_000_000))), {"--drop": ["--lose", "--lose-reply"]}
+        refuse((not re.fullmatch("[0-9]{1,18}", seed), f"--seed {seed}: not a number"))
         chance = random.Random(seed).random
         meant = lambda name, value: which(value.partition(":")[0] if name == "--late" else value, chance)
         self.faults = [(it, meant(name, value)) for name, value in given for it in each.get(name, [name])]
         if any("%" in value for _, value in given):
             say(f"--seed {seed} makes the same faults again")
+
+    def open(self, *files: Optional[str]) -> None:
+        """Opens the log, which is none of these files."""
+        name, limit = self.last.get("--log", os.devnull), self.last.get("--log-limit", f"{1 << 62}")
+        refuse(
+            (not re.fullmatch("[0-9]{1,19}", limit), f"--log-limit {limit}: not a number of bytes"),
+            (any(is_one_place(name, it) for it in files if it), f"--log {name}: this is the chip file or the part file"),
+        )
+        self.log = Log(name, int(limit))
 
     def begin(self):
         """Takes the next client. Returns what changes the bytes that it sends, and those that it gets."""
@@ -90,10 +135,8 @@ class Traffic:
             self.note(line, ["no reply"])
 
     def note(self, line, marks):
-        try:
-            self.file.write(f"{line}{': ' if marks else ''}{', '.join(marks)}\n" if line else "")
-        except OSError as fault:
-            say(f"--log: {fault.strerror}")
+        if line:
+            self.log.put(f"{line}{': ' if marks else ''}{', '.join(marks)}\n")
 
     def command(self, frame):
         """Returns what the run gets for a command."""

@@ -1,7 +1,7 @@
 """avrstk-serve: the clients at a port or a terminal, and the runs of avrstk_session for them."""
 
-from avrstk_common import ENDING, HELP, READ, Fault, Way, built, came, heed_signals, noted, part_words, readable
-from avrstk_common import ready, refuse, run, say, session_program, show, version, wait
+from avrstk_common import ENDING, HELP, READ, Fault, Way, built, came, ended_by, heed_signals, noted, part_words
+from avrstk_common import readable, ready, refuse, run, say, session_program, show, version, wait
 from avrstk_faults import FAULTS, REFUSED, Traffic, seconds
 
 import atexit
@@ -10,21 +10,28 @@ import getopt
 import os
 import re
 import select
+import shutil
 import signal
 import socket
 import subprocess
 import sys
+import tempfile
 import threading
 import time
 import tty
+from typing import List, Optional
 
 # the most clients kept that have sent nothing; beyond that the oldest is hung up on. (So few open files are enough)
 MOST_SILENT = 8
 
-# the most seconds that a run has to save its chip once its client is gone
+# the most seconds that a run has to save its chip once its client is gone, and a command to end after SIGTERM
 PATIENCE = 8
 
-LONG = ["parts=", "chip=", "idle=", "listen=", "pty=", "log=", "seed=", "locked", "version", "help"]
+# the seconds that a command has to end, or to begin a session that ends well, after one that did not
+GRACE = 10
+
+LONG = ["parts=", "chip=", "idle=", "listen=", "pty=", "timeout=", "log=", "log-limit=", "seed=", "locked"]
+LONG += ["version", "help"]
 LONG += [it[2:] + "=" for it in FAULTS] + [it[2:] for it in REFUSED]
 
 
@@ -54,13 +61,14 @@ class Port:
         address, port = self.door.getsockname()[:2]
         return f"[{address}]:{port}" if ":" in address else f"{address}:{port}"
 
-    def next_client(self):
-        """Returns the first client that has sent a byte; None after a signal. Hangs up on the oldest silent ones."""
+    def next_client(self, until):
+        """Returns the first client that has sent a byte; None after a signal, or if `until` passes. Hangs up on the
+        oldest silent ones."""
         while True:
             oldest = next(iter(self.silent), None)
             watched = dict.fromkeys([came, self.door, *self.silent], READ)
-            found = ready(watched, self.idle and self.silent.get(oldest))
-            if came in found:
+            found = ready(watched, min(filter(None, [until, self.idle and self.silent.get(oldest)]), default=None))
+            if came in found or is_past(until):
                 return None
             client = next((it for it in self.silent if it in found), None)
             if client:
@@ -87,7 +95,7 @@ class Link:
     """A link to the pseudo terminal of the next session. Closing the terminal of a session hangs up on its client."""
 
     def __init__(self, link):
-        self.link, self.terminal, self.device = link, None, None
+        self.link, self.terminal, self.device, self.fault = link, None, None, None
         atexit.register(lambda: self.is_here() and os.unlink(link))
 
     def open(self):
@@ -95,9 +103,12 @@ class Link:
         try:
             number, device = os.openpty()
             tty.setraw(device)
-            leads_to, name = os.ttyname(device), f"{self.link}.avrstk-{os.getpid()}" if self.is_here() else self.link
+            leads_to, name = os.ttyname(device), self.link
             # (once it was closed, the end of a client is seen)
             os.close(device)
+            if self.is_here():
+                # (nobody can guess this name, and no link is made where one is)
+                name = tempfile.mktemp(".avrstk", f"{os.path.basename(self.link)}-", os.path.dirname(self.link) or ".")
             os.symlink(leads_to, name)
             os.rename(name, self.link)
         except OSError as fault:
@@ -110,17 +121,73 @@ class Link:
         """Whether the link is still the one made here."""
         return self.device is not None and os.path.islink(self.link) and os.readlink(self.link) == self.device
 
-    def next_client(self):
-        """Returns the terminal whose client has sent a byte; None after a signal."""
+    def next_client(self, until):
+        """Returns the terminal whose client has sent a byte; None after a signal, or if `until` passes. If there can be
+        no terminal for the client after that one, the next call fails."""
+        if self.fault:
+            raise self.fault
         with_input = select.poll()
         with_input.register(self.terminal, select.POLLIN)
         # (while no client has it open, a terminal is always ready, with its end)
         while not any(events & select.POLLIN for _, events in with_input.poll(0)):
-            if ready({came: READ}, time.monotonic() + 0.02):
+            if ready({came: READ}, time.monotonic() + 0.02) or is_past(until):
                 return None
         client = self.terminal
-        self.open()
+        try:
+            self.open()
+        except Fault as fault:
+            self.fault = fault
         return client
+
+
+class Job:
+    """A command that runs as the client. It stays in the server's process group, so it can read the terminal, and Ctrl-C
+    reaches both."""
+
+    def __init__(self, command: List[str], where: str, limit: Optional[float]):
+        with contextlib.suppress(ImportError, AttributeError):
+            # (PR_SET_CHILD_SUBREAPER: what has lost its parent becomes a child of this process)
+            import ctypes
+            ctypes.CDLL(None).prctl(36, 1, 0, 0, 0)
+        command = [it.replace("{}", where) for it in command]
+        self.ran = subprocess.Popen(command, env={**os.environ, "AVRSTK_PORT": where})
+        # its end ends the server, as a signal does, and so does the end of its time
+        notes_end = lambda: (self.ran.wait(), noted.send(bytes([signal.SIGCHLD])))
+        threading.Thread(target=notes_end, daemon=True).start()
+        signal.signal(signal.SIGALRM, lambda *_: None)
+        signal.setitimer(signal.ITIMER_REAL, limit or 0)
+
+    def end(self) -> None:
+        """Ends it with all that it has started: by SIGTERM, and what is left after PATIENCE by SIGKILL."""
+        told, late = set(), time.monotonic() + PATIENCE
+        # (a process of another user may stay)
+        while started() and not is_past(late + 1):
+            for it in started():
+                with contextlib.suppress(OSError):
+                    os.kill(it, signal.SIGKILL if is_past(late) else 0 if it in told else signal.SIGTERM)
+                told.add(it)
+            time.sleep(0.02)
+
+    def status(self) -> int:
+        """Returns its status, which is that of a shell if a signal has ended it, and 1 if it can't be ended."""
+        with contextlib.suppress(subprocess.TimeoutExpired):
+            self.ran.wait(1)
+        status = self.ran.returncode
+        return 1 if status is None else 128 - status if status < 0 else status
+
+
+def started() -> List[int]:
+    """Returns the processes that this one has started, or one of those, and that have not ended. Each comes before what
+    it has started: so a shell that gets a signal first runs no further command."""
+    rows, found = [], [os.getpid()]
+    for it in filter(str.isdigit, os.listdir("/proc")):
+        # (it may have ended meanwhile)
+        with contextlib.suppress(OSError), open(f"/proc/{it}/stat", "rb") as file:
+            state, parent = file.read().rpartition(b")")[2].split()[:2]
+            rows += [(int(it), int(parent))] if state not in b"ZX" else []
+    for it in found:
+        found += [child for child, parent in rows if parent == it]
+    return found[1:]
 
 
 class Server:
@@ -129,33 +196,42 @@ class Server:
     def __init__(self, door, program, idle, traffic):
         self.door, self.program, self.idle, self.traffic, self.has_failed = door, program, idle, traffic, False
 
-    def serve_all(self, command):
-        """Serves while this command runs, or until a signal comes. Returns the status."""
+    def serve_all(self, command, limit):
+        """Serves while this command runs, for at most `limit` seconds, or until a signal comes. Returns the status."""
         where = self.door.open()
-        if command:
-            command = [it.replace("{}", where) for it in command]
-            client = subprocess.Popen(command, env={**os.environ, "AVRSTK_PORT": where})
-            # its end ends the server, as a signal does
-            notes_end = lambda: (client.wait(), noted.send(bytes([signal.SIGCHLD])))
-            threading.Thread(target=notes_end, daemon=True).start()
-        else:
+        if not command:
             show(f"serving at {readable(where)}")
-        for it in iter(self.door.next_client, None):
+            self.serve_clients(None)
+            return int(self.has_failed)
+        job, ended = Job(command, where, limit), None
+        try:
+            self.serve_clients(GRACE)
+            ended = ended_by()
+            whys = {None: f"{GRACE} seconds after that", signal.SIGALRM: f"{limit or 0:g} seconds (--timeout)"}
+            if ended in whys:
+                say(f"{command[0]} is ended: it went on for {whys[ended]}")
+        finally:
+            if ended != signal.SIGCHLD:
+                job.end()
+        return {None: 1, signal.SIGALRM: 124}.get(ended) or job.status() or int(self.has_failed)
+
+    def serve_clients(self, grace: Optional[int]) -> None:
+        """Serves clients until a signal comes. With `grace`, it ends so many seconds after a session that did not end
+        well, unless one does that has begun before."""
+        until = None
+        for it in iter(lambda: self.door.next_client(until), None):
+            is_well = False
             try:
-                self.serve(it)
+                is_well = self.serve(it)
             except OSError as fault:
                 self.has_failed = True
                 say(f"a client can't be served: {fault.strerror}")
             close(it)
-        if command:
-            client.terminate()
-            end(client, PATIENCE)
-        # (a status is that of a shell if a signal has ended the command)
-        status = client.returncode if command else 0
-        return (128 - status if status < 0 else status) or int(self.has_failed)
+            until = None if is_well else until or grace and time.monotonic() + grace
 
     def serve(self, client):
-        """Serves one client by a run of its own. On return the run has ended and saved the chip."""
+        """Serves one client by a run of its own. On return the run has ended and saved the chip. Returns whether the
+        client ended the session, and its chip was saved."""
         line, other = socket.socketpair()
         with line:
             with other:
@@ -164,7 +240,7 @@ class Server:
                 run = subprocess.Popen(self.program, **how)
             try:
                 line.setblocking(False)
-                self.pass_on(client, line)
+                is_well = self.pass_on(client, line)
             finally:
                 hang_up(line, run)
                 if self.traffic:
@@ -173,19 +249,21 @@ class Server:
             how = f"status {run.returncode}" if run.returncode > 0 else f"ended by signal {-run.returncode}"
             self.has_failed = True
             say(f"a session failed ({how}): its changes may not be in the chip file")
+        return is_well and not run.returncode
 
     def pass_on(self, client, line):
-        """Passes bytes between a client and its run until either has gone, the client is idle, or a signal comes."""
+        """Passes bytes between a client and its run until either has gone, the client is idle, or a signal comes.
+        Returns whether the client was not idle."""
         changes = self.traffic.begin() if self.traffic else [lambda piece: piece] * 2
         there, back = ways = Way(client, line, changes[0]), Way(line, client, changes[1])
         moved = time.monotonic()
         while not back.has_ended:
             found = wait(ways, {came: READ}, self.idle and moved + self.idle)
             if came in found:
-                return
+                break
             if not found:
                 say(f"a client sent nothing for {self.idle:g} seconds: hung up")
-                return
+                return False
             try:
                 if any([way.go_on(found) for way in ways]):
                     moved = time.monotonic()
@@ -193,7 +271,8 @@ class Server:
                     line.shutdown(socket.SHUT_WR)
             except OSError:
                 # (the client has reset the connection, or the run has ended)
-                return
+                break
+        return True
 
 
 def hang_up(line, run):
@@ -227,11 +306,12 @@ def close(client):
     client.close()
 
 
-def door_of(places, options, idle):
+def door_of(places, options, idle, command):
     """Returns what clients call: a port or a link."""
     if "--pty" in options:
         refuse((places or "--listen" in options, "a port and --pty: give one of the two"))
-        return Link(options["--pty"])
+        # (a command may look for it in another folder)
+        return Link(os.path.abspath(options["--pty"]) if command else options["--pty"])
     refuse((len(places) != 1, "one port is needed: avrstk-serve PORT -p PART --chip FILE"))
     is_port = re.fullmatch("[0-9]{1,9}", places[0]) and int(places[0]) < 65_536
     refuse((not is_port, f"{places[0]}: not a port from 0 to 65535"))
@@ -243,32 +323,51 @@ def has_sent(client):
         return bool(client.recv(1, socket.MSG_PEEK))
 
 
+def is_past(until: Optional[float]) -> bool:
+    return until is not None and time.monotonic() >= until
+
+
+def stray(words: List[str]) -> Optional[str]:
+    """Returns the first word that is no option or its value, but names a program; None if there is none."""
+    takes_value = {"-p", *(f"--{it[:-1]}" for it in LONG if it.endswith("="))}
+    others = (it for before, it in zip(["", *words], words) if before not in takes_value and it[:1] != "-")
+    return next(filter(shutil.which, others), None)
+
+
 def main():
     at = sys.argv.index("--") if "--" in sys.argv else len(sys.argv)
-    client = sys.argv[at + 1 :]
-    refuse((sys.argv[-1] == "--", "no command after --"))
+    client, program = sys.argv[at + 1 :], stray(sys.argv[1:at])
+    refuse(
+        (sys.argv[-1] == "--", "no command after --"),
+        (program and not client, f"{program}: a command comes after --"),
+    )
     given, places = getopt.gnu_getopt(sys.argv[1:at], "p:h", LONG)
     options = dict(given)
     if {"-h", "--help", "--version"} & set(options) or not sys.argv[1:]:
         return show(version() if "--version" in options else HELP)
-    idle = seconds("--idle", options["--idle"]) if "--idle" in options else None
-    door, chip, parts = door_of(places, options, idle), options.get("--chip"), options.get("--parts")
+    idle, limit = (seconds(it, options[it]) if it in options else None for it in ("--idle", "--timeout"))
+    door, chip, parts = door_of(places, options, idle, client), options.get("--chip"), options.get("--parts")
     traffic = Traffic(given) if {"--log", *FAULTS, *REFUSED} & set(options) else None
     refuse(
         (chip is None, "no chip file given (--chip)"),
         (re.search(r"[\udc80-\udcff]", chip or ""), f"--chip {chip}: the name is not UTF-8"),
         (parts is not None and not os.path.isfile(parts), f"--parts {parts}: not a file that each client can read"),
+        (limit and not client, "--timeout: no command after --"),
     )
     # (avrstk_session itself reports a missing part)
     words = [*part_words(options.get("-p"), parts), "-P", f"emu:{chip}"]
     command = [session_program(), *words]
     # runs that serve nobody check the options and set the lock. They report why they fail
-    runs = [[*command, "-n"], [built(None), *words, "-q", "-q", "-U", "lock:w:0xFC:m"]][: 1 + ("--locked" in options)]
-    if any(subprocess.run(it, stdin=subprocess.DEVNULL, stdout=subprocess.DEVNULL).returncode for it in runs):
+    quiet = {"stdin": subprocess.DEVNULL, "stdout": subprocess.DEVNULL}
+    if subprocess.run([*command, "-n"], **quiet).returncode:
+        return 1
+    if traffic:
+        traffic.open(chip, parts)
+    if "--locked" in options and subprocess.run([built(None), *words, "-q", "-q", "-U", "lock:w:0xFC:m"], **quiet).returncode:
         return 1
     heed_signals()
     try:
-        return Server(door, command, idle, traffic).serve_all(client)
+        return Server(door, command, idle, traffic).serve_all(client, limit)
     finally:
         # (while Python ends, another signal would end it by that signal)
         ignore_signals()
