@@ -417,6 +417,11 @@ def ports_of_avrstk():
         status, _, told, own = run([*words, "-P", f"net:127.0.0.1:{server.port}"])
         server.end()
     same("net:", (status, told, own, room.read("served.bin") == wanted), (0, lines(*FIRMWARE), notes, True))
+    started = start(["-p", "m328p", "-P", "stdio:"], stdin=subprocess.PIPE)
+    see("its first frame", started.stdout.read(7))
+    started.send_signal(signal.SIGTERM)
+    # (avrstk has ended, too: else its output stays open)
+    same("a signal", (started.stdout.read(), started.wait(PATIENCE)), (b"", 1))
     status, output, told, own = run(["-c", "?"])
     same("-c ?", (status, told, own, output.split()), (0, b"", [], [b"avrispv2", b"stk500", b"stk500v2", b"wiring"]))
 
@@ -841,9 +846,10 @@ def files_of_one_command():
         (room.folder / name).symlink_to(end)
     kept = {it.name: it.read_bytes() for it in room.folder.iterdir() if it.is_file()}
     line, device = terminal()
+    meant = lambda text: text.replace("DEVICE", device).replace("CLASSIC", CLASSIC[1])
     for words, wanted in table("files"):
-        status, _, told, own = run(["-p", "m328p", *shlex.split(words.replace("DEVICE", device))])
-        same(words, (status, told, own), (1, b"", [f"{wanted.replace('DEVICE', device)}: {UNOPENED}"]))
+        status, _, told, own = run(["-p", "m328p", *shlex.split(meant(words))])
+        same(words, (status, told, own), (1, b"", [f"{meant(wanted)}: {UNOPENED}"]))
         same(f"{words}: the files", {it.name: it.read_bytes() for it in room.folder.iterdir() if it.is_file()}, kept)
     os.close(line)
     room.put("old.log", b"old")

@@ -5,6 +5,7 @@ from avrstk_common import first
 import os
 import re
 import struct
+from typing import Iterator, List, Optional, Tuple
 
 # the addresses of each memory in an ELF file, and all that it may have (a signature names the part, and is not written)
 AREAS = {"flash": (0, 0x800000), "eeprom": (0x810000, 0x820000), "lock": (0x830000, 0x830001)}
@@ -26,7 +27,7 @@ NOTE = re.compile(rb"\x04\0{3}.{4}\x01\0{3}AVR\0.{32}\0([a-z0-9]+)\0", re.S)
 MOST = 1000
 
 
-def headers_of(elf):
+def headers_of(elf: bytes) -> Tuple[List[tuple], List[tuple]]:
     """Returns the loaded segments of an ELF file for AVR, and its sections, each with its name."""
     # (32 bits, low byte first, version 1; a file that can be executed, for machine 83)
     if elf[4:7] != b"\1\1\1" or struct.unpack_from("<2HI", elf, 16) != (2, 83, 1):
@@ -47,7 +48,7 @@ def headers_of(elf):
     return [it for it in segments if it[0] == 1], [(os.fsdecode(text), *it[1:6]) for text, it in zip(texts, sections)]
 
 
-def place_of(segments, address, begin, length):
+def place_of(segments: List[tuple], address: int, begin: int, length: int) -> Optional[int]:
     """Returns the load address of a section; None if not exactly one segment has it."""
     places = {
         place + begin - start
@@ -57,7 +58,7 @@ def place_of(segments, address, begin, length):
     return places.pop() if len(places) == 1 else None
 
 
-def fault_of(name, kind, flags, place, length, left):
+def fault_of(name: str, kind: int, flags: int, place: Optional[int], length: int, left: int) -> Optional[str]:
     """Returns why a section isn't read; None if it is. `left` is how many of the file's bytes no section had."""
     homes = [it for it, (low, high) in KNOWN.items() if place is not None and low <= place and place + length <= high]
     where = f"{length} bytes at {place or 0:08X}"
@@ -70,7 +71,7 @@ def fault_of(name, kind, flags, place, length, left):
     )
 
 
-def sections_of(elf):
+def sections_of(elf: bytes) -> Tuple[List[tuple], Optional[str]]:
     """Returns name, load address and bytes of each section of an ELF file for a memory, as avr-objcopy reads it, and
     the chip that the file names. Raises ValueError with the reason if programs may read the file in different ways."""
     try:
@@ -88,15 +89,15 @@ def sections_of(elf):
             left -= length
             found.append((name, place, memoryview(elf)[begin : begin + length]))
     found.sort(key=lambda it: it[1])
-    for (one, at, held), (other, later, _) in zip(found, found[1:]):
-        if at + len(held) > later:
-            raise ValueError(f"has sections {one} and {other} that overlap at {later:08X}")
+    clashes = [(one[0], other) for one, other in zip(found, found[1:]) if one[1] + len(one[2]) > other[1]]
+    if clashes:
+        raise ValueError("has sections {} and {} that overlap at {:08X}".format(clashes[0][0], *clashes[0][1]))
     notes = [elf[it[4] : it[4] + min(it[5], MOST)] for it in sections if it[0] == ".note.gnu.avr.deviceinfo"]
     made = NOTE.match(notes[0]) if notes else None
     return found, made and made[1].decode()
 
 
-def hex_rows(runs):
+def hex_rows(runs: List[tuple]) -> Iterator[str]:
     """Yields the rows of an Intel HEX file with these bytes at these addresses, each row after one with its base."""
     record = lambda it: f":{(it + bytes([-sum(it) & 255])).hex().upper()}\n"
     for begin, held, place in ((it, held, to) for it, held in runs for to in range(-(it % 16), len(held), 16)):

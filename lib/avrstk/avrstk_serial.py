@@ -1,6 +1,6 @@
 """avrstk-serial: the command line, and runs of avrstk with a programmer on a serial device."""
 
-from avrstk_common import HELP, READ, WRITE, Fault, Frames, Way, asked, came, ended_by, first, heed_signals
+from avrstk_common import HELP, READ, WRITE, Fault, Frames, Way, asked, came, data_file, ended_by, first, heed_signals
 from avrstk_common import is_frame, messages, parts, ready, refuse, run, say, session_program, show, version, wait
 from avrstk_hints import LEAVE, NO_CHIP, NO_SIGNATURES, ONE_IMAGE, SIGN_ON, hint, state_of
 from avrstk_words import DATA, FORMATS, FUSES, UNOPENED, Words, long_name, parts_of
@@ -20,6 +20,7 @@ import subprocess
 import sys
 import termios
 import time
+from typing import List, Tuple
 
 REFUSED = {
     "-B": "-B is not supported: leave it out; the programmer has its own clock (avrdude -B sets that of an STK500)",
@@ -352,12 +353,17 @@ def judge(words):
     refuse((why, f"--retry: the same command again may not heal this one: {why}"))
 
 
-def judge_files(words):
-    """Refuses an output that is another file of this command, before a file is opened."""
+def judge_files(words: Words) -> None:
+    """Refuses an output that is another file of this command, and the device as an image, before a file is opened."""
+    own = [(words.device and it.is_image and is_one(it.file, words.device), it.given) for it in words.updates]
+    refuse(*((is_device, f"-U {given}: that file is the device: {UNOPENED}") for is_device, given in own))
     port = (words.device or "").partition("emu:")[2]
     chips = [f"{port}{end}" for end in ("", ".avrstk-new", ".avrstk-lock") if port]
     inputs = {it.file: "an image" for it in words.updates if it.is_image}
-    inputs.update({words.parts_file: "the part file", words.device: "the device", **dict.fromkeys(chips, "the chip")})
+    inputs.update({words.parts_file or data_file("classic.toml"): "the part file", words.device: "the device"})
+    inputs.update(dict.fromkeys(chips, "the chip"))
+    # (without a part file)
+    inputs.pop(os.devnull, None)
     outputs = [(f"-U {it.given}", it.file) for it in words.updates if it.operation == "r" and it.file != "-"]
     outputs += [(f"{name} {words.last[name]}", words.last[name]) for name in ("-l", "--backup") if name in words.last]
     for number, (word, file) in enumerate(outputs):
@@ -368,14 +374,14 @@ def judge_files(words):
         refuse((taken or other, f"{word}: that file is {taken or f'also the one of {other}'}: {UNOPENED}"))
 
 
-def is_one(one, other):
+def is_one(one: str, other: str) -> bool:
     """Whether two names lead to one file, or will."""
     with contextlib.suppress(OSError):
         return os.path.samefile(one, other)
     return os.path.realpath(one) == os.path.realpath(other)
 
 
-def judge_bootloader(words):
+def judge_bootloader(words: Words) -> None:
     """Refuses what the bootloader of -c wiring can't do, and a second image of flash."""
     writes = [it for it in words.updates if it.writes_flash()]
     cures = {"leave out -e": "-e" in words.flags, "use -D": writes and "-D" not in words.flags}
@@ -385,7 +391,7 @@ def judge_bootloader(words):
         raise Fault(f"{ONE_WRITE}. {joined(writes, words.flash_pages() or [])}; {UNOPENED}")
 
 
-def joined(writes, pages):
+def joined(writes: list, pages: List[Tuple[int, int]]) -> str:
     """Returns what to do in place of these writes: the command that makes one image, if it can be given."""
     formats = {"i": "-Intel", "s": "-Motorola", "r": "-Binary"}
     kinds = [formats.get(it.kind()) if os.path.isfile(it.file) else None for it in writes]
@@ -398,7 +404,7 @@ def joined(writes, pages):
     return f"Type {line}, and give joined.hex" if all(kinds) else ONE_IMAGE.capitalize()
 
 
-def judge_part(words, end):
+def judge_part(words: Words, end: str) -> None:
     """Refuses what the part decides: firmware for another one, and an image that leaves out a bootloader's pages."""
     known = parts() if words.parts_file is None else {}
     own = known.get((words.part or "").lower(), {}).get("signature")

@@ -11,6 +11,7 @@ import getopt
 import os
 import re
 import subprocess
+from typing import List, Optional, Tuple
 
 FUSES = ["lfuse", "hfuse", "efuse", "lock"]
 MEMORIES = ["flash", "eeprom", *FUSES, "signature", "calibration"]
@@ -102,7 +103,7 @@ class Words:
         updates = [word for it in self.updates for word in ("-U", it.text)]
         return ["-P", port, "-c", "stk500v2", *part_words(self.part, self.parts_file), *self.flags, *updates]
 
-    def content(self, file):
+    def content(self, file: str) -> Optional[bytes]:
         """Returns the bytes of an image, which are read once; None if it can't be opened, which avrstk reports."""
         why = f"-P stdio: needs standard input, so no image comes from it: {UNOPENED}"
         refuse((file == "-" and (self.device or "").startswith("stdio:"), why))
@@ -110,7 +111,7 @@ class Words:
             self.contents[file] = read_whole(file)
         return self.contents[file]
 
-    def shown(self, line):
+    def shown(self, line: bytes) -> bytes:
         """Returns a line of avrstk with the user's name of a file that the script has handed on."""
         found = re.match(rb"(avrstk: (?:error|warning): )(/dev/fd/[^:]*)(: (?:line \d+: )?)", line)
         own = next((it for it in self.updates if found and it.handed and it.handed.encode() == found[2]), None)
@@ -145,7 +146,7 @@ class Words:
         pages = [(int(at), int(count)) for memory, at, count in rows[1:] if memory == "flash"]
         return (int(rows[0][1]), pages) if rows else (0, None)
 
-    def flash_pages(self):
+    def flash_pages(self) -> Optional[List[Tuple[int, int]]]:
         """Returns place and length of each page of flash that is written; None if that is not known."""
         only = copy.copy(self)
         only.updates = [it for it in self.updates if it.writes_flash()]
@@ -194,7 +195,7 @@ class Update:
         self.text = f"{self.memory}:{self.operation}:0x{value | ~bits[self.memory] & 0xFF:02X}:m"
         return f"no bit{'s'[:len(lacks) > 1]} {', '.join(lacks)}; given as 1: {self.text}"
 
-    def judge(self, content):
+    def judge(self, content: Optional[bytes]) -> None:
         """Refuses what avrstk would notice late, or not at all. Hands avrstk the bytes of an image that is judged."""
         folder, is_target = os.path.dirname(self.file) or ".", self.operation == "r" and self.file != "-"
         right_to = self.file if os.path.exists(self.file) else folder
@@ -227,7 +228,7 @@ class Update:
             (is_detected and not begins and is_text(front), "is text without records: name its format"),
         )
 
-    def fault_of_elf(self, held):
+    def fault_of_elf(self, held: bytes) -> Optional[str]:
         """Takes what an ELF file has for this memory, and the chip that it names. Returns why it can't be written."""
         if self.memory not in MEMORIES:
             # (avrstk refuses it)
@@ -247,7 +248,7 @@ class Update:
             (size > MOST_OF_ELF, f"has {size:,} bytes of {self.memory}, more than {MOST_OF_ELF:,}"),
         )
 
-    def hand_on(self, content):
+    def hand_on(self, content: Optional[bytes]) -> None:
         """Gives avrstk an image's bytes in a file without name. If it has none, gives it a name that no file has."""
         self.handed = f"/dev/fd/-{id(self)}"
         if content is not None:
@@ -275,16 +276,16 @@ class Update:
         is_other = self.file == "-" or os.path.exists(self.file) and not os.path.isfile(self.file)
         return self.operation == "r" and is_other
 
-    def kind(self):
+    def kind(self) -> Optional[str]:
         """Returns the letter of an image's format, which is detected if none is given; None of values."""
         detected = {b":": "i", b"S": "s"}.get(self.front.lstrip()[:1], "r")
         return detected if self.format in (None, "a") else self.format
 
-    def writes_flash(self):
+    def writes_flash(self) -> bool:
         return self.operation == "w" and self.memory == "flash"
 
 
-def read_whole(file):
+def read_whole(file: str) -> Optional[bytes]:
     """Returns the bytes of a file, a pipe or standard input; None if it can't be opened."""
     held, way = bytearray(), None
     try:
