@@ -11,23 +11,32 @@ Not proved: No proof covers avrstk-serial, which is Python, and serial devices.
 """
 
 import array
+import bz2
 import fcntl
+import gzip
+import io
 import itertools
+import lzma
 import os
 import pty
+import random
 import re
+import resource
 import select
 import shlex
 import shutil
 import signal
 import socket
+import struct
 import subprocess
 import sys
+import tarfile
 import tempfile
 import termios
 import threading
 import time
 import tty
+import zipfile
 from concurrent.futures import ThreadPoolExecutor
 from functools import lru_cache
 from pathlib import Path
@@ -37,12 +46,13 @@ from cases import run_cases, same, sampled, see, table, wait_until
 from line import frames_in, frames_of
 from program import CHIP_FILE, PROGRAM, SESSION, SIGNATURE, TOP, Room, Server, forks, frame
 from program import end_of, has_avrdude, kept_port, lines, listens_at, port_of, read_whole
-from records import hex_of
+from records import hex_of, image_of
 
 SCRIPT, SHARED = TOP / "avrstk-serial", TOP / "lib"
 PYTHON = shutil.which("python3", path="/usr/bin:/bin") or sys.executable
 FIRMWARE = [SIGNATURE, "chip erased", "flash: 228 bytes written", "flash: 228 bytes verified", "done"]
 FLASH = ["-p", "m328p", "-U", "flash:w:blink.hex:i"]
+NO_CHIP = ["-p", "m328p", "-P", "emu:no.bin"]
 CLASSIC = ["--parts", str(TOP / "parts/classic.toml")]
 CALL = "avrstk -p m328p -P net:127.0.0.1:5000 -U flash:w:firmware.hex:i"
 # how nobody is started, if this is root, who may do everything
@@ -251,7 +261,8 @@ def words_of_avrdude():
     room.put("blink.HEX", room.read("blink.hex"))
     cases = [(words.split(), list(filter(None, [own]))) for words, own in table("accepted")]
     for (words, own), found in zip(cases, side_by_side(lambda it: flashes(it[0]), cases)):
-        same(" ".join(words), found, (0, lines(*FIRMWARE), True, own))
+        texts = [it for it in FIRMWARE if it != "chip erased" or "-D" not in words]
+        same(" ".join(words), found, (0, lines(*texts), True, own))
 
 
 def reads():
@@ -299,11 +310,34 @@ UNOPENED = "nothing was sent, and the device was not opened"
 TEXTS = {
     "m.c": b"int main(void)\n{\n}\n",
     "fw.txt": b"# a note\n" + (TOP / "examples/blink.hex").read_bytes(),
-    "html": "<html>\n<p>Größe</p>\n".encode(),
     "latin": "// Größe\n".encode("latin-1"),
     "wide": ":100000000C945C000C946E\n".encode("utf-16"),
     "marked": b"\xef\xbb\xbf:100000000C945C000C946E\n",
     "indented": b" :100000000C945C000C946E\n",
+    "coloured.txt": b"main.c:1: \x1b[31merror:\x1b[0m no such file\n",
+    "build.log": b"make: all is made\n\0make: nothing else is to be made\n",
+    "japanese": "\u30a8\u30e9\u30fc\n".encode(),
+}
+
+def archive(opened, text=b"firmware"):
+    """Returns the bytes of a tar or zip archive with a file of this text."""
+    held = io.BytesIO()
+    with opened(held) as it:
+        it.writestr("main.hex", text) if isinstance(it, zipfile.ZipFile) else it.addfile(tarfile.TarInfo("main.hex"))
+    return held.getvalue()
+
+
+# other files that are no firmware, and what they are
+PACKED = {
+    "lib.a": (b"!<arch>\nmain.o/         0           0     0     644     4         `\n\0\1\2\3", "an ar archive"),
+    "main.zip": (archive(lambda it: zipfile.ZipFile(it, "w")), "a zip archive"),
+    "main.tar": (archive(lambda it: tarfile.open(None, "w", it)), "a tar archive"),
+    "main.hex.gz": (gzip.compress(b"firmware"), "a gzip file"),
+    "main.hex.xz": (lzma.compress(b"firmware"), "an xz file"),
+    "main.hex.bz2": (bz2.compress(b"firmware"), "a bzip2 file"),
+    "404": (b"<html>404 Not Found</html>\n", "an HTML page"),
+    "html": ("<html>\n<p>Größe</p>\n".encode(), "an HTML page"),
+    "page.php": ("\n <!doctype HTML>\n<p>\u30a8\u30e9\u30fc</p>\n".encode(), "an HTML page"),
 }
 EMPTY = {"end.hex": b":00000001FF\n", "end.srec": b"S0030000FC\nS5030000FC\nS9030000FC\n", "empty.hex": b"", "empty.bin": b""}
 
@@ -331,25 +365,51 @@ def refused():
         see(" ".join(words), found == (1, b"", 1, 0) and own[0].startswith(wanted), (found, own))
 
 
+def piped(words, content, **more):
+    """Runs these options with this content on standard input, by a pipe."""
+    reader, writer = os.pipe()
+    with forks:
+        threading.Thread(target=lambda: (os.write(writer, content), os.close(writer)), daemon=True).start()
+    try:
+        return run(words, stdin=reader, **more)
+    finally:
+        os.close(reader)
+
+
 def no_firmware():
-    """A text without records and an image without a byte are refused; a text as raw bytes (:r) is not."""
+    """A text without records, an archive, a page and an image without a byte are refused, also from a pipe; a text as raw
+    bytes (:r) is not."""
     why = {**dict.fromkeys(TEXTS, "is text without records: name its format"), **dict.fromkeys(EMPTY, "is empty (did its build fail?)")}
-    for name, content in {**TEXTS, **EMPTY}.items():
+    why.update({name: f"is {what}, not firmware" for name, (_, what) in PACKED.items()})
+    why.update({"lib.elf": "is an ar archive, not firmware"}, **dict.fromkeys(["note.ELF", "a.out"], "is not ELF, as its name says"))
+    others = {"lib.elf": PACKED["lib.a"][0], "note.ELF": room.read("blink.hex"), "a.out": b"\x0c\x94\0\0"}
+    contents = {**TEXTS, **EMPTY, **others, **{name: held for name, (held, _) in PACKED.items()}}
+    for name, content in contents.items():
         room.put(name, content)
     updates = [f"{it}{name}" for name in why for it in ("flash:w:", "eeprom:v:")]
-    updates += [f"flash:w:{name}:{'a' if name in TEXTS else 'i'}" for name in why]
-    for update, found in zip(updates, side_by_side(lambda it: run(["-p", "m328p", "-P", "emu:no.bin", "-U", it]), updates)):
-        name = update.split(":")[2]
-        same(update, found, (1, b"", b"", [f"{name} {why[name]}: {UNOPENED}"]))
-    status, *_ = run(["-p", "m328p", "-P", "emu:no.bin", "-U", "eeprom:w:m.c:r"])
+    updates += [f"flash:w:{name}:{'i' if name in EMPTY else 'a'}" for name in why]
+    cases = [(["-U", it], b"", it.split(":")[2], it.split(":")[2]) for it in updates]
+    # (a pipe has no name that could say what it has)
+    ways = zip(itertools.cycle(["-", "/dev/stdin", "-:a", "/dev/fd/0"]), set(why) - set(others))
+    cases += [(["-U", f"flash:w:{way}"], contents[name], way.split(":")[0], name) for way, name in ways]
+    for (words, given, shown, name), found in zip(cases, side_by_side(lambda it: piped([*NO_CHIP, *it[0]], it[1]), cases)):
+        same(f"{words} {name}", found, (1, b"", b"", [f"{shown} {why[name]}: {UNOPENED}"]))
+    status, *_ = run([*NO_CHIP, "-U", "eeprom:w:m.c:r"])
     same("a text as raw bytes", (status, room.read("no.bin")[32_768:][: len(TEXTS["m.c"])]), (0, TEXTS["m.c"]))
+    # (vectors, and strings right behind them)
+    tiny = bytes.fromhex("0EC028C027C026C025C024C023C022C021C020C01FC01EC01DC01CC01BC0") + b"Temperature too high\r\n" * 60
+    for name, raw in [("tiny.bin", tiny), ("jumps.bin", bytes.fromhex("0C945C00") * 26 + tiny[30:])]:
+        found = piped([*NO_CHIP, "-U", "flash:w:-"], raw)
+        see(f"{name} is firmware", (found[0], room.read("no.bin")[: len(raw)]) == (0, raw), found)
+    wanted = [f"/dev/zero has more than 67,108,864 bytes: {UNOPENED}"]
+    same("what never ends", run([*NO_CHIP, "-U", "flash:w:/dev/zero:r"]), (1, b"", b"", wanted))
 
 
 def ports_of_avrstk():
     """A run over `net:` or `emu:` goes to avrstk, with the script's options adapted. Option -c ? lists the
     programmers."""
     wanted = flashed()
-    words = ["-C", "x.conf", "-c", "wiring", "-b", "9600", "-p", "atmega328p", "-U", "blink.hex"]
+    words = ["-C", "x.conf", "-c", "stk500", "-b", "9600", "-p", "atmega328p", "-U", "blink.hex"]
     notes = ["ignored: -C x.conf", "blink.hex is read as Intel HEX (:i)"]
     status, _, told, own = run([*words, "-P", "emu:chip.bin"])
     same("emu:", (status, told, own, room.read("chip.bin") == wanted), (0, lines(*FIRMWARE), notes, True))
@@ -357,6 +417,11 @@ def ports_of_avrstk():
         status, _, told, own = run([*words, "-P", f"net:127.0.0.1:{server.port}"])
         server.end()
     same("net:", (status, told, own, room.read("served.bin") == wanted), (0, lines(*FIRMWARE), notes, True))
+    started = start(["-p", "m328p", "-P", "stdio:"], stdin=subprocess.PIPE)
+    see("its first frame", started.stdout.read(7))
+    started.send_signal(signal.SIGTERM)
+    # (avrstk has ended, too: else its output stays open)
+    same("a signal", (started.stdout.read(), started.wait(PATIENCE)), (b"", 1))
     status, output, told, own = run(["-c", "?"])
     same("-c ?", (status, told, own, output.split()), (0, b"", [], [b"avrispv2", b"stk500", b"stk500v2", b"wiring"]))
 
@@ -559,7 +624,6 @@ def retries():
 def retries_that_are_refused():
     """--retry is refused at the beginning for a command that a second run may not repair."""
     room.put("late.hex", hex_of([(0x4000, b"late")]))
-    os.mkfifo(room.folder / "pipe")
     line, device = terminal()
     fails = stand_in("sys.exit(1)\n")
 
@@ -703,20 +767,36 @@ def warnings():
 
 
 def images_that_are_read_once():
-    """An image may be a pipe: only avrstk opens it, and only once. Only the port is replaced on the command line."""
+    """An image is read once, also from a pipe, and may have several memories. Messages name the user's files."""
     wanted, text = flashed(), room.read("blink.hex")
     os.mkfifo(room.folder / "pipe")
     writer = threading.Thread(target=lambda: room.put("pipe", text), daemon=True)
     writer.start()
-    got, status, _ = on_a_terminal(["-p", "m328p", "-U", "flash:w:pipe:i"])
+    got, status, _ = on_a_terminal(["-p", "m328p", "--wait", "0", "-U", "flash:w:pipe:i"])
     rows = [it.decode() for it in lines(*FIRMWARE).splitlines()]
     same("a named pipe", (status, screen(got)), (0, [*rows, ""]))
+    see("its progress", "\ravrstk-serial: writing flash: 128 bytes, " in got, got)
     reader, writer = os.pipe()
     os.write(writer, text)
     os.close(writer)
-    status, _, told, own, chip = over(["-p", "m328p", "-U", f"flash:w:/dev/fd/{reader}:i"], pass_fds=[reader])
+    it = Boards(silent(0x13), {})
+    words = ["-p", "m328p", "--retry", "1", "-P", str(it.device), "-U", f"flash:w:/dev/fd/{reader}"]
+    status, _, told, own = run([*words, "-U", f"flash:v:/dev/fd/{reader}:i"], pass_fds=[reader])
     os.close(reader)
-    same("a shell's pipe", (status, told, own, chip == wanted), (0, lines(*FIRMWARE), [], True))
+    again = ["no answer: the same command again, 1 of 1"]
+    same("a shell's pipe, twice", (status, own, it.end() == wanted), (0, again, True))
+    status, _, told, own = piped([*NO_CHIP, "-U", "flash:w:-:i", "-U", "eeprom:w:-:i"], hex_of([(0, bytes(600))]))
+    same("two memories", (status, set(room.read("no.bin")[:600] + room.read("no.bin")[32_768:][:600])), (0, {0}))
+    for content, wanted in [(text[:100], "error: -: line 3: bad length"), (text[: text.rindex(b":")], "warning: -: no end record")]:
+        same(wanted, piped([*NO_CHIP, "-U", "flash:w:-"], content)[2].splitlines(True)[0], lines(wanted))
+    same("no such file", run([*NO_CHIP, "-U", "flash:w:no.hex:i"])[1:3], (b"", lines("error: no.hex: cannot be opened")))
+    why = f"-P stdio: needs standard input, so no image comes from it: {UNOPENED}"
+    same("no image from frames", run(["-p", "m328p", "-P", "stdio:", "-U", "flash:w:-"])[3], [why])
+    # (a file that grows no further: what is judged isn't passed on in part)
+    limit = {"preexec_fn": lambda: resource.setrlimit(resource.RLIMIT_FSIZE, (2048, 2048))}
+    room.put("long.hex", hex_of([(0, bytes(6_000))]))
+    status, _, told, own = run(["-p", "m328p", "-P", "net:127.0.0.1:1", "-U", "flash:w:long.hex:i"], **limit)
+    same("a limit of files", (status, told, own), (1, b"", [f"long.hex can't be given to avrstk: File too large: {UNOPENED}"]))
     room.put("net:", text)
     line, device = terminal()
     told = "sys.stderr.write('avrstk: error: ' + ' '.join(sys.argv[1:]).replace(str(port), 'PORT') + '\\n')\nsys.exit(1)\n"
@@ -726,6 +806,58 @@ def images_that_are_read_once():
     for word in ["--wait=\u0663", "-b\u0661\u0662\u0660\u0660"]:
         status, _, told, own = run([*FLASH, "-P", device, word])
         see(f"{word}: other digits", (status, told) == (1, b"") and ": not a " in own[0], (told, own))
+
+
+def over_a_bootloader():
+    """With -c wiring flash is written once, from address 0 on, and nothing erases the chip. The srec_cat command of a
+    refusal makes an image that is taken."""
+    images = {"a.hex": [(0x100, b"x" * 256)], "b.hex": [(0, b"y" * 256)], "gap.hex": [(0, b"x"), (256, b"x")]}
+    images["BELOW.hex"] = [(0, b"\1")]
+    for name, runs in images.items():
+        room.put(name, hex_of(runs))
+    held = {name: image_of(room.read(name)) for name in images}
+    room.put("c d.srec", b"S10402007A7F\nS9030000FC\n")
+    room.put("e.bin", bytes(130))
+    held.update({"c d.srec": {0x200: ord("z")}, "e.bin": dict.fromkeys(range(130), 0)})
+    for words, wanted in table("bootloader"):
+        words = ["-c", "wiring", *shlex.split(words)]
+        it = Board(talk=b".")
+        status, _, told, own = run(["-p", "m328p", "-P", it.device, *words])
+        see(f"{words}", (status, it.opened, told, own[-1][: len(wanted)]) == (1, 0, b"", wanted), (status, own))
+        it.end()
+        line = re.search(r"Type (.*), and give joined.hex", own[-1])
+        if not line or not shutil.which("srec_cat"):
+            leave_out("the joined image", "srec_cat is not installed") if line else None
+            continue
+        subprocess.run(["sh", "-c", line[1]], cwd=room.folder, check=True)
+        names = [name for name in held if shlex.quote(name) in line[1]]
+        image = {at: byte for name in names for at, byte in held[name].items()}
+        chip = bytes(image.get(at, 0xFF) for at in range(32_768))
+        status, _, told, own = run([*NO_CHIP, "-c", "wiring", "-D", "-U", "flash:w:joined.hex"])
+        see(f"{line[1]}: joined", (status, room.read("no.bin")[:32_768] == chip) == (0, True), (status, told, own))
+        (room.folder / "no.bin").unlink()
+
+
+def files_of_one_command():
+    """An output that is another file of the command is refused before a file is opened or changed."""
+    room.run([*NO_CHIP, "-e"])
+    os.link(room.folder / "blink.hex", room.folder / "hard.hex")
+    for name, end in [("soft.bin", "no.bin"), ("soft.toml", "parts.toml"), ("soon.hex", "later.hex")]:
+        (room.folder / name).symlink_to(end)
+    kept = {it.name: it.read_bytes() for it in room.folder.iterdir() if it.is_file()}
+    line, device = terminal()
+    meant = lambda text: text.replace("DEVICE", device).replace("CLASSIC", CLASSIC[1])
+    for words, wanted in table("files"):
+        status, _, told, own = run(["-p", "m328p", *shlex.split(meant(words))])
+        same(words, (status, told, own), (1, b"", [f"{meant(wanted)}: {UNOPENED}"]))
+        same(f"{words}: the files", {it.name: it.read_bytes() for it in room.folder.iterdir() if it.is_file()}, kept)
+    os.close(line)
+    room.put("old.log", b"old")
+    run([*NO_CHIP, "-l", "old.log", "-U", "flash:w:no.hex:s", "-B", "1"])
+    same("a refused command leaves its log", room.read("old.log"), b"old")
+    updates = ["lfuse:r:-:h", "hfuse:r:-:h", "efuse:r:/dev/null:h", "lock:r:/dev/null:h"]
+    found = run([*NO_CHIP, "-q", "-q", *(word for it in updates for word in ("-U", it))])
+    same("streams take several", found, (0, b"0xff\n0xff\n", b"", []))
 
 
 def changes(command, body):
@@ -823,6 +955,17 @@ def linked(name, text, *more):
     subprocess.run(made, cwd=room.folder, check=True, input=text.encode())
 
 
+def elf_of(segments, sections, sizes=(32, 40), length=100):
+    """Returns an ELF file with so many equal headers, of these sizes. Each section has the file's last bytes."""
+    begin = 52 + 32 * segments * (sizes[0] > 0)
+    end = begin + 40 * sections * (sizes[1] > 0)
+    head = [b"\x7fELF\1\1\1", 2, 83, 1, 0, 52, begin, 0, 52, sizes[0], segments, sizes[1], sections, sections - 1]
+    load = struct.pack("<8I", 1, end, 0, 0, length, length, 5, 1)
+    headers = [struct.pack("<10I", 0, kind, 2, 0, end, length, 0, 0, 1, 0) for kind in (1, 3)]
+    tables = [load * segments] * (sizes[0] > 0) + [headers[0] * (sections - 1) + headers[1]] * (sizes[1] > 0)
+    return struct.pack("<16s2H5I6H", *head) + b"".join(tables) + b".big\0".ljust(max(length, 4_096), b"\0")
+
+
 def elf_files():
     """Flash and EEPROM get from an ELF file what avr-objcopy takes from it, and fuses and the lock their bytes."""
     if not shutil.which("avr-gcc"):
@@ -845,21 +988,97 @@ def elf_files():
     room.put("wanted.bin", wanted)
     status, _, told, own = run(["-p", "m328p", "-P", "emu:wanted.bin", *words])
     same("each is compared", (status, told.count(b" verified")), (0, 6))
-    see("its line", own[0].startswith("main.elf is read as ELF (:e): its flash is /dev/fd/"), own)
+    same("its line", own, ["main.elf is read as ELF (:e)"] * 6)
     linked("high.elf", ".text\n.byte 7\n.section .high, \"ax\"\n.byte 8, 9\n", "-Wl,--section-start=.high=0x1FFFF")
     status, *_ = run(["-p", "m2560", "-P", "emu:high.bin", "-qq", "-U", "flash:w:high.elf"])
     same("over 64 kB", (status, room.read("high.bin")[0x1FFFE:0x20002]), (0, b"\xff\x08\x09\xff"))
     linked("odd.elf", ELF + '.section .odd, "a"\n.byte 1, 2\n', "-Wl,--section-start=.odd=0x850000")
     linked("none.elf", ".text\n.byte 1\n")
+    mine = '.section .mine, "a"\n.byte 1\n'
+    linked("overlap.elf", ELF + mine, "-Wl,--no-check-sections", "-Wl,--section-start=.mine=0x10")
+    linked("tiny.elf", ELF.replace("0x0F, 0x95, 0x1E", "0x0B, 0x93, 0x1E"))
+    for name, words in {"moved.elf": ["--change-section-lma", ".eeprom=0"], "mega.elf": []}.items():
+        subprocess.run(["avr-objcopy", *words, "main.elf", name], cwd=room.folder, check=True)
+    note = struct.pack("<3I4s8I", 4, 45, 1, b"AVR", 0, 262144, 512, 8192, 0, 4096, 8, 1) + b"\0atmega2560\0"
+    room.put("note", note)
+    words = ["--add-section", ".note.gnu.avr.deviceinfo=note", "-R", ".signature", "main.elf", "mega.elf"]
+    subprocess.run(["avr-objcopy", *words], cwd=room.folder, check=True)
+    room.put("loop.elf", elf_of(65_535, 65_535, sizes=(0, 0)))
+    room.put("headers.elf", elf_of(500, 501))
+    room.put("sizes.elf", elf_of(1, 1, sizes=(32, 64)))
+    room.put("sum.elf", elf_of(1, 999, length=8_000))
     linked("main.o", ELF, "-c")
     room.put("cut.elf", room.read("main.elf")[:700])
     for text, why in table("elf"):
-        _, _, told, own = run(["-p", "m328p", "-P", "emu:no.bin", "-U", text])
-        same(text, (told, own), (b"", [f"{why}: {UNOPENED}"]))
+        started = start([*NO_CHIP, "-U", text])
+        told = started.stderr.read().decode()
+        _, status, used = os.wait4(started.pid, 0)
+        started.returncode = os.waitstatus_to_exitcode(status)
+        end = ";" if " is made for " in why else ":"
+        same(text, (started.returncode, told), (1, f"avrstk-serial: {why}{end} {UNOPENED}\n"))
+        see(f"{text}: a second, 100 MB", used.ru_utime < 1 and used.ru_maxrss < 100_000, used)
+    for text in ["flash:w:tiny.elf", "eeprom:w:mega.elf"]:
+        status, _, _, own = run([*NO_CHIP, "-F", "-U", text])
+        see(f"{text} -F", (status, own[0].startswith("warning: ")) == (0, True), own)
+    status, _, _, own, chip = over(["-p", "auto", "-U", "flash:w:tiny.elf"])
+    see("-p auto", (status, set(chip), own[-1][-30:]) == (1, {0xFF}, "if it fits both; nothing was written"[-30:]), own)
+    same("its own chip", run(["-p", "attiny85", "-P", "emu:tiny.bin", "-U", "flash:w:tiny.elf"])[0], 0)
+    high = run(["-p", "t85", "-P", "emu:tiny.bin", "-U", "flash:w:high.elf"])
+    same("too high", high[2], lines("error: high.elf: address 0001FFFF out of range"))
     room.put("both.hex", b"".join(room.read("blink.hex").splitlines(True)[:-1]) + hex_of([(0x810000, b"eeprom")]))
     for memory, at, held in [("flash", 0, flash), ("eeprom", 32_768, eeprom)]:
         there = lambda chip: chip[:at] + held + chip[at + len(held) :]
         walk(memory, ["-p", "m328p", "-U", f"{memory}:w:both.hex"], there)
+
+
+def mutated(elf, chance):
+    """Returns an ELF file with a few changes: numbers of its headers, bits, bytes lost or doubled."""
+    held, odd = bytearray(elf), [0, 1, 2, 8, 40, 255, 0xFFFF, 0x800000, 0x810000, 0x820000, 0x840000, 1 << 31, 0xFFFFFFFF]
+    at, count = struct.unpack_from("<I", elf, 32)[0], struct.unpack_from("<H", elf, 48)[0]
+    for _ in range(chance.choice([1, 1, 1, 2, 3, 5]) if len(held) > 200 else 0):
+        number = chance.choice([*odd, *(chance.randrange(len(elf)) for _ in range(6))])
+        section, place = at + 40 * chance.randrange(count), chance.randrange(len(held))
+        kind = chance.randrange(6 if chance.randrange(9) else 7)
+        if kind < 3:
+            field = [28 + 4 * chance.randrange(6), 52 + 4 * chance.randrange(32), section + 4 * chance.randrange(10)][kind]
+            held[field : field + 4] = number.to_bytes(4, "little")
+        elif kind == 3:
+            held[place] ^= 1 << chance.randrange(8)
+        elif kind == 4:
+            held[section : section + 40] = held[at + 40 * chance.randrange(count) :][:40]
+        else:
+            del held[place : place + (chance.randrange(50) if kind == 5 else len(held))]
+            held.extend(bytes(200))
+    return b"\x7fELF" + held[4:]
+
+
+def elf_files_with_faults():
+    """Mutated ELF files: each is refused with a reason, or read as avr-objcopy reads it, at once."""
+    if not shutil.which("avr-gcc"):
+        return leave_out("mutated ELF", "avr-gcc is not installed")
+    sys.path[:0], sys.dont_write_bytecode = [str(SHARED / "avrstk")], True
+    from avrstk_elf import sections_of
+
+    linked("main.elf", ELF)
+    main, chance, slowest, read = room.read("main.elf"), random.Random(int(os.environ.get("SAMPLE") or 1)), 0.0, 0
+    count = int(os.environ.get("MUTANTS", "300" if os.environ.get("SAMPLE") else "4000"))
+    for number in range(count):
+        elf, begun = mutated(main, chance), time.process_time()
+        try:
+            found = {at + it: byte for _, at, held in sections_of(elf)[0] for it, byte in enumerate(held)}
+        except ValueError:
+            found = None
+        slowest = max(slowest, time.process_time() - begun)
+        if found:
+            read += 1
+            room.put("mutated.elf", elf)
+            command = ["avr-objcopy", "-O", "ihex", "mutated.elf", "mutated.hex"]
+            ran = subprocess.run(command, cwd=room.folder, capture_output=True)
+            # (it refuses some others, too)
+            wanted = found if ran.stderr else image_of(room.read("mutated.hex"))
+            see(f"mutant {number}", found == wanted, (sorted(set(found) ^ set(wanted))[:9], ran.stderr))
+    see(f"{count} mutants, {read} are read, the slowest in {slowest:.2f} s", slowest < 1 and 0 < read < count)
+    print(f"{count} mutants, {read} are read, the slowest in {slowest:.3f} s", flush=True)
 
 
 # What a reader does after a hint: the words that he finds in it, and the next command with the files of its case. After
@@ -869,7 +1088,8 @@ FOLLOWED = [
     (r"if it is a comment, else build or download the file again", another_file),
     (r"give the ELF file itself, as (\w+:w:)NAME.elf", lambda words, _, found: [*words[:3], f"{found[1]}main.elf", *words[4:]]),
     (r"leave out -D; with a", lambda words, case, _: on_a_bootloader(words, case) if "loads" in case else without(words, "-D")),
-    (r"use -D(, and give one image .* no page)?$", on_a_bootloader),
+    (r"use -D(, and give one image .* no page)?(;.*)?$", on_a_bootloader),
+    (r"from 0 on without gaps", another_file),
     (r"is -p right\?", lambda words, case, _: other_part(words, case["part"], "blink.hex")),
     (r"the right board\? .*; if that is so, -p (\w+), with", lambda words, case, found: other_part(words, found[1], case["made"])),
     (r": give (\S+:[ise]);", lambda words, _, found: renamed(words, found[1])),
@@ -1313,8 +1533,9 @@ def recipe_of_ser2net():
 CASES = named(
     *(words_of_avrdude, reads, boards_that_reset, parts, refused, no_firmware, devices, what_is_missing),
     *(ports_of_avrstk, speeds_that_a_device_has_not, lines_of_a_board, bits_that_do_not_exist, lists, retries),
-    *(retries_that_are_refused, the_part_of_the_chip, hints, elf_files, hints_over_each_memory, hints_that_are_followed),
-    *(progress, few_lines, backups, warnings, images_that_are_read_once, signals, cut_lines, closed_streams),
+    *(retries_that_are_refused, the_part_of_the_chip, hints, elf_files, elf_files_with_faults, hints_over_each_memory, hints_that_are_followed),
+    *(progress, few_lines, backups, warnings, images_that_are_read_once, over_a_bootloader, files_of_one_command),
+    *(signals, cut_lines, closed_streams),
     *(messages_that_nobody_reads, one_run_at_a_time, settings_that_are_kept, devices_that_go, strangers),
     *(names_and_interrupts, recipe_of_the_script, recipe_of_a_plain_bridge, recipe_of_ser2net),
 )

@@ -1,7 +1,7 @@
 """avrstk-serial: the command line, and runs of avrstk with a programmer on a serial device."""
 
-from avrstk_common import HELP, READ, WRITE, Fault, Frames, Way, asked, came, ended_by, first, heed_signals
-from avrstk_common import is_frame, messages, parts, ready, refuse, run, say, show, version, wait
+from avrstk_common import HELP, READ, WRITE, Fault, Frames, Way, asked, came, data_file, ended_by, first, heed_signals
+from avrstk_common import is_frame, messages, parts, ready, refuse, run, say, session_program, show, version, wait
 from avrstk_hints import LEAVE, NO_CHIP, NO_SIGNATURES, ONE_IMAGE, SIGN_ON, hint, state_of
 from avrstk_words import DATA, FORMATS, FUSES, UNOPENED, Words, long_name, parts_of
 
@@ -20,6 +20,7 @@ import subprocess
 import sys
 import termios
 import time
+from typing import List, Tuple
 
 REFUSED = {
     "-B": "-B is not supported: leave it out; the programmer has its own clock (avrdude -B sets that of an STK500)",
@@ -45,6 +46,8 @@ DEVICES, NONE_HERE = sorted(glob.glob("/dev/ttyACM*") + glob.glob("/dev/ttyUSB*"
 
 # Linux's tcgets2 and tcsets2. Their 44 bytes: four words of flags, a byte, 19 control characters, two speeds
 TCGETS2, TCSETS2, BOTHER = 0x802C542A, 0x402C542B, 0x1000
+
+ONE_WRITE = "a bootloader erases pages from 0 on, so one command writes flash once, from 0 on without gaps"
 
 # the commands that carry the bytes of a memory
 CARRYING = {0x13: "writing flash", 0x14: "reading flash", 0x15: "writing eeprom", 0x16: "reading eeprom"}
@@ -80,7 +83,7 @@ def unhealed(words):
         if writes and it.memory == "flash" and "flash" in written:
             pages = sorted(words.plan()[1] or [(0, 2), (1, 1)])
         why = first(
-            (it.is_stream(), f"{it.file} can't be {'written' if it.operation == 'r' else 'read'} twice"),
+            (it.is_stream(), f"{it.file} can't be written twice"),
             (it.operation == "v" and it.memory not in written, unwritten),
             (writes and "lock" in written, "it writes after the lock"),
             (any(sum(page) > later for page, (later, _) in zip(pages, pages[1:])), "it writes a page of flash twice"),
@@ -191,7 +194,7 @@ class Progress:
     """Draws on a terminal what is written or read, the share of the run's frames that were sent, and the time left."""
 
     def __init__(self, words):
-        self.is_wanted = os.isatty(2) and "-q" not in words.flags
+        self.is_wanted = os.isatty(2) and "-q" not in words.flags and not words.has_port
         self.total, self.begun = words.plan()[0] if self.is_wanted else 0, time.monotonic()
         self.what, self.sent, self.drawn = None, 0, 0.0
 
@@ -213,7 +216,7 @@ class Progress:
 
 
 class Run:
-    """One run of avrstk. Once avrstk connects, the device is bridged to its port."""
+    """One run of avrstk. Once avrstk connects, the device is bridged to its port, unless it has a port of its own."""
 
     def __init__(self, words, earlier=frozenset(), put=messages.put):
         self.words, self.earlier, self.put = words, earlier, put
@@ -221,9 +224,9 @@ class Run:
         self.error, self.kept, self.status = "", b"", None
         self.left_at_error = self.silenced = self.was_opened = False
         # the files to close, and the ways between avrstk and the device
-        self.port, self.ways = socket.create_server(("127.0.0.1", 0)), []
-        self.files = [self.port]
-        command = words.command(f"net:127.0.0.1:{self.port.getsockname()[1]}")
+        self.port, self.ways = None if words.has_port else socket.create_server(("127.0.0.1", 0)), []
+        self.files = [self.port] if self.port else []
+        command = words.command(f"net:127.0.0.1:{self.port.getsockname()[1]}" if self.port else words.device)
         # (the mark is for avrstk and what it starts. A shell may have opened an image, as by <(COMMAND))
         self.mark = os.urandom(16).hex()
         how = {"stderr": subprocess.PIPE, "close_fds": False, "env": {**os.environ, "AVRSTK_SERIAL": self.mark}}
@@ -239,8 +242,10 @@ class Run:
         *whole, self.kept = (self.kept + heard).split(b"\n")
         for it in whole:
             self.progress.what, self.progress.drawn = None, 0.0
-            self.put(it + b"\n")
-            text = os.fsdecode(it).partition("avrstk: ")[2]
+            shown = self.words.shown(it)
+            self.put(shown + b"\n")
+            # (several updates may have one file: only the name that avrstk got tells which one is faulty)
+            text = os.fsdecode(shown if it.endswith(b": cannot be opened") else it).partition("avrstk: ")[2]
             if text.startswith("error: ") and not self.error:
                 self.left_at_error, self.error = LEAVE in self.commands, text[7:]
         return bool(heard)
@@ -331,9 +336,13 @@ def judge(words):
         (not wait or float(words.wait) > 3, f"--wait {words.wait}: not a number of seconds from 0 to 3"),
     )
     for it in words.updates:
-        it.judge()
+        it.judge(words.content(it.file) if it.is_image and not os.path.isdir(it.file) else None)
     if not words.has_port:
         judge_device(words.device)
+    if words.is_wiring:
+        judge_bootloader(words)
+    if words.part != "auto":
+        judge_part(words, UNOPENED)
     is_number, is_retried = re.fullmatch(r"[0-9]{1,2}", words.retry), words.retry.strip("0")
     refuse(
         (re.fullmatch("net:[^:]*", words.device), f"-P {words.device}: a port of a network is -P net:HOST:PORT"),
@@ -344,8 +353,77 @@ def judge(words):
     refuse((why, f"--retry: the same command again may not heal this one: {why}"))
 
 
+def judge_files(words: Words) -> None:
+    """Refuses an output that is another file of this command, and the device as an image, before a file is opened."""
+    own = [(words.device and it.is_image and is_one(it.file, words.device), it.given) for it in words.updates]
+    refuse(*((is_device, f"-U {given}: that file is the device: {UNOPENED}") for is_device, given in own))
+    port = (words.device or "").partition("emu:")[2]
+    chips = [f"{port}{end}" for end in ("", ".avrstk-new", ".avrstk-lock") if port]
+    inputs = {it.file: "an image" for it in words.updates if it.is_image}
+    inputs.update({words.parts_file or data_file("classic.toml"): "the part file", words.device: "the device"})
+    inputs.update(dict.fromkeys(chips, "the chip"))
+    # (without a part file)
+    inputs.pop(os.devnull, None)
+    outputs = [(f"-U {it.given}", it.file) for it in words.updates if it.operation == "r" and it.file != "-"]
+    outputs += [(f"{name} {words.last[name]}", words.last[name]) for name in ("-l", "--backup") if name in words.last]
+    for number, (word, file) in enumerate(outputs):
+        taken = next((what for it, what in inputs.items() if it and is_one(file, it)), None)
+        # (a stream takes several outputs)
+        is_file = os.path.isfile(file) or not os.path.exists(file)
+        other = next((it for it, before in outputs[:number] if is_file and is_one(file, before)), None)
+        refuse((taken or other, f"{word}: that file is {taken or f'also the one of {other}'}: {UNOPENED}"))
+
+
+def is_one(one: str, other: str) -> bool:
+    """Whether two names lead to one file, or will."""
+    with contextlib.suppress(OSError):
+        return os.path.samefile(one, other)
+    return os.path.realpath(one) == os.path.realpath(other)
+
+
+def judge_bootloader(words: Words) -> None:
+    """Refuses what the bootloader of -c wiring can't do, and a second image of flash."""
+    writes = [it for it in words.updates if it.writes_flash()]
+    cures = {"leave out -e": "-e" in words.flags, "use -D": writes and "-D" not in words.flags}
+    cure = ", and ".join(it for it, is_needed in cures.items() if is_needed)
+    refuse((cure, f"a bootloader can't erase the chip: {cure}; {UNOPENED}"))
+    if len(writes) > 1:
+        raise Fault(f"{ONE_WRITE}. {joined(writes, words.flash_pages() or [])}; {UNOPENED}")
+
+
+def joined(writes: list, pages: List[Tuple[int, int]]) -> str:
+    """Returns what to do in place of these writes: the command that makes one image, if it can be given."""
+    formats = {"i": "-Intel", "s": "-Motorola", "r": "-Binary"}
+    kinds = [formats.get(it.kind()) if os.path.isfile(it.file) else None for it in writes]
+    words = [word for it, kind in zip(writes, kinds) for word in (it.file, kind or "")]
+    # (what is below the images isn't known: a placeholder, so that nothing below is lost)
+    words = ["BELOW.hex", "-Intel"] * (min(pages or [(0, 0)])[0] > 0) + words
+    fill = ["-fill", "0xFF", "0", f"0x{max(at + count for at, count in pages):X}"] if pages else []
+    words = ["(", *words, ")"] if len(words) > 2 and fill else words
+    line = " ".join(map(shlex.quote, ["srec_cat", *words, *fill, "-o", "joined.hex", "-Intel"]))
+    return f"Type {line}, and give joined.hex" if all(kinds) else ONE_IMAGE.capitalize()
+
+
+def judge_part(words: Words, end: str) -> None:
+    """Refuses what the part decides: firmware for another one, and an image that leaves out a bootloader's pages."""
+    known = parts() if words.parts_file is None else {}
+    own = known.get((words.part or "").lower(), {}).get("signature")
+    for it in words.updates if own else []:
+        named = it.chip in (None, long_name(words.part)) or known.get(it.chip, {}).get("signature") == own
+        chip = it.chip or " or ".join(parts_of(it.signature or "")) or it.signature
+        why = f"{it.file} is made for {chip}, and -p is {words.part}"
+        is_other = not named or it.signature not in (None, own)
+        refuse((is_other and "-F" not in words.flags, f"{why}: give -p for that chip, or -F if it fits both; {end}"))
+        if is_other:
+            words.note(f"warning: {why}")
+    writes = [it for it in words.updates if it.writes_flash()] if words.is_wiring else []
+    # (without that program it isn't known which pages are written)
+    if writes and session_program(subprocess.DEVNULL) and words.is_whole() is False:
+        raise Fault(f"{ONE_WRITE}. {joined(writes, words.flash_pages())}; {end}")
+
+
 def warn(words):
-    """Warns of fuses that can make the chip unreachable, and of an image for a bootloader that leaves out pages."""
+    """Warns of fuses that can make the chip unreachable."""
     name, gone = long_name(words.part), "no ISP programmer reaches the chip then"
     reset = next((it for names, it in RESET_PINS.items() if re.match(names, name)), (None, 0))
     risks = {
@@ -358,8 +436,6 @@ def warn(words):
         found = [it.given for it in writes if it.memory == memory and it.value() & mask == risky]
         if found:
             words.note(f"warning: {' and '.join(found)} {what}")
-    if words.is_wiring and "-D" in words.flags and words.is_whole() is False:
-        words.note(f"warning: a bootloader erases pages from 0 on, other ones than this image writes: {ONE_IMAGE}")
 
 
 def ran(words, put=messages.put):
@@ -418,18 +494,6 @@ def detect(words):
     words.part = names[0]
 
 
-def run_own_port(words):
-    """Runs avrstk with one of its own ports. It replaces this script, unless that has something to do afterwards."""
-    command = words.command(words.device)
-    if words.backup is None and not messages.log:
-        messages.finish()
-        os.execvp(command[0], command)
-    tool = subprocess.Popen(command, stderr=subprocess.PIPE, close_fds=False)
-    for line in tool.stderr:
-        messages.put(line)
-    return tool.wait()
-
-
 def restoring(words):
     """Returns the command that restores a backup."""
     values = {it: asked("cat", f"{words.backup}/{it}.txt") for it in FUSES}
@@ -445,40 +509,37 @@ def restoring(words):
 
 def prepare(words):
     """Judges the command line, makes the log and the folder that it names, and prints what is understood otherwise."""
-    log = words.last.get("-l")
-    of_update = log is not None and os.path.realpath(log) in [os.path.realpath(it.file) for it in words.updates]
-    refuse((of_update, f"-l {log}: that is the file of an update: {UNOPENED}"))
-    if log is not None:
-        messages.log = open(log, "wb", 0)
+    judge_files(words)
     if words.backup is not None:
         os.mkdir(words.backup)
     judge(words)
+    if "-l" in words.last:
+        messages.log = open(words.last["-l"], "wb", 0)
     if words.left_out:
         words.note(f"ignored: {', '.join(words.left_out)}")
     for it in words.updates if "-q" not in words.flags else []:
-        place = f": its {it.memory} is {it.text.split(':')[2]}" if it.elf else ""
         if it.named:
-            say(f"{it.file} is read as {FORMATS[it.named]} (:{it.named}){place}")
+            say(f"{it.file} is read as {FORMATS[it.named]} (:{it.named})")
 
 
 def serve(words):
     prepare(words)
-    if not words.has_port:
-        heed_signals()
+    heed_signals()
     if words.part == "auto":
         detect(words)
+        judge_part(words, "nothing was written")
     bits = words.bits()
     for it in words.updates:
         lacks = it.mask(bits)
         if lacks:
             words.note(f"{it.memory} of {words.part} has {lacks}")
     warn(words)
-    run = None if words.has_port else ran(words)
-    status = run.status if run else run_own_port(words)
-    refuse((run and status, run and status and hint(run, ended_by())))
-    if words.backup is not None and not status:
+    run = ran(words)
+    is_hinted = run.status and not words.has_port
+    refuse((is_hinted, is_hinted and hint(run, ended_by())))
+    if words.backup is not None and not run.status:
         show(restoring(words))
-    return status
+    return run.status
 
 
 def main():

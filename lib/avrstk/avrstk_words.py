@@ -1,13 +1,17 @@
 """The command line of avrstk-serial: its options, and its updates, which are judged before the device is opened."""
 
-from avrstk_common import Fault, data_file, first, part_words, parts, program, refuse, say, session_program
+from avrstk_common import READ, Fault, data_file, first, part_words, parts, program, ready, refuse, say
+from avrstk_common import session_program
+from avrstk_elf import AREAS, SIGNATURE, hex_rows, sections_of
 
+import codecs
 import contextlib
+import copy
 import getopt
 import os
 import re
-import struct
 import subprocess
+from typing import List, Optional, Tuple
 
 FUSES = ["lfuse", "hfuse", "efuse", "lock"]
 MEMORIES = ["flash", "eeprom", *FUSES, "signature", "calibration"]
@@ -16,15 +20,21 @@ UNOPENED = "nothing was sent, and the device was not opened"
 # formats by file name extension
 ENDINGS = {".hex": "i", ".ihex": "i", ".eep": "i", ".srec": "s", ".s19": "s", ".mot": "s"}
 FORMATS = {"i": "Intel HEX", "s": "S-records", "e": "ELF"}
+OF_ELF = (".elf", ".axf", ".out")
+
+# the most bytes of an image that the script reads, and of an ELF file's memory that it passes on
+MOST, MOST_OF_ELF = 1 << 26, 1 << 20
 
 # a file of records begins so, by avrstk's rule, and a record with data so
 RECORD = re.compile(rb"(?:[ \t\r]*\n)*(?::[0-9A-Fa-f]{10}|S[0-9][0-9A-Fa-f]{8})")
 DATA = re.compile(rb"^(?::(?!00)..(?:....)00|S1(?!03)|S2(?!04)|S3(?!05))", re.M)
 
-# the addresses of each memory in an ELF file, and all that it may have (a signature names the part, and is not written)
-AREAS = {"flash": (0, 0x800000), "eeprom": (0x810000, 0x820000), "lock": (0x830000, 0x830001)}
-AREAS.update({it: (0x820000 + place, 0x820001 + place) for place, it in enumerate(FUSES[:3])})
-KNOWN = [AREAS["flash"], AREAS["eeprom"], (0x820000, 0x820003), AREAS["lock"], (0x840000, 0x840003)]
+# how files begin that are neither firmware nor text
+PACKED = {
+    **{"an ar archive": rb"!<(arch|thin)>\n", "a zip archive": rb"PK\x03\x04", "a tar archive": rb"(?s:.{257})ustar"},
+    **{"a gzip file": rb"\x1f\x8b", "an xz file": rb"\xfd7zXZ\0", "a bzip2 file": rb"BZh[1-9]"},
+    **{"a zstd file": rb"\x28\xb5\x2f\xfd", "an HTML page": rb"(?i)(\xef\xbb\xbf)?\s*<(!doctype html|html|head|body)"},
+}
 
 # options of AVRDUDE and of avrstk
 SHORT = "p:c:P:U:b:C:l:B:E:i:x:T:Y:OtysueDVnFAqvh?"
@@ -83,7 +93,7 @@ class Words:
             refuse((self.updates or "-e" in last or self.is_wiring, why))
             ends = {it: "txt:h" if it in FUSES else "hex:i" for it in MEMORIES[:6]}
             self.updates = [Update(f"{it}:r:{self.backup}/{it}.{end}") for it, end in ends.items()]
-        self.flags = [name for name, _ in options if name in FLAGS]
+        self.flags, self.contents = [name for name, _ in options if name in FLAGS], {}
         self.left_out = [f"{name} {value}".rstrip() for name, value in options if name in IGNORED]
 
     def command(self, port):
@@ -92,6 +102,22 @@ class Words:
     def options(self, port):
         updates = [word for it in self.updates for word in ("-U", it.text)]
         return ["-P", port, "-c", "stk500v2", *part_words(self.part, self.parts_file), *self.flags, *updates]
+
+    def content(self, file: str) -> Optional[bytes]:
+        """Returns the bytes of an image, which are read once; None if it can't be opened, which avrstk reports."""
+        why = f"-P stdio: needs standard input, so no image comes from it: {UNOPENED}"
+        refuse((file == "-" and (self.device or "").startswith("stdio:"), why))
+        if file not in self.contents:
+            self.contents[file] = read_whole(file)
+        return self.contents[file]
+
+    def shown(self, line: bytes) -> bytes:
+        """Returns a line of avrstk with the user's name of a file that the script has handed on."""
+        found = re.match(rb"(avrstk: (?:error|warning): )(/dev/fd/[^:]*)(: (?:line \d+: )?)", line)
+        own = next((it for it in self.updates if found and it.handed and it.handed.encode() == found[2]), None)
+        # (avrstk's lines of an ELF file are not those of the user's)
+        rest = found and (b": " if own and own.elf else found[3]) + line[found.end() :]
+        return found[1] + os.fsencode(own.file) + rest if own else line
 
     def note(self, text):
         """Prints a line that is no error, unless -q is given twice."""
@@ -120,9 +146,15 @@ class Words:
         pages = [(int(at), int(count)) for memory, at, count in rows[1:] if memory == "flash"]
         return (int(rows[0][1]), pages) if rows else (0, None)
 
+    def flash_pages(self) -> Optional[List[Tuple[int, int]]]:
+        """Returns place and length of each page of flash that is written; None if that is not known."""
+        only = copy.copy(self)
+        only.updates = [it for it in self.updates if it.writes_flash()]
+        return only.plan()[1]
+
     def is_whole(self):
         """Whether the command writes flash from address 0 on, and leaves out no page; None if that is not known."""
-        _, pages = self.plan()
+        pages = self.flash_pages()
         ends = [0, *(at + count for at, count in pages or [])]
         return pages and [at for at, _ in pages] == ends[:-1]
 
@@ -131,7 +163,9 @@ class Update:
     """One -U, parsed as avrstk parses it. `text` is what avrstk gets."""
 
     def __init__(self, given):
-        self.given, self.text, self.format, self.elf = given, given, None, None
+        self.given, self.text, self.format = given, given, None
+        # the name that avrstk gets for an image, what an ELF file has for this memory, and the chip that it names
+        self.handed, self.elf, self.chip, self.signature, self.front = "", None, None, None, b""
         self.memory, self.operation, self.file = "flash", "w", given
         if ":" in given:
             self.memory, self.operation, self.file = (given.split(":", 2) + ["", ""])[:3]
@@ -161,98 +195,124 @@ class Update:
         self.text = f"{self.memory}:{self.operation}:0x{value | ~bits[self.memory] & 0xFF:02X}:m"
         return f"no bit{'s'[:len(lacks) > 1]} {', '.join(lacks)}; given as 1: {self.text}"
 
-    def judge(self):
-        """Refuses what avrstk would notice late, or not at all, and takes an ELF file apart."""
+    def judge(self, content: Optional[bytes]) -> None:
+        """Refuses what avrstk would notice late, or not at all. Hands avrstk the bytes of an image that is judged."""
         folder, is_target = os.path.dirname(self.file) or ".", self.operation == "r" and self.file != "-"
         right_to = self.file if os.path.exists(self.file) else folder
-        is_read = self.is_image and os.path.isfile(self.file) and os.access(self.file, os.R_OK)
+        is_read = self.is_image and content is not None
         fault = first(
-            (is_target and os.path.isdir(self.file), "is a folder"),
+            ((is_target or self.is_image) and os.path.isdir(self.file), "is a folder"),
             (is_target and not os.path.isdir(folder), f"cannot be created, since {folder} is no folder"),
             (is_target and not os.access(right_to, os.W_OK), "cannot be written, you have no right to"),
             (self.is_image and self.format == "e" and not is_read, "can't be read as ELF: it is no file"),
-            (is_read, is_read and self.fault_of_image(self.held(1 << 26))),
+            (is_read, is_read and self.fault_of_image(content)),
         )
         refuse((fault, f"{self.file} {fault}: {UNOPENED}"))
+        if self.is_image and self.file:
+            self.hand_on(content)
 
     def fault_of_image(self, held):
-        """Returns why these bytes of a file are no image; None if they are one."""
+        """Returns why these bytes are no image; None if they are one, perhaps of ELF, which is taken apart."""
         is_elf, begins = held[:4] == b"\x7fELF", RECORD.match(held[:1024])
-        is_detected = self.format in (None, "a")
+        is_detected, front = self.format in (None, "a"), held[:1024]
+        self.front = bytes(held[:65_536])
         if is_elf and (is_detected or self.format == "e"):
-            return self.hand_on(held)
+            return self.fault_of_elf(held)
+        packed = next((name for name, begin in PACKED.items() if re.match(begin, front)), None)
         return first(
             (is_elf and self.format == "r", "is ELF, not the bytes of a memory: leave out :r"),
-            (self.format == "e", "is not ELF"),
             (not held or begins and self.format != "r" and not DATA.search(held), "is empty (did its build fail?)"),
-            (is_detected and not begins and is_text(held[:1024]), "is text without records: name its format"),
+            (is_detected and packed, f"is {packed}, not firmware"),
+            (self.format == "e", "is not ELF"),
+            (is_detected and self.file.lower().endswith(OF_ELF), "is not ELF, as its name says"),
+            (is_detected and not begins and is_text(front), "is text without records: name its format"),
         )
 
-    def hand_on(self, held):
-        """Gives avrstk what an ELF file has for this memory, in an Intel HEX file without name. Returns why not."""
-        try:
-            sections = list(sections_of(held))
-        except (struct.error, ValueError, IndexError):
-            return "is damaged, or no linked ELF file for AVR"
-        if self.memory not in AREAS:
+    def fault_of_elf(self, held: bytes) -> Optional[str]:
+        """Takes what an ELF file has for this memory, and the chip that it names. Returns why it can't be written."""
+        if self.memory not in MEMORIES:
             # (avrstk refuses it)
             return None
+        if self.memory not in AREAS:
+            return f"is ELF, which isn't read for {self.memory}"
+        try:
+            sections, self.chip = sections_of(held)
+        except ValueError as fault:
+            return str(fault)
+        self.signature = next((bytes(it[::-1]).hex().upper() for _, at, it in sections if at == SIGNATURE), None)
         low, high = AREAS[self.memory]
-        runs = [(max(low, at) - low, held[max(low - at, 0) : high - at]) for _, at, held in sections]
-        self.elf = [(at, held) for at, held in runs if held and at < high - low]
-        fits = lambda at, held: any(low <= at and at + len(held) <= high for low, high in KNOWN)
-        odd = next((it for it in sections if not fits(*it[1:])), None)
-        if odd:
-            return "has a section {} that fits no memory ({} bytes at {:08X})".format(odd[0], len(odd[2]), odd[1])
-        if not self.elf:
-            return f"has no byte of {self.memory}"
-        file = os.memfd_create("image", 0)
-        os.write(file, "\n".join(hex_rows(self.elf)).encode())
-        self.named, self.text = "e", f"{self.memory}:{self.operation}:/dev/fd/{file}:i"
-        return None
+        runs = [(max(low, at) - low, it[max(low - at, 0) : max(high - at, 0)]) for _, at, it in sections]
+        self.elf, size = [it for it in runs if it[1]], sum(len(it) for _, it in runs)
+        return first(
+            (not self.elf, f"has no byte of {self.memory}"),
+            (size > MOST_OF_ELF, f"has {size:,} bytes of {self.memory}, more than {MOST_OF_ELF:,}"),
+        )
+
+    def hand_on(self, content: Optional[bytes]) -> None:
+        """Gives avrstk an image's bytes in a file without name. If it has none, gives it a name that no file has."""
+        self.handed = f"/dev/fd/-{id(self)}"
+        if content is not None:
+            file = os.memfd_create("image", 0)
+            rest = memoryview("".join(hex_rows(self.elf)).encode() if self.elf else content)
+            self.handed = f"/dev/fd/{file}"
+            try:
+                while rest:
+                    rest = rest[os.write(file, rest) :]
+            except OSError as fault:
+                raise Fault(f"{self.file} can't be given to avrstk: {fault.strerror}: {UNOPENED}")
+        if self.elf:
+            self.named = "e"
+        self.text = f"{self.memory}:{self.operation}:{self.handed}:{'i' if self.elf else self.format or 'a'}"
 
     def held(self, most):
-        """Returns the file's first bytes. A pipe has none: they are avrstk's."""
-        if not os.path.isfile(self.file):
-            return b""
+        """Returns the first bytes of an image, or of a file that a memory was read into."""
+        if self.is_image or not os.path.isfile(self.file):
+            return self.front[:most]
         with open(self.file, "rb") as it:
             return it.read(most)
 
     def is_stream(self):
-        """Whether the file can only be read or written once."""
-        return self.format != "m" and (self.file == "-" or os.path.exists(self.file) and not os.path.isfile(self.file))
+        """Whether a memory is read into a file that can only be written once."""
+        is_other = self.file == "-" or os.path.exists(self.file) and not os.path.isfile(self.file)
+        return self.operation == "r" and is_other
+
+    def kind(self) -> Optional[str]:
+        """Returns the letter of an image's format, which is detected if none is given; None of values."""
+        detected = {b":": "i", b"S": "s"}.get(self.front.lstrip()[:1], "r")
+        return detected if self.format in (None, "a") else self.format
+
+    def writes_flash(self) -> bool:
+        return self.operation == "w" and self.memory == "flash"
+
+
+def read_whole(file: str) -> Optional[bytes]:
+    """Returns the bytes of a file, a pipe or standard input; None if it can't be opened."""
+    held, way = bytearray(), None
+    try:
+        with contextlib.suppress(OSError):
+            way = open(0 if file == "-" else file, "rb", 0, closefd=file != "-")
+        while way and len(held) <= MOST:
+            piece = way.read(1 << 20)
+            if piece == b"":
+                return held
+            if piece is None:
+                # (a stream that doesn't block has nothing yet)
+                ready({way: READ})
+            held += piece or b""
+    except OSError as fault:
+        raise Fault(f"{file} can't be read: {fault.strerror}: {UNOPENED}")
+    refuse((way, f"{file} has more than {MOST:,} bytes: {UNOPENED}"))
+    return None
 
 
 def is_text(held):
-    """Whether these bytes are text: none is a control character, and most are ASCII."""
+    """Whether these bytes are text: they have hardly any control characters, and are UTF-8 or mostly ASCII. (Firmware
+    begins with jumps, which are no UTF-8.)"""
     held = held.decode("utf-16", "replace").encode() if held[:2] in (b"\xff\xfe", b"\xfe\xff") else held
-    return len(re.findall(rb"[\t\n\f\r -~]", held)) * 2 > len(held) and not re.search(rb"[^\t\n\f\r -~\x80-\xff]", held)
-
-
-def sections_of(elf):
-    """Yields the name, the load address and the bytes of each loaded section of an ELF file for AVR, as objcopy."""
-    # (32 bits, low byte first; a file that can be executed, for machine 83)
-    if elf[4:6] != b"\1\1" or struct.unpack_from("<2H", elf, 16) != (2, 83):
-        raise ValueError
-    loads, at, _, _, size, count, wide, many, names = struct.unpack_from("<3I6H", elf, 28)
-    loads = [struct.unpack_from("<6I", elf, loads + it * size) for it in range(count)]
-    sections = [struct.unpack_from("<6I", elf, at + it * wide) for it in range(many)]
-    for name, kind, flags, address, begin, length in sections:
-        # (8: it has no bytes in the file; flag 2: it is in a memory)
-        if kind == 8 or not flags & 2 or not length:
-            continue
-        if begin + length > len(elf):
-            raise ValueError
-        places = [place - start for load, start, _, place, held, _ in loads if load == 1 and 0 <= begin - start < held]
-        name = elf[sections[names][4] + name :].partition(b"\0")[0]
-        yield os.fsdecode(name), begin + places[-1] if places else address, elf[begin : begin + length]
-
-
-def hex_rows(runs):
-    """Yields the rows of an Intel HEX file with these bytes at these addresses, each row after one with its base."""
-    record = lambda it: f":{(it + bytes([-sum(it) & 255])).hex().upper()}"
-    for begin, held, place in ((it, held, to) for it, held in runs for to in range(-(it % 16), len(held), 16)):
-        at, row = begin + max(place, 0), held[max(place, 0) : place + 16]
-        yield record(b"\2\0\0\4" + (at >> 16).to_bytes(2, "big"))
-        yield record(bytes([len(row), at >> 8 & 255, at & 255, 0]) + row)
-    yield ":00000001FF\n"
+    controls = len(re.findall(rb"[^\a-\r\x1b -~\x80-\xff]", held))
+    try:
+        # (the last character may be cut)
+        codecs.getincrementaldecoder("utf-8")().decode(held)
+        return controls * 20 <= len(held)
+    except UnicodeDecodeError:
+        return not controls and len(re.findall(rb"[\t\n\f\r -~]", held)) * 2 > len(held)
