@@ -314,6 +314,9 @@ def refused():
     room.put("note.hex", b"# a note\n" + room.read("blink.hex"))
     room.put("page.hex", b"<!DOCTYPE html>\n<p>no such firmware</p>\n")
     room.put("big.hex", hex_of([(32_768, b"x")]))
+    room.put("257.hex", hex_of([(250, b"1234567")]))
+    room.put("257.bin", bytes(257))
+    room.put("long x.elf", b"\x7fELF" + b"x" * 600 + b"\n")
     (room.folder / "gone.hex").symlink_to("nowhere")
     cases = [(shlex.split(words), wanted) for words, wanted in table("refused")]
 
@@ -491,15 +494,15 @@ def lists():
     """Tests the list of devices that -P ? prints. (tests/serve.py has --version.)"""
     here = sorted(str(it) for kind in ("ACM", "USB") for it in Path("/dev").glob(f"tty{kind}*"))
     status, output, *told = run(["-P", "?"])
-    same("-P ?", (status, [it.split()[0] for it in output.decode().splitlines()], told), (0, here or ["there"], [b"", []]))
+    same("-P ?", (status, [it.split()[0] for it in output.decode().splitlines()], told), (0, here or ["no"], [b"", []]))
 
 
 class Boards:
     """One chip behind one device, named `device` in the room: a board for each time that it is opened. Each has a pseudo
     terminal of its own, so that it sees the end of its run even if the next one opens the device at once."""
 
-    def __init__(self, *each):
-        self.chip, self.each, self.device = f"served{next(boards)}.bin", each, room.folder / f"device{next(boards)}"
+    def __init__(self, *each, chip=None):
+        self.chip, self.each, self.device = chip or f"served{next(boards)}.bin", each, room.folder / f"device{next(boards)}"
         self.over = threading.Event()
         self.renew()
         self.thread = threading.Thread(target=self.live, daemon=True)
@@ -565,7 +568,7 @@ def retries_that_are_refused():
 
     def ran(*words):
         status, _, _, own = run(["-p", "m328p", "-P", device, "--retry", "1", *words], env=fails)
-        return status, own[0].partition("may not heal this one: ")[2]
+        return status, own[0].partition("may not repair this one: ")[2]
 
     two = ["-U", "flash:w:blink.hex:i", "-U", "flash:w:late.hex:i"]
     same("--retry without avrstk_session", ran(*two), (1, "it writes a page of flash twice"))
@@ -590,6 +593,9 @@ def the_part_of_the_chip():
     same("its lines", (status, own), (0, [again, "the chip is m328p (1E 95 0F)", note]))
     see("the run's own lines alone", told.startswith(lines(SIGNATURE, "chip erased")), told)
     same("the chip", it.end(), wanted)
+    _, _, _, own, _ = over(["-p", "auto", "-U", "flash:w:gone.hex:i"], {})
+    sent = "the chip is unchanged, and may be held in reset: power-cycle the board"
+    same("what its session sent is known", own, ["the chip is m328p (1E 95 0F)", f"there is no such file; {sent}"])
     for board, hint in table("auto"):
         status, _, told, own, chip = over(words, board_of(board))
         see(hint, (status, len(own)) == (1, 1) and own[0].startswith(hint), (status, told, own))
@@ -654,11 +660,14 @@ def progress():
 
 
 def few_lines():
-    """-q twice silences the script in a run that ends well, and -l keeps all lines in a file, also over `emu:`."""
+    """-q twice leaves values that the script changes or warns of. -l keeps all lines in a file, also over `emu:`."""
     flashed()
     quiet = ["-C", "x.conf", "-q", "-q", "-p", "auto", "--retry", "1", "-U", "blink.hex", "-U", "efuse:w:5:m", "-U", "lfuse:w:0:m"]
     it = Boards({}, silent(0x13), {})
-    same("-q twice", run([*quiet, "-P", str(it.device)])[::3], (0, []))
+    status, _, _, own = run([*quiet, "-P", str(it.device)])
+    shown = ["efuse of m328p has no bits 3, 4, 5, 6, 7; given as 1: efuse:w:0xFD:m"]
+    shown.append("warning: lfuse:w:0:m selects an external clock: the chip only works while a clock drives its pin XTAL1")
+    same("-q twice", (status, own), (0, shown))
     see("the chip", it.end()[:228] == flashed()[:228])
     it = Board()
     for port in [it.device, "emu:logged.bin"]:
@@ -669,32 +678,66 @@ def few_lines():
 
 
 def backups():
-    """--backup reads six memories. Unless the chip is locked, it prints the command that restores them."""
-    old = bytes(it % 241 for it in range(700)).ljust(32_768, b"\xff") + bytes(it % 239 for it in range(1024))
-    for fuses in ["E2D1FDFF", "62D907FE", "E2D1FDFC"]:
+    """--backup reads all memories, and --restore writes and compares them, whatever the chip's EEPROM and lock are. A
+    folder of a run that fails doesn't stay."""
+    old = bytes(it % 241 for it in range(700)).ljust(32_768, b"\xff") + bytes(it % 239 for it in range(200)).ljust(1024, b"\xff")
+    told = lambda words, board: over(["-p", "m328p", *words], board)[::3]
+    for fuses, name in [("E2D1FDFF", "a backup"), ("62D907FE", "-x")]:
         room.put("old.bin", old + bytes.fromhex(fuses))
-        shutil.rmtree(room.folder / "a backup", ignore_errors=True)
-        status, output, _, own, _ = over(["-p", "m328p", "--backup", "a backup"], {"chip": "old.bin"})
-        if fuses[-2:] == "FC":
-            wanted = ["the chip is locked, so flash and EEPROM can't be read: this is no backup of them"]
-            same("a locked chip", (status, output, own), (1, b"", wanted))
-            break
-        room.put("new.bin", bytes(33_792) + b"\xe1\xd2\xfa\xfc")
-        it = Board(chip="new.bin")
-        words = [it.device if word.startswith("/dev/") else word for word in shlex.split(output.decode())]
-        same("restored", (status, words[0], run(words[1:])[0]), (0, "avrstk-serial", 0))
-        see("the chip", it.end()[:-2] == (old + bytes.fromhex(fuses))[:-2], fuses)
-    room.put("none.bin", b"\xff" * 33_796)
-    status, output, *_ = run(["-p", "m328p", "-P", "emu:none.bin", "--backup", "none"])
-    see("an erased flash", (status, b"flash:w" in output, b"-e" in output) == (0, False, True), output)
-    for it in ["a backup", "none"]:
+        status, output, _, own, _ = over(["-p", "m328p", "--wait", "0.4", "--backup", name], {"chip": "old.bin"})
+        words = shlex.split(output.decode())
+        see(f"{name}: its command", words[:5] == ["avrstk-serial", "--wait", "0.4", "-p", "m328p"], output)
+        same(f"{name}: there is none yet", told(["--backup", name], {}), (1, [f"--backup {name}: File exists: {UNOPENED}"]))
+        # (D7: the erase keeps EEPROM. This lock forbids all but an erase)
+        for chip in [b"\xe1\xd7\xfa\xfc", b"\xff" * 4]:
+            room.put("new.bin", bytes(33_792) + chip)
+            it = Boards({}, {}, chip="new.bin")
+            found = run([str(it.device) if word.startswith("/dev/") else word for word in words[1:]])
+            same(f"{name}: restored", (found[0], it.end() == old + bytes.fromhex(fuses)), (0, True))
+    room.put("old.bin", b"\xff" * 33_796)
+    for words in [["--backup", "none"], ["--restore", "none"]]:
+        same("an erased chip", run(["-p", "m328p", "-P", "emu:old.bin", *words])[0], 0)
+    loader = "a bootloader can't write fuses and the lock, or read the calibration: use a programmer"
+    written = lambda answer: see("no write", answer[5] not in (0x12, 0x13, 0x15, 0x17, 0x19)) and answer
+    refused = lambda answer: frame(answer[1], b"\x1c\xc0") if answer[5] == 0x1C else written(answer)
+    fails = [
+        ({"answer": refused}, ["--backup", "gone"], loader),
+        ({"answer": refused}, ["--restore", "a backup"], loader),
+        ({"talk": b"x"}, ["--backup", "gone", "-b", "x"], "-b x: not a speed"),
+        (silent(0x16), ["--backup", "gone"], "the programmer stopped replying"),
+        (board_of("part t85"), ["-p", "t85", "--restore", "a backup"], f"a backup is of a chip 1E950F, and t85 is 1E930B: {UNOPENED}"),
+    ]
+    it = Boards(board_of("part t85"), {"part": "t85"})
+    status, _, _, own = run(["-p", "auto", "--restore", "a backup", "-P", str(it.device)])
+    see("another chip", status == 1 and own[-1].startswith("signature holds something else than 0x1E,0x95,0x0F"), own)
+    see("another chip is as it was", set(it.end()) == {0xFF})
+    room.put("locked.bin", b"\xff" * 33_795 + b"\xfc")
+    no_backup = "the chip is locked, so flash and EEPROM can't be read: this is no backup of them"
+    fails.append(({"chip": "locked.bin"}, ["--backup", "gone"], no_backup))
+    for board, words, why in fails:
+        status, own = told(words, board)
+        see(f"{words}: {why}", status == 1 and own[-1].startswith(why) and not (room.folder / "gone").exists(), own)
+    for file, text, why in [("lock.txt", b"0xfc", no_backup), ("eeprom.hex", hex_of([(0, b"1")]), "none/eeprom.hex is not the whole EEPROM")]:
+        kept = room.read(f"none/{file}")
+        room.put(f"none/{file}", text)
+        same(why, told(["--restore", "none"], {"talk": b"x"}), (1, [f"{why}: {UNOPENED}"]))
+        room.put(f"none/{file}", kept)
+    for it in ["a backup", "none", "-x"]:
         shutil.rmtree(room.folder / it)
 
 
 def warnings():
     """Tests warnings of fuses that can make a chip unreachable, and of an image that leaves out a bootloader's
     pages."""
+    fields = "flash_size = 32768, flash_page = 128, eeprom_size = 1024, eeprom_page = 4, eesave_bit = 3"
+    mine = [f'{it} = {{ {fields}, signature = "{digits}" }}\n' for it, digits in [("m328p", "1e950F"), ("b-chip", "1E9500")]]
+    fields = fields.replace(", ", "\n")
+    mine.append(f'[parts.a-chip]\nsignature = "1E950F"\n{fields}\n')
     for part, words, wanted in table("warnings"):
+        room.put("mine.toml", ("[parts]\n" + "".join(mine)).encode())
+        room.put("h59.hex", hex_of([(0, b"\x59")]))
+        room.put("h59.srec", b"S104000059A2\nS9030000FC\n")
+        room.put("h59.bin", b"\x59")
         room.put("gap.hex", hex_of([(0, b"x"), (256, b"x")]))
         room.put("late.hex", hex_of([(0x4000, b"late")]))
         own = run(["-p", part, "-P", "emu:no.bin", *words.split()])[3]
@@ -799,6 +842,19 @@ def on_a_bootloader(words, case, *_):
     return another_file([*without(without(words, "-e"), "-D"), "-D"], case)
 
 
+def valued(words, given):
+    """Gives this value in place of the update of the same memory."""
+    return [given if it.partition(":")[0] == given.partition(":")[0] else it for it in words]
+
+
+def stays(words, case, found):
+    """Decides by the data sheet whether the part has one of these bits."""
+    has = {"efuse": 0x07, "lock": 0x3F}[found[2].partition(":")[0]] if "lacks" in case else 0xFF
+    if not any(has >> int(it) & 1 for it in found[1].split(",")):
+        return valued(words, found[2])
+    return [*words, "-e"] if "(-e)" in found[3] else None
+
+
 # a program for avr-gcc: sections for each memory, the data of flash at another address than in RAM
 ELF = """
     .text
@@ -868,8 +924,10 @@ FOLLOWED = [
     (r"damaged or cut short: build or download it again", another_file),
     (r"if it is a comment, else build or download the file again", another_file),
     (r"give the ELF file itself, as (\w+:w:)NAME.elf", lambda words, _, found: [*words[:3], f"{found[1]}main.elf", *words[4:]]),
-    (r"leave out -D; with a", lambda words, case, _: on_a_bootloader(words, case) if "loads" in case else without(words, "-D")),
-    (r"use -D(, and give one image .* no page)?$", on_a_bootloader),
+    (r"leave out -D, which erases all of flash, and EEPROM unless", lambda words, case, _: on_a_bootloader(words, case) if "loads" in case else without(words, "-D")),
+    (r": (leave out -e, and )?use -D(, and give one image .* no page)?\. If", lambda words, case, _: "loads" in case and on_a_bootloader(words, case)),
+    (r": leave out -e. If this is a programmer, it can't", lambda words, case, _: "loads" in case and without(words, "-e")),
+    (r"lacks, and reads as 1: is -p right\?", lambda *_: None),
     (r"is -p right\?", lambda words, case, _: other_part(words, case["part"], "blink.hex")),
     (r"the right board\? .*; if that is so, -p (\w+), with", lambda words, case, found: other_part(words, found[1], case["made"])),
     (r": give (\S+:[ise]);", lambda words, _, found: renamed(words, found[1])),
@@ -878,11 +936,12 @@ FOLLOWED = [
     (r"a value is written as 0xE2", lambda words, *_: [it.replace(":E2:", ":0xE2:") for it in words]),
     (r"has no option before it: a file is given as (-U) (\S+)$", lambda words, _, found: [*words[:-1], found[1], found[2]]),
     (r"a value needs :m after it, as lfuse:w:0xE2:m", lambda words, *_: renamed(words, "lfuse:w:0xE2:m")),
-    (r"Does the data sheet have them\?", lambda words, case, _: [*words, "-V" if "lacks" in case else "-e"]),
-    (r"removes a lock: -e, which", lambda words, *_: [*words, "-e"]),
-    (r"if it fails again, a lock", lambda words, case, _: [*words, *["-e"] * ("tried" in case or case.update(tried=1) or 0)]),
-    (r"run the same command again", lambda words, *_: words),
-    (r"holds something else than [^;]*$|: use a programmer$|: power-cycle the board$", lambda *_: None),
+    (r"differ that the part doesn't have: give (\S+)", lambda words, _, found: valued(words, found[1])),
+    (r"bits ([\d, ]+) stay 1. If the part has none of them, give (\S+)\. If it has any of them, (.*)", stays),
+    (r"removes a lock: -e, which|only an erase \(-e\) removes it, which", lambda words, *_: [*words, "-e"]),
+    (r"^-U lock was given before: give it last", lambda words, *_: [*words[:2], *words[4:], *words[2:4]]),
+    (r"run the same command again$", lambda words, *_: words),
+    (r"holds something else than [^;]*$|: use a programmer$|: power-cycle the board$|is worn$|damaged$", lambda *_: None),
 ]
 
 
@@ -898,12 +957,15 @@ def followed(name, words, board=None, **case):
         it.end()
         if status == 0:
             break
+        see(f"{name}: no other format", not re.search(r":[ar](?![\w:])| -V", own[-1]), own)
+        # (what it says of a second time is followed then)
+        hint, _, later = re.split(r"(; if it (?:fails again|always fails at the same address|refuses again), |$)", own[-1], 1)
+        text = [hint, later, ""][hints.count(own[-1])] if own[-1] in hints else hint
         hints.append(own[-1])
-        see(f"{name}: no other format", not re.search(r":[ar](?![\w:])", own[-1]), own)
-        rules = [(text, act) for text, act in FOLLOWED if re.search(text, own[-1])]
-        if not see(f"{name}: the hint can be followed", rules, (words, own, told)):
+        rules = [(begin, act) for begin, act in FOLLOWED if re.search(begin, text)] if text else []
+        if not see(f"{name}: the hint can be followed, and is no circle", rules, (words, own, told, hints)):
             break
-        words = rules[0][1](words, case, re.search(rules[0][0], own[-1]))
+        words = rules[0][1](words, case, re.search(rules[0][0], text)) or None
         if words is None:
             break
     found = bytes(board["server"].flash) if "loads" in case else room.read(chip) or b""
