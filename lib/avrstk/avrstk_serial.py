@@ -348,8 +348,8 @@ def judge(words):
     )
     for it in words.updates:
         it.judge()
-        ends = (words.field("eeprom_size") or 4096) if it.operation == "r" else it.size()
-        is_far = words.is_wiring and it.memory == "eeprom" and ends > 256
+        of_loader = words.is_wiring and it.memory == "eeprom"
+        is_far = of_loader and (words.field("eeprom_size") if it.operation == "r" else it.size()) not in range(257)
         refuse((is_far, f"-U {it.given}: a bootloader reads other addresses above 255: use a programmer: {UNOPENED}"))
     if not words.has_port:
         judge_device(words.device)

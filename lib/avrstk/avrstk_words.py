@@ -249,7 +249,7 @@ class Update:
 
     def held(self, most):
         """Returns the file's first bytes. A pipe has none: they are avrstk's."""
-        if not os.path.isfile(self.file):
+        if not os.path.isfile(self.file) or not os.access(self.file, os.R_OK):
             return b""
         with open(self.file, "rb") as it:
             return it.read(most)
