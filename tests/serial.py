@@ -335,6 +335,7 @@ def refused():
     room.put("big.hex", hex_of([(32_768, b"x")]))
     room.put("257.hex", hex_of([(250, b"1234567")]))
     room.put("257.bin", bytes(257))
+    room.put("lfuse.txt", b"0xe2\n")
     room.put("long x.elf", b"\x7fELF" + b"x" * 600 + b"\n")
     (room.folder / "gone.hex").symlink_to("nowhere")
     cases = [(shlex.split(words), wanted) for words, wanted in table("refused")]
@@ -1557,7 +1558,7 @@ CASES = named(
 
 # a board that replies for a time, or a signal at a moment
 TIMED = ["words_of_avrdude", "boards_that_reset", "hints", "retries", "the_part_of_the_chip", "each_hint", "hints_over_each_memory", "hints_that_are_followed"]
-TIMED += ["progress", "signals", "devices_that_go", "names_and_interrupts", "recipe_of_a_plain_bridge", "recipe_of_ser2net"]
+TIMED += ["progress", "backups", "signals", "devices_that_go", "names_and_interrupts", "recipe_of_a_plain_bridge", "recipe_of_ser2net"]
 
 if __name__ == "__main__":
     sys.exit(run_cases({name: lambda it=it: (room.clear(), it()) for name, it in CASES.items()}, __doc__, timed=TIMED))

@@ -5,6 +5,7 @@ from avrstk_words import DATA, FUSES, UNOPENED, Update, Words, records_of
 
 import contextlib
 import os
+import pathlib
 import re
 import shlex
 from typing import Callable, List
@@ -12,10 +13,19 @@ from typing import Callable, List
 # the files, in the order of the reads. (What a bootloader refuses to read comes first)
 FILES = {it: "txt:h" for it in ["calibration", "signature", *FUSES]}
 FILES.update({"flash": "hex:i", "eeprom": "hex:i"})
+LOCKED = "the chip is locked, so flash and EEPROM can't be read: this is no backup of them"
 
 
-def path_of(folder: str, memory: str) -> str:
-    return f"{folder}/{memory}.{FILES[memory][:3]}"
+def text_of(folder: str, memory: str) -> str:
+    return pathlib.Path(folder, f"{memory}.{FILES[memory][:3]}").read_text("ascii", "replace")
+
+
+def bytes_of(folder: str, memory: str) -> List[int]:
+    """Returns the values of a file."""
+    text = text_of(folder, memory).strip()
+    is_list = re.fullmatch(r"0x[0-9a-f]{1,2}(,0x[0-9a-f]{1,2})*", text)
+    refuse((not is_list, f"{folder}/{memory}.txt has no values, as a backup has them"))
+    return [int(it, 16) for it in text.split(",")]
 
 
 def back_up(words: Words, runs: Callable[[], int]) -> int:
@@ -29,66 +39,36 @@ def back_up(words: Words, runs: Callable[[], int]) -> int:
     try:
         words.updates = [Update(f"{it}:r:{folder}/{it}.{end}") for it, end in FILES.items()]
         status = runs()
-        if not status:
-            judge_lock(folder)
-            is_whole = True
-            show(restoring(words))
-        return status
+        refuse((not status and not bytes_of(folder, "lock")[0] & 2, LOCKED))
+        is_whole = not status
     finally:
-        for it in [] if is_whole else FILES:
-            with contextlib.suppress(OSError):
-                os.unlink(path_of(folder, it))
-        if not is_whole:
-            # (a file that another program put there stays)
-            with contextlib.suppress(OSError):
-                os.rmdir(folder)
-
-
-def restoring(words: Words) -> str:
-    """Returns the command that restores a backup."""
-    given = [it for name in ("--parts", "-c", "-b", "--wait") if name in words.last for it in (name, words.last[name])]
-    given += ["-p", words.part, "-P", words.device, f"--restore={words.backup}"]
-    return " ".join(map(shlex.quote, ["avrstk-serial", *given]))
-
-
-def held(folder: str, memory: str) -> str:
-    """Returns the text of a backup's file."""
-    try:
-        with open(path_of(folder, memory), encoding="ascii") as it:
-            return it.read()
-    except (OSError, ValueError):
-        raise Fault(f"{path_of(folder, memory)} can't be read: {folder} is no whole backup")
-
-
-def bytes_of(folder: str, memory: str) -> List[int]:
-    text = held(folder, memory).strip()
-    is_list = re.fullmatch(r"0x[0-9a-f]{1,2}(,0x[0-9a-f]{1,2})*", text)
-    refuse((not is_list, f"{path_of(folder, memory)} has no values: {folder} is no whole backup"))
-    return [int(it, 16) for it in text.split(",")]
-
-
-def judge_lock(folder: str) -> None:
-    """Refuses the files of a locked chip."""
-    is_locked = not bytes_of(folder, "lock")[0] & 2
-    refuse((is_locked, "the chip is locked, so flash and EEPROM can't be read: this is no backup of them"))
+        # (a file that another program put there stays, and the folder with it)
+        with contextlib.suppress(OSError):
+            for it in [] if is_whole else os.listdir(folder):
+                if it.partition(".")[0] in FILES:
+                    os.unlink(f"{folder}/{it}")
+            is_whole or os.rmdir(folder)
+    if is_whole:
+        given = [it for name in ("--parts", "-c", "-b", "--wait") if name in words.last for it in (name, words.last[name])]
+        given += ["-p", words.part, "-P", words.device, f"--restore={folder}"]
+        show(" ".join(map(shlex.quote, ["avrstk-serial", *given])))
+    return status
 
 
 def restored(words: Words) -> List[Update]:
     """Returns the updates that write a backup, the lock last. The whole EEPROM is written, whatever an erase leaves."""
     folder, size = words.restore, words.field("eeprom_size")
-    judge_lock(folder)
     signature = "".join(f"{it:02X}" for it in bytes_of(folder, "signature"))
-    own, eeprom = words.signature(), records_of(held(folder, "eeprom").encode())
+    own, eeprom = words.signature(), records_of(text_of(folder, "eeprom").encode())
     refuse(
+        (not bytes_of(folder, "lock")[0] & 2, LOCKED),
         (own and own != signature, f"{folder} is of a chip {signature}, and {words.part} is {own}"),
-        (sorted(eeprom) != list(range(size or len(eeprom))), f"{path_of(folder, 'eeprom')} is not the whole EEPROM"),
+        (sorted(eeprom) != list(range(size or len(eeprom))), f"{folder}/eeprom.hex is not the whole EEPROM"),
     )
-    has_flash = DATA.search(held(folder, "flash").encode())
     # (if all of flash is FF, the erase restores it)
-    given = [f"flash:w:{path_of(folder, 'flash')}:i" if has_flash else "flash:w:0xFF:m"]
-    given.append(f"eeprom:w:{path_of(folder, 'eeprom')}:i")
-    given += [f"{it}:w:0x{bytes_of(folder, it)[0]:02X}:m" for it in ["efuse", "hfuse", "lfuse", "lock"]]
-    return [Update(it) for it in given]
+    flash = f"{folder}/flash.hex:i" if DATA.search(text_of(folder, "flash").encode()) else "0xFF:m"
+    values = [f"{it}:w:0x{bytes_of(folder, it)[0]:02X}:m" for it in ["efuse", "hfuse", "lfuse", "lock"]]
+    return [Update(it) for it in [f"flash:w:{flash}", f"eeprom:w:{folder}/eeprom.hex:i", *values]]
 
 
 def asking(folder: str) -> List[Update]:

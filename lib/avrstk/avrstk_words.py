@@ -66,6 +66,7 @@ class Words:
         self.last = last = dict(options)
         update, other = last.get("-U"), others[0] if others else ""
         refuse(
+            *((re.match("-.", last.get(it, "")), f"{it} has no value before {last.get(it)}") for it in ("-p", "-P", "-b")),
             (others and update in MEMORIES, f"an update is one word: give -U {':'.join([update or '', *others[:3]])}"),
             (re.match(r"[a-z]+:[rwv]:", other), f"{other} has no option before it: give -U {other}"),
             (others, f"{other} has no option before it: a file is given as -U flash:w:{other}"),
@@ -79,14 +80,12 @@ class Words:
         self.is_wiring = self.programmer.lower() == "wiring"
         self.given = [value for name, value in options if name == "-U"]
         self.updates = [Update(it) for it in self.given]
-        kept = self.is_wiring or None not in (self.backup, self.restore) or {"-U", "-e"} & set(last)
-        alone, programmer = "leave out -U and -e", "use a programmer, not a bootloader"
-        changed = self.restore is not None and first(*((it in last, it) for it in ["-D", "-V", "-n", "-F"]))
-        refuse(
-            (self.backup is not None and kept, f"--backup only reads: {alone}, and {programmer}"),
-            (self.restore is not None and kept, f"--restore writes all memories: {alone}, and {programmer}"),
-            (changed, f"--restore erases, and compares all that it writes: leave out {changed}"),
-        )
+        for name, others in [("--backup", "-U -e --restore"), ("--restore", "-U -e -D -V -n -F")]:
+            found = [it for it in others.split() if name in last and it in last]
+            refuse(
+                (found, f"{name} is for all memories, and verifies: leave out {' and '.join(found)}"),
+                (name in last and self.is_wiring, f"{name} needs a programmer, not a bootloader"),
+            )
         self.flags = [name for name, _ in options if name in FLAGS]
         self.left_out = [f"{name} {value}".rstrip() for name, value in options if name in IGNORED]
 
@@ -215,13 +214,14 @@ class Update:
         """Returns why these bytes of a file are no image; None if they are one."""
         is_elf, begins = held[:4] == b"\x7fELF", RECORD.match(held[:1024])
         is_detected = self.format in (None, "a")
+        asked = f"give its value, as {self.memory}:w:0xE2:m" if self.memory in FUSES else "name its format"
         if is_elf and (is_detected or self.format == "e"):
             return self.hand_on(held)
         return first(
             (is_elf and self.format == "r", "is ELF, not the bytes of a memory: leave out :r"),
             (self.format == "e", "is not ELF"),
             (not held or begins and self.format != "r" and not DATA.search(held), "is empty (did its build fail?)"),
-            (is_detected and not begins and is_text(held[:1024]), "is text without records: name its format"),
+            (is_detected and not begins and is_text(held[:1024]), f"is text without records: {asked}"),
         )
 
     def hand_on(self, held):
