@@ -42,12 +42,12 @@ def back_up(words: Words, runs: Callable[[], int]) -> int:
         refuse((not status and not bytes_of(folder, "lock")[0] & 2, LOCKED))
         is_whole = not status
     finally:
-        # (a file that another program put there stays, and the folder with it)
-        with contextlib.suppress(OSError):
-            for it in [] if is_whole else os.listdir(folder):
-                if it.partition(".")[0] in FILES:
+        if not is_whole:
+            # (a file that another program put there stays, and the folder with it)
+            with contextlib.suppress(OSError):
+                for it in filter(lambda it: it.partition(".")[0] in FILES, os.listdir(folder)):
                     os.unlink(f"{folder}/{it}")
-            is_whole or os.rmdir(folder)
+                os.rmdir(folder)
     if is_whole:
         given = [it for name in ("--parts", "-c", "-b", "--wait") if name in words.last for it in (name, words.last[name])]
         given += ["-p", words.part, "-P", words.device, f"--restore={folder}"]

@@ -145,10 +145,10 @@ def differs(words, found):
     lacks = bits is not None and not (wanted ^ held) & bits
     update, other = f"{memory}:{'w' if writes else 'v'}:0x{held:02X}:m", ", ".join(it.file for it in compared)
     stay = ", ".join(str(it) for it in range(8) if (held & ~wanted) >> it & 1)
-    no_lock = "a bootloader can't write the lock: use a programmer"
-    cause = no_lock if memory == "lock" else LOCKED
-    asks = f"bits {stay} stay 1. If the part has none of them, give {update}. If it has any of them, {cause}"
     is_erased = "-e" in words.flags or "flash" in given and "-D" not in words.flags
+    no_lock = "a bootloader can't write the lock: use a programmer"
+    cause = no_lock if memory == "lock" else "the chip or the programmer is damaged" if is_erased else LOCKED
+    asks = f"bits {stay} stay 1. If the part has none of them, give {update}. If it has any of them, {cause}"
     is_late = {"lock", memory} <= set(given) and given.index("lock") < given.index(memory)
     has_old = memory == "flash" and not is_erased and not held & ~wanted
     again, always = f"{SAME}; if it fails again, ", f"{SAME}; if it always fails at the same address, "
@@ -160,10 +160,9 @@ def differs(words, found):
         (not writes, f"{memory} holds something else than {other}"),
         (is_open, asks),
         (memory == "lock" and len(writes) > 1, "the lock is given twice: give one value"),
-        (memory == "lock" and wanted & ~held, f"only an erase removes a lock: -e, which takes all of {TAKES}"),
-        (memory == "lock", f"{again}{no_lock}"),
+        (memory == "lock" and wanted & ~held and not is_erased, f"only an erase removes a lock: -e, which takes all of {TAKES}"),
         (is_late, "-U lock was given before: give it last"),
-        (memory in FUSES, f"{again}{'the chip or the programmer is damaged' if is_erased else LOCKED}"),
+        (memory in FUSES, f"{again}{cause}"),
         (has_old, has_old and remains(words)),
         (compared, f"{always}{memory} holds something else than {other}"),
         (len(writes) > 1, f"{always}two images overlap: give one"),
