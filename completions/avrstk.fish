@@ -73,6 +73,7 @@ complete -c avrstk-serial -l version -d 'print the version'
 complete -c avrstk-serial -s C -r -F -d ignored
 complete -c avrstk-serial -s l -r -F -d 'file of messages'
 complete -c avrstk-serial -l backup -r -F -d 'folder for a backup'
+complete -c avrstk-serial -l restore -r -F -d 'folder of a backup'
 complete -c avrstk-serial -s p -x -a auto -d "the chip's part"
 complete -c avrstk-serve -l chip -r -F -d 'chip file'
 complete -c avrstk-serve -l idle -x -d 'idle timeout'

@@ -197,9 +197,20 @@ def refused():
             board.holds(what, image)
 
 
+def lock():
+    """This bootloader replies OK to a write of the lock, and doesn't do it."""
+    with Board() as board:
+        texts = [SIGNATURE, "lock: 1 bytes written"]
+        ended = board.run(["-D", "-V", *updates("lock:w:0xFC:m")])
+        same("the lock, not compared", ended, (0, lines(*texts, "done")))
+        status, messages = board.run(["-D", *updates("lock:w:0xFC:m")])
+        front = lines(*texts) + b"avrstk: error: lock: address 00000000: FC expected, "
+        same("the lock", (status, messages[: len(front)]), (1, front))
+
+
 CASES = named(
     *(written_and_read, another_image, lost_bytes, reset_by_the_connection),
-    *(erased_from_the_front, eeprom, refused),
+    *(erased_from_the_front, eeprom, refused, lock),
 )
 
 

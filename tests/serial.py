@@ -11,11 +11,13 @@ Not proved: No proof covers avrstk-serial, which is Python, and serial devices.
 """
 
 import array
+import ast
 import bz2
 import fcntl
 import gzip
 import io
 import itertools
+import json
 import lzma
 import os
 import pty
@@ -59,6 +61,17 @@ CALL = "avrstk -p m328p -P net:127.0.0.1:5000 -U flash:w:firmware.hex:i"
 ANYONE = {"user": 65534, "group": 65534, "extra_groups": []} if os.geteuid() == 0 else {}
 room = Room()
 boards = itertools.count()
+
+
+def elf_of(code, address=0):
+    """Returns an ELF file with one section, .text, at this address."""
+    names = b"\0.text\0.shstrtab\0"
+    begin = struct.pack("<16s2H5I6H", b"\x7fELF\1\1\1", 2, 83, 1, 0, 0, 52 + len(code + names), 0, 52, 32, 0, 40, 3, 2)
+    sections = [(0,) * 10, (1, 1, 6, address, 52, len(code), 0, 0, 1, 0), (7, 3, 0, 0, 52 + len(code), len(names), 0, 0, 1, 0)]
+    return begin + code + names + b"".join(struct.pack("<10I", *it) for it in sections)
+
+
+room.keep("small.elf", elf_of(b"\x0c\x94\x34\x00"))
 
 
 def is_open(line):
@@ -135,11 +148,11 @@ class Board:
 
 
 class Bootloader:
-    """A bootloader as docs/BOARDS describes it, on an ATmega328P. It refuses an erase and fuses. For each page that is
-    written it erases one, from address 0 on."""
+    """A bootloader as docs/BOARDS describes it, on an ATmega328P. It refuses an erase and fuses, and the lock unless it
+    `takes_lock`, which it doesn't do. For each page that is written it erases one, from address 0 on."""
 
-    def __init__(self, flash):
-        self.flash = bytearray(flash)
+    def __init__(self, flash, takes_lock=False):
+        self.flash, self.takes_lock = bytearray(flash), takes_lock
 
     def call(self):
         ours, caller = socket.socketpair()
@@ -164,6 +177,9 @@ class Bootloader:
             self.address = 2 * (int.from_bytes(body[:4], "big") & 0x7FFFFFFF)
         replies = {0x01: b"\0\x08AVRISP_2", 0x14: b"\0" + self.flash[self.address - count : self.address] + b"\0"}
         replies[0x1B] = bytes([0, (0x1E, 0x95, 0x0F)[body[3] % 3] if command == 0x1B else 0, 0])
+        replies[0x1A] = b"\0\xff\0"
+        if self.takes_lock:
+            replies[0x19] = b"\0\0"
         return bytes(replies.get(command, b"\0" if command in (0x06, 0x10, 0x11, 0x13) else b"\xc0"))
 
     def stop(self):
@@ -175,12 +191,14 @@ class Bootloader:
 def start(words, closed="", **more):
     """Starts avrstk-serial with these options, in the room. `closed` has shell redirections."""
     environment = os.environ | {"AVRSTK": str(PROGRAM)} | more.pop("env", {})
-    return room.start(words, closed=closed, program=[sys.executable, SCRIPT], env=environment, **more)
+    program = [*more.pop("by", []), sys.executable, *more.pop("front", []), SCRIPT]
+    return room.start(words, closed=closed, program=program, env=environment, **more)
 
 
-def run(words, **more):
+def run(words, begun=lambda started: None, **more):
     """Returns its status, output, the lines of avrstk, and its own lines."""
     started = start(words, **more)
+    begun(started)
     output, told = started.communicate(timeout=PATIENCE)
     own = [it[15:] for it in told.decode().splitlines() if it.startswith("avrstk-serial: ")]
     others = b"".join(it for it in told.splitlines(True) if not it.startswith(b"avrstk-serial: "))
@@ -348,6 +366,10 @@ def refused():
     room.put("note.hex", b"# a note\n" + room.read("blink.hex"))
     room.put("page.hex", b"<!DOCTYPE html>\n<p>no such firmware</p>\n")
     room.put("big.hex", hex_of([(32_768, b"x")]))
+    room.put("257.hex", hex_of([(250, b"1234567")]))
+    room.put("257.bin", bytes(257))
+    room.put("lfuse.txt", b"0xe2\n")
+    room.put("long x.elf", b"\x7fELF" + b"x" * 600 + b"\n")
     (room.folder / "gone.hex").symlink_to("nowhere")
     cases = [(shlex.split(words), wanted) for words, wanted in table("refused")]
 
@@ -556,15 +578,15 @@ def lists():
     """Tests the list of devices that -P ? prints. (tests/serve.py has --version.)"""
     here = sorted(str(it) for kind in ("ACM", "USB") for it in Path("/dev").glob(f"tty{kind}*"))
     status, output, *told = run(["-P", "?"])
-    same("-P ?", (status, [it.split()[0] for it in output.decode().splitlines()], told), (0, here or ["there"], [b"", []]))
+    same("-P ?", (status, [it.split()[0] for it in output.decode().splitlines()], told), (0, here or ["no"], [b"", []]))
 
 
 class Boards:
     """One chip behind one device, named `device` in the room: a board for each time that it is opened. Each has a pseudo
     terminal of its own, so that it sees the end of its run even if the next one opens the device at once."""
 
-    def __init__(self, *each):
-        self.chip, self.each, self.device = f"served{next(boards)}.bin", each, room.folder / f"device{next(boards)}"
+    def __init__(self, *each, chip=None):
+        self.chip, self.each, self.device = chip or f"served{next(boards)}.bin", each, room.folder / f"device{next(boards)}"
         self.over = threading.Event()
         self.renew()
         self.thread = threading.Thread(target=self.live, daemon=True)
@@ -629,7 +651,7 @@ def retries_that_are_refused():
 
     def ran(*words):
         status, _, _, own = run(["-p", "m328p", "-P", device, "--retry", "1", *words], env=fails)
-        return status, own[0].partition("may not heal this one: ")[2]
+        return status, own[0].partition("may not repair this one: ")[2]
 
     two = ["-U", "flash:w:blink.hex:i", "-U", "flash:w:late.hex:i"]
     same("--retry without avrstk_session", ran(*two), (1, "it writes a page of flash twice"))
@@ -654,6 +676,9 @@ def the_part_of_the_chip():
     same("its lines", (status, own), (0, [again, "the chip is m328p (1E 95 0F)", note]))
     see("the run's own lines alone", told.startswith(lines(SIGNATURE, "chip erased")), told)
     same("the chip", it.end(), wanted)
+    _, _, _, own, _ = over(["-p", "auto", "-U", "flash:w:gone.hex:i"], {})
+    sent = "the chip is unchanged, and may be held in reset: power-cycle the board"
+    same("what its session sent is known", own, ["the chip is m328p (1E 95 0F)", f"there is no such file; {sent}"])
     for board, hint in table("auto"):
         status, _, told, own, chip = over(words, board_of(board))
         see(hint, (status, len(own)) == (1, 1) and own[0].startswith(hint), (status, told, own))
@@ -718,11 +743,14 @@ def progress():
 
 
 def few_lines():
-    """-q twice silences the script in a run that ends well, and -l keeps all lines in a file, also over `emu:`."""
+    """-q twice leaves values that the script changes or warns of. -l keeps all lines in a file, also over `emu:`."""
     flashed()
     quiet = ["-C", "x.conf", "-q", "-q", "-p", "auto", "--retry", "1", "-U", "blink.hex", "-U", "efuse:w:5:m", "-U", "lfuse:w:0:m"]
     it = Boards({}, silent(0x13), {})
-    same("-q twice", run([*quiet, "-P", str(it.device)])[::3], (0, []))
+    status, _, _, own = run([*quiet, "-P", str(it.device)])
+    shown = ["efuse of m328p has no bits 3, 4, 5, 6, 7; given as 1: efuse:w:0xFD:m"]
+    shown.append("warning: lfuse:w:0:m selects an external clock: the chip only works while a clock drives its pin XTAL1")
+    same("-q twice", (status, own), (0, shown))
     see("the chip", it.end()[:228] == flashed()[:228])
     it = Board()
     for port in [it.device, "emu:logged.bin"]:
@@ -733,32 +761,66 @@ def few_lines():
 
 
 def backups():
-    """--backup reads six memories. Unless the chip is locked, it prints the command that restores them."""
-    old = bytes(it % 241 for it in range(700)).ljust(32_768, b"\xff") + bytes(it % 239 for it in range(1024))
-    for fuses in ["E2D1FDFF", "62D907FE", "E2D1FDFC"]:
+    """--backup reads all memories, and --restore writes and compares them, whatever the chip's EEPROM and lock are. A
+    folder of a run that fails doesn't stay."""
+    old = bytes(it % 241 for it in range(700)).ljust(32_768, b"\xff") + bytes(it % 239 for it in range(200)).ljust(1024, b"\xff")
+    told = lambda words, board: over(["-p", "m328p", *words], board)[::3]
+    for fuses, name in [("E2D1FDFF", "a backup"), ("62D907FE", "-x")]:
         room.put("old.bin", old + bytes.fromhex(fuses))
-        shutil.rmtree(room.folder / "a backup", ignore_errors=True)
-        status, output, _, own, _ = over(["-p", "m328p", "--backup", "a backup"], {"chip": "old.bin"})
-        if fuses[-2:] == "FC":
-            wanted = ["the chip is locked, so flash and EEPROM can't be read: this is no backup of them"]
-            same("a locked chip", (status, output, own), (1, b"", wanted))
-            break
-        room.put("new.bin", bytes(33_792) + b"\xe1\xd2\xfa\xfc")
-        it = Board(chip="new.bin")
-        words = [it.device if word.startswith("/dev/") else word for word in shlex.split(output.decode())]
-        same("restored", (status, words[0], run(words[1:])[0]), (0, "avrstk-serial", 0))
-        see("the chip", it.end()[:-2] == (old + bytes.fromhex(fuses))[:-2], fuses)
-    room.put("none.bin", b"\xff" * 33_796)
-    status, output, *_ = run(["-p", "m328p", "-P", "emu:none.bin", "--backup", "none"])
-    see("an erased flash", (status, b"flash:w" in output, b"-e" in output) == (0, False, True), output)
-    for it in ["a backup", "none"]:
+        status, output, _, own, _ = over(["-p", "m328p", "--wait", "0.4", "--backup", name], {"chip": "old.bin"})
+        words = shlex.split(output.decode())
+        see(f"{name}: its command", words[:5] == ["avrstk-serial", "--wait", "0.4", "-p", "m328p"], output)
+        same(f"{name}: there is none yet", told(["--backup", name], {}), (1, [f"--backup {name}: File exists: {UNOPENED}"]))
+        # (D7: the erase keeps EEPROM. This lock forbids all but an erase)
+        for chip in [b"\xe1\xd7\xfa\xfc", b"\xff" * 4]:
+            room.put("new.bin", bytes(33_792) + chip)
+            it = Boards({}, {}, chip="new.bin")
+            found = run([str(it.device) if word.startswith("/dev/") else word for word in words[1:]])
+            same(f"{name}: restored", (found[0], it.end() == old + bytes.fromhex(fuses)), (0, True))
+    room.put("old.bin", b"\xff" * 33_796)
+    for words in [["--backup", "none"], ["--restore", "none"]]:
+        same("an erased chip", run(["-p", "m328p", "-P", "emu:old.bin", *words])[0], 0)
+    loader = "a bootloader can't write fuses and the lock, or read the calibration: use a programmer"
+    written = lambda answer: see("no write", answer[5] not in (0x12, 0x13, 0x15, 0x17, 0x19)) and answer
+    refused = lambda answer: frame(answer[1], b"\x1c\xc0") if answer[5] == 0x1C else written(answer)
+    fails = [
+        ({"answer": refused}, ["--backup", "gone"], loader),
+        ({"answer": refused}, ["--restore", "a backup"], loader),
+        ({"talk": b"x"}, ["--backup", "gone", "-b", "x"], "-b x: not a speed"),
+        (silent(0x16), ["--backup", "gone"], "the programmer stopped replying"),
+        (board_of("part t85"), ["-p", "t85", "--restore", "a backup"], f"a backup is of a chip 1E950F, and t85 is 1E930B: {UNOPENED}"),
+    ]
+    it = Boards(board_of("part t85"), {"part": "t85"})
+    status, _, _, own = run(["-p", "auto", "--restore", "a backup", "-P", str(it.device)])
+    see("another chip", status == 1 and own[-1].startswith("signature holds something else than 0x1E,0x95,0x0F"), own)
+    see("another chip is as it was", set(it.end()) == {0xFF})
+    room.put("locked.bin", b"\xff" * 33_795 + b"\xfc")
+    no_backup = "the chip is locked, so flash and EEPROM can't be read: this is no backup of them"
+    fails.append(({"chip": "locked.bin"}, ["--backup", "gone"], no_backup))
+    for board, words, why in fails:
+        status, own = told(words, board)
+        see(f"{words}: {why}", status == 1 and own[-1].startswith(why) and not (room.folder / "gone").exists(), own)
+    for file, text, why in [("lock.txt", b"0xfc", no_backup), ("eeprom.hex", hex_of([(0, b"1")]), "none/eeprom.hex is not the whole EEPROM")]:
+        kept = room.read(f"none/{file}")
+        room.put(f"none/{file}", text)
+        same(why, told(["--restore", "none"], {"talk": b"x"}), (1, [f"{why}: {UNOPENED}"]))
+        room.put(f"none/{file}", kept)
+    for it in ["a backup", "none", "-x"]:
         shutil.rmtree(room.folder / it)
 
 
 def warnings():
     """Tests warnings of fuses that can make a chip unreachable, and of an image that leaves out a bootloader's
     pages."""
+    fields = "flash_size = 32768, flash_page = 128, eeprom_size = 1024, eeprom_page = 4, eesave_bit = 3"
+    mine = [f'{it} = {{ {fields}, signature = "{digits}" }}\n' for it, digits in [("m328p", "1e950F"), ("b-chip", "1E9500")]]
+    fields = fields.replace(", ", "\n")
+    mine.append(f'[parts.a-chip]\nsignature = "1E950F"\n{fields}\n')
     for part, words, wanted in table("warnings"):
+        room.put("mine.toml", ("[parts]\n" + "".join(mine)).encode())
+        room.put("h59.hex", hex_of([(0, b"\x59")]))
+        room.put("h59.srec", b"S104000059A2\nS9030000FC\n")
+        room.put("h59.bin", b"\x59")
         room.put("gap.hex", hex_of([(0, b"x"), (256, b"x")]))
         room.put("late.hex", hex_of([(0x4000, b"late")]))
         own = run(["-p", part, "-P", "emu:no.bin", *words.split()])[3]
@@ -931,6 +993,25 @@ def on_a_bootloader(words, case, *_):
     return another_file([*without(without(words, "-e"), "-D"), "-D"], case)
 
 
+def valued(words, given):
+    """Gives this value in place of the update of the same memory."""
+    return [given if it.partition(":")[0] == given.partition(":")[0] else it for it in words]
+
+
+def lock_last(words, *_):
+    """Gives the lock last."""
+    lock = next(it for it in words if it.startswith("lock:"))
+    return [*words[: words.index(lock) - 1], *words[words.index(lock) + 1 :], "-U", lock]
+
+
+def stays(words, case, found):
+    """Decides by the data sheet whether the part has one of these bits."""
+    has = {"efuse": 0x07, "lock": 0x3F}[found[2].partition(":")[0]] if "lacks" in case else 0xFF
+    if not any(has >> int(it) & 1 for it in found[1].split(",")):
+        return valued(words, found[2])
+    return [*words, "-e"] if "(-e)" in found[3] else None
+
+
 # a program for avr-gcc: sections for each memory, the data of flash at another address than in RAM
 ELF = """
     .text
@@ -1081,52 +1162,133 @@ def elf_files_with_faults():
     print(f"{count} mutants, {read} are read, the slowest in {slowest:.3f} s", flush=True)
 
 
+def mended(words, case, *_):
+    """Follows a hint to check wires, power, speed or reset: that ends the board's fault."""
+    case["board"] = {}
+    return words
+
+
+def changed(before, after):
+    """Follows a hint by putting a text into the command."""
+    return lambda words, _, found: [re.sub(before, found.expand(after), it) for it in words]
+
+
 # What a reader does after a hint: the words that he finds in it, and the next command with the files of its case. After
 # a hint without a next command the walk ends.
 FOLLOWED = [
     (r"damaged or cut short: build or download it again", another_file),
-    (r"if it is a comment, else build or download the file again", another_file),
+    (r"if it is a comment, else build or download the file again|it is not Intel HEX", another_file),
     (r"give the ELF file itself, as (\w+:w:)NAME.elf", lambda words, _, found: [*words[:3], f"{found[1]}main.elf", *words[4:]]),
-    (r"leave out -D; with a", lambda words, case, _: on_a_bootloader(words, case) if "loads" in case else without(words, "-D")),
-    (r"use -D(, and give one image .* no page)?(;.*)?$", on_a_bootloader),
+    (r"leave out -D, which erases all of flash, and EEPROM unless", lambda words, case, _: on_a_bootloader(words, case) if "loads" in case else without(words, "-D")),
+    (r": (leave out -e, and )?use -D(, and give one image .* no page)?\. If", lambda words, case, _: "loads" in case and on_a_bootloader(words, case)),
+    (r": leave out -e. If this is a programmer, it can't", lambda words, case, _: "loads" in case and without(words, "-e")),
+    (r"can't erase the chip: .*(use -D|leave out -e); nothing", on_a_bootloader),
     (r"from 0 on without gaps", another_file),
+    (r"lacks, and reads as 1: is -p right\?", lambda *_: None),
     (r"is -p right\?", lambda words, case, _: other_part(words, case["part"], "blink.hex")),
     (r"the right board\? .*; if that is so, -p (\w+), with", lambda words, case, found: other_part(words, found[1], case["made"])),
     (r": give (\S+:[ise]);", lambda words, _, found: renamed(words, found[1])),
-    (r"the operations are w \(write\)", lambda words, *_: renamed(words, "flash:w:blink.hex:i")),
-    (r"the formats are i, s, r, e, a and m to write", lambda words, *_: renamed(words, "flash:w:blink.hex:i")),
-    (r"a value is written as 0xE2", lambda words, *_: [it.replace(":E2:", ":0xE2:") for it in words]),
+    (r"the memories are flash, eeprom, lfuse", changed("^fuse", "lfuse")),
+    (r"the operations are w \(write\)|the formats are i, s, r, e, a and m to write|a file comes last, as flash:w:", changed("^flash:.*", "flash:w:blink.hex:i")),
+    (r"there is no such file|it is a symbolic link to a missing file|you may not read it|the system refuses to open it", changed("^flash:.*", "flash:w:blink.hex:i")),
+    (r"a format is one letter: give -U (\S+);", changed("^flash:.*", r"\1")),
+    (r"a value is written as 0xE2", changed(":E2:", ":0xE2:")),
     (r"has no option before it: a file is given as (-U) (\S+)$", lambda words, _, found: [*words[:-1], found[1], found[2]]),
-    (r"a value needs :m after it, as lfuse:w:0xE2:m", lambda words, *_: renamed(words, "lfuse:w:0xE2:m")),
-    (r"Does the data sheet have them\?", lambda words, case, _: [*words, "-V" if "lacks" in case else "-e"]),
-    (r"removes a lock: -e, which", lambda words, *_: [*words, "-e"]),
-    (r"if it fails again, a lock", lambda words, case, _: [*words, *["-e"] * ("tried" in case or case.update(tried=1) or 0)]),
-    (r"run the same command again", lambda words, *_: words),
-    (r"holds something else than [^;]*$|: use a programmer$|: power-cycle the board$", lambda *_: None),
+    (r"a value needs :m after it: give (\S+) if it is hexadecimal", changed("^lfuse.*", r"\1")),
+    (r"a value needs :m after it, as lfuse:w:0xE2:m", changed("^lfuse:.*", "lfuse:w:0xE2:m")),
+    (r"has 1 byte: give its value, as lfuse:w:0xE2:m", changed("^lfuse:.*", "lfuse:w:0xE2:m")),
+    (r"without the package: -p (\w+)|give -p (\w+);", changed("^(m328p-pu|mega328p)$", r"\1\2")),
+    (r"-p takes the chip's name, not the board's: (m328p) for Uno|^-p \? lists the parts", changed("^(uno|m9)$", "m328p")),
+    (r"differ that the part doesn't have: give (\S+)", lambda words, _, found: valued(words, found[1])),
+    (r"bits ([\d, ]+) stay 1. If the part has none of them, give (\S+)\. If it has any of them, (.*)", stays),
+    (r"removes a lock: -e, which|only an erase \(-e\) removes it, which", lambda words, *_: [*words, "-e"]),
+    (r"^-U lock was given before: give it last", lock_last),
+    (r"give one value$|two images overlap: give one$", lambda words, *_: words[:-2]),
+    (r"^ended by SIG|^no reply; the chip is unchanged. Check: |^the device sends data, but no valid reply", mended),
+    (r"^the programmer (finds no chip|can't reach the chip|stopped replying)|^the device is gone|^something else sends data", mended),
+    (r"only the last command got no reply. Power-cycle the board", mended),
+    (r"^check the folder and free space|^standard output is closed", changed(":(/dev/full|-):h", ":read.txt:h")),
+    (r"run the same command again$", lambda words, *_: words),
+    (r"holds something else than [^;]*$|: use a programmer$|: power-cycle the board$|is worn$|is worn, or a lock|damaged$", lambda *_: None),
+    (r"use another one$|which is not known here|is not supported: .* Use avrdude", lambda *_: None),
 ]
 
+# Runs avrstk-serial, and notes each row of its hints that is chosen: where it is, how many rows are there, and its text
+TRACED = """__doc__ = ""
+import json, os, re, runpy, sys
+sys.argv[:1], sys.path[:0] = [], [LIB]
+import avrstk_hints as hints
+def note(*row):
+    with open(os.environ["TRACE"], "a") as file:
+        file.write(json.dumps(row) + "\\n")
+def first(*rows, first=hints.first):
+    at = next((at for at, row in enumerate(rows) if row[0]), None)
+    note(sys._getframe(1).f_code.co_name, len(rows), at, str(at is not None and rows[at][1]))
+    return first(*rows)
+def matched(table, error, words, matched=hints.matched, **fields):
+    found, name = matched(table, error, words, **fields), next(it for it in vars(hints) if vars(hints)[it] is table)
+    at = next((at for at, begin in enumerate(table) if re.match(begin, error)), None)
+    note(name, len(table), at, *found or [""])
+    for at, (kind, text) in enumerate(hints.KINDS.items() if name == "REFUSALS" else []):
+        note("KINDS", len(hints.KINDS), at, text)
+    return found
+hints.first, hints.matched = first, matched
+runpy.run_path(sys.argv[0], run_name="__main__")
+""".replace("LIB", repr(str(SHARED / "avrstk")))
+# rows of hints that a walk has followed to its end
+seen = set()
 
-def followed(name, words, board=None, **case):
+
+def rows_of_hints():
+    """Returns the rows of the sources' hints as TRACED notes them, each with its line there."""
+    text, found = (SHARED / "avrstk/avrstk_hints.py").read_text(), {}
+    for it in ast.parse(text).body:
+        calls = [call for call in ast.walk(it) if isinstance(call, ast.Call) and getattr(call.func, "id", "") == "first"]
+        places = [(it.name, call.args) for call in calls if isinstance(it, ast.FunctionDef)]
+        if isinstance(it, ast.Assign) and isinstance(it.value, ast.Dict):
+            places.append((it.targets[0].id, it.value.keys))
+        for name, rows in places:
+            found.update({(name, len(rows), at): text.splitlines()[row.lineno - 1].strip() for at, row in enumerate(rows)})
+    return found
+
+
+def followed(name, words, **case):
     """Follows each hint until a run ends well, or a hint gives no command. Returns the last status, the hints and the
-    chip. No hint names a format that takes each text for bytes."""
-    hints, chip = [], f"walk{next(boards)}.bin"
+    chip. No hint names a format that takes each text for bytes, or leaves out comparisons. None comes twice, unless it
+    says what to do then."""
+    hints, chip, trace, chosen = [], f"walk{next(boards)}.bin", room.folder / f"trace{next(boards)}", set()
     if "chip" in case:
         room.put(chip, case["chip"])
+    server = case.setdefault("board", {}).get("server")
     for _ in range(6):
-        it = Board(**{"chip": chip, "part": case.get("has", "m328p"), **(board or {})})
-        status, _, told, own = run([*words, "-P", it.device])
+        board = {"chip": chip, "part": case.get("has", "m328p"), **case["board"]}
+        given = open(room.folder / "small.elf", "rb")
+        it = Boards(*board.pop("each"), chip=chip) if "each" in board else Board(**board)
+        case["board"] = {} if "each" in case["board"] else case["board"]
+        begun = case.pop("begun", lambda *_: None)
+        more = {"front": ["-c", TRACED], "stdin": given, **case.pop("more", {})}
+        more["env"] = {"TRACE": str(trace), **more.get("env", {})}
+        status, _, told, own = run([*words, "-P", str(it.device)], lambda started: begun(it, started), **more)
         it.end()
         if status == 0:
             break
+        see(f"{name}: no other format", not re.search(r":[ar](?![\w:])|(?<!with) -V", own[-1]), own)
+        rows = [json.loads(row) for row in trace.read_text().splitlines()] if trace.exists() else []
+        chosen |= {tuple(row[:3]) for row in rows if row[3] and row[3] in own[-1] and row[2] is not None}
+        # (what it says of a second time is followed then)
+        hint, _, later = re.split(r"(; if it (?:fails again|always fails at the same address|refuses again), |$)", own[-1], 1)
+        text = [hint, later, ""][hints.count(own[-1])]
         hints.append(own[-1])
-        see(f"{name}: no other format", not re.search(r":[ar](?![\w:])", own[-1]), own)
-        rules = [(text, act) for text, act in FOLLOWED if re.search(text, own[-1])]
-        if not see(f"{name}: the hint can be followed", rules, (words, own, told)):
+        rules = [(begin, act) for begin, act in FOLLOWED if re.search(begin, text)] if text else []
+        if not see(f"{name}: the hint can be followed, and is no circle", rules, (words, own, told, hints)):
             break
-        words = rules[0][1](words, case, re.search(rules[0][0], own[-1]))
+        words = rules[0][1](words, case, re.search(rules[0][0], text)) or None
         if words is None:
             break
-    found = bytes(board["server"].flash) if "loads" in case else room.read(chip) or b""
+    else:
+        see(f"{name}: it comes to an end", False, hints)
+    seen.update(chosen)
+    found = bytes(server.flash) if server else room.read(chip) or b""
     return status if words else None, hints, found
 
 
@@ -1150,8 +1312,47 @@ def without_bits(answer):
     return frame(answer[1], bytes([answer[5], 0, answer[7] | more, 0])) if more else answer
 
 
+OLD = bytes(it % 241 for it in range(32_768)) + bytes(1024) + b"\xe1\xd0"
+
+
+def kind_of(name):
+    """Returns the case of a board by its name, or as board_of has it."""
+    loads = lambda **more: {"loads": 1, "again": lambda: None, "board": {"server": Bootloader(OLD[:32_768], **more)}}
+    lacks = {"lacks": 1, "board": {"answer": without_bits}}
+    known = {
+        "served": lambda: {},
+        "written": lambda: {"chip": OLD + b"\xfa\xff"},
+        "locked": lambda: {"chip": OLD + b"\xfa\xfc"},
+        "locked, lacks bits": lambda: {"chip": OLD + b"\xfa\xfc", **lacks},
+        "lacks bits": lambda: lacks,
+        "loader": loads,
+        "mega": lambda: loads(takes_lock=True),
+        "another": lambda: {"has": "m2560", "part": "m2560", "made": "mega.hex"},
+        "no erase": lambda: {"chip": OLD + b"\xfa\xff", "board": board_of("reply 12 12C0")},
+        "worn": lambda: {"board": {"answer": lambda it: frame(it[1], it[5:7] + b"\x80" + it[8:-1]) if it[5] in (0x14, 0x16) else it}},
+        "far": lambda: {"board": {"answer": lambda it: frame(it[1], b"\x16\0" + bytes(len(it) - 8)) if it[5:8] == b"\x16\0\xee" else it}},
+        "full": lambda: {"more": {"closed": ">&-"}},
+        "a bare root": lambda: {"more": {"by": ["setpriv", "--bounding-set=-dac_override,-dac_read_search"] if ANYONE else []}},
+    }
+    kind, _, when = name.partition(" ")
+    if kind == "signal":
+        reached = threading.Event()
+        held = lambda answer: reached.set() or b"" if when == f"{answer[5]:02X}" else answer
+        halts = {} if when != "early" else stand_in("open('told', 'w')\ntime.sleep(60)\n")
+
+        def begun(_, started):
+            wait_until((room.folder / "told").exists if halts else reached.is_set)
+            started.send_signal(signal.SIGINT)
+
+        return {"board": {"answer": held}, "begun": begun, "more": {"env": halts}}
+    if name in known:
+        return known[name]()
+    each = [board_of(it.strip()) for it in name.split(",")]
+    return {"board": {"each": [*each, {}]} if len(each) > 1 else each[0]}
+
+
 def hints_over_each_memory():
-    """Following the hints, for six memories and seven kinds of boards, gives the wanted bytes or a failure."""
+    """Following the hints, for six memories and nine kinds of boards, gives the wanted bytes or a failure."""
     image = flashed()[:228]
     room.put("mine.toml", (TOP / "parts/classic.toml").read_bytes())
     room.put("mega.hex", hex_of([(0, bytes(300))]))
@@ -1167,21 +1368,12 @@ def hints_over_each_memory():
         "lock:w:0x3F:m": (-1, b"\x3f", 0x3F),
         "lock:w:0x2C:m": (-1, b"\x2c", 0x3F),
     }
-    old = bytes(it % 241 for it in range(32_768)) + bytes(1024) + b"\xe1\xd0"
-    kinds = {
-        "served": lambda: {},
-        "written": lambda: {"chip": old + b"\xfa\xff"},
-        "locked": lambda: {"chip": old + b"\xfa\xfc"},
-        "locked, without bits": lambda: {"chip": old + b"\xfa\xfc", "lacks": 1, "board": {"answer": without_bits}},
-        "without bits": lambda: {"lacks": 1, "board": {"answer": without_bits}},
-        "a bootloader": lambda: {"loads": 1, "again": lambda: None, "board": {"server": Bootloader(old[:32_768])}},
-        "another board": lambda: {"has": "m2560", "made": "mega.hex"},
-    }
+    kinds = ["served", "written", "locked", "locked, lacks bits", "lacks bits", "loader", "mega", "another", "no erase", "worn"]
 
     def right(case):
         update, kind, words = case
         place, wanted, bits = updates[update]
-        more = kinds[kind]()
+        more = kind_of(kind)
         status, hints, chip = followed(f"{case}", ["-p", "m328p", "-U", update, *words], **more)
         if "made" in more and place >= 0:
             place, wanted = (0, bytes(300)) if place == 0 else (262_144, wanted)
@@ -1194,6 +1386,55 @@ def hints_over_each_memory():
     cases = sampled("hints over each memory", 30, cases)
     for it, (is_right, found) in zip(cases, side_by_side(right, cases)):
         see(f"{it}: the chip", is_right, found)
+
+
+def each_hint():
+    """Each row of avrstk_hints is in a walk that ends with the wanted bytes, or with a hint that has no command."""
+    firmware, good = flashed(), room.read("blink.hex")
+    fields = "flash_size = 32768, flash_page = 128, eeprom_size = 1024, eeprom_page = 4, eesave_bit = 3"
+    mine = "".join(f'{it} = {{ signature = "1E950F", {fields} }}\n' for it in ["m328p", "'c-chip'"])
+    files = {
+        "mine.toml": f"[parts]\n{mine}".encode(),
+        "cut.hex": good[:-25],
+        "both.hex": good[: good.index(b":00000001FF")] + hex_of([(0x810000, b"123")]),
+        "big.hex": hex_of([(32_768, bytes(300))]),
+        "elf.hex": room.read("small.elf"),
+        "comment.hex": b"; made by x\n" + good,
+        "page.hex": b"<!DOCTYPE html>\n<p>no such firmware</p>\n",
+        "late.hex": hex_of([(0x1000, b"late")]),
+        "other.hex": hex_of([(0x1000, b"\xfe\xdc\xba\x98")]),
+        "closed.hex": good,
+        "main.elf": elf_of(b"123", 0x810000),
+        "efuse.hex": hex_of([(0, b"\5")]),
+        "mega.hex": hex_of([(0, bytes(300))]),
+        "long.bin": bytes(256) + b"\xee" * 100,
+    }
+    for name, held in files.items():
+        room.put(name, held)
+    (room.folder / "gone.hex").symlink_to("nowhere")
+    (room.folder / "closed.hex").chmod(0)
+    with socket.socket(socket.AF_UNIX) as it:
+        it.bind(str(room.folder / "socket"))
+    held = {"blink": firmware[:228], "elf": b"\x0c\x94\x34\x00"}
+    places = {"flash": 0, "eeprom": 32_768, "lfuse": -4, "hfuse": -3, "efuse": -2, "lock": -1}
+
+    def ran(row):
+        name, words, wanted, _ = row
+        words = words.split() if " -p " in f" {words}" else ["-p", "m328p", *words.split()]
+        case = kind_of(name)
+        again = {"again": lambda: [room.put(it, good) for it in ("cut.hex", "comment.hex", "page.hex") if f"flash:w:{it}" in words]}
+        status, hints, chip = followed(" | ".join(row[:2]), words, **case, **{} if "again" in case else again)
+        memory, _, what = wanted.partition(" ")
+        what = held[what] if what in held else bytes.fromhex(what) if what else b""
+        at = places.get(memory, 0)
+        return status, hints, chip[at:][: len(what)] == what
+
+    cases = sampled("walks by hints", 25, table("walks"))
+    for row, (status, hints, is_right) in zip(cases, side_by_side(ran, cases)):
+        see(f"{row[:2]}: its end", hints and (hints[-1].startswith(row[3]) if row[3] else status == 0), (status, hints))
+        see(f"{row[:2]}: the chip", is_right, hints)
+    for it, line in rows_of_hints().items() if cases == table("walks") else []:
+        see(f"a walk follows {it}: {line}", it in seen)
 
 
 def hints_that_are_followed():
@@ -1227,11 +1468,6 @@ def hints_that_are_followed():
     follows("hex.srec", flash("hex.srec"), file="hex.srec", text=good)
     big = lambda chip: b"\xff" * 32_768 + image + b"\xff" * (len(chip) - 32_768 - len(image))
     follows("big.hex", flash("big.hex"), big, "big.hex", hex_of([(32_768, image)]), part="m2560", has="m2560")
-    fused = lambda chip: chip[:-4] + b"\xe2" + chip[-3:]
-    follows("a value", ["-p", "m328p", "-U", "lfuse:w:0xE2"], fused)
-    follows("no number", ["-p", "m328p", "-U", "lfuse:w:E2:m"], fused)
-    for text in ["flash:write:blink.hex:i", "flash:w:blink.hex:I"]:
-        follows(text, ["-p", "m328p", "-U", text])
     follows("a file alone", ["-p", "m328p", "blink.hex"])
     for memory in ["flash:v:blink.hex", "eeprom:v:0x01:m", "lfuse:v:0xE2:m", "lock:v:0x00:m"]:
         follows(memory, ["-p", "m328p", "-U", memory], lambda chip: old + b"\xff" * 1028, chip=old + b"\xff" * 1028)
@@ -1533,16 +1769,16 @@ def recipe_of_ser2net():
 CASES = named(
     *(words_of_avrdude, reads, boards_that_reset, parts, refused, no_firmware, devices, what_is_missing),
     *(ports_of_avrstk, speeds_that_a_device_has_not, lines_of_a_board, bits_that_do_not_exist, lists, retries),
-    *(retries_that_are_refused, the_part_of_the_chip, hints, elf_files, elf_files_with_faults, hints_over_each_memory, hints_that_are_followed),
-    *(progress, few_lines, backups, warnings, images_that_are_read_once, over_a_bootloader, files_of_one_command),
-    *(signals, cut_lines, closed_streams),
+    *(retries_that_are_refused, the_part_of_the_chip, hints, elf_files, elf_files_with_faults, each_hint, hints_over_each_memory),
+    *(hints_that_are_followed, progress, few_lines, backups, warnings, images_that_are_read_once, over_a_bootloader),
+    *(files_of_one_command, signals, cut_lines, closed_streams),
     *(messages_that_nobody_reads, one_run_at_a_time, settings_that_are_kept, devices_that_go, strangers),
     *(names_and_interrupts, recipe_of_the_script, recipe_of_a_plain_bridge, recipe_of_ser2net),
 )
 
 # a board that replies for a time, or a signal at a moment
-TIMED = ["words_of_avrdude", "boards_that_reset", "hints", "retries", "the_part_of_the_chip", "hints_over_each_memory", "hints_that_are_followed"]
-TIMED += ["progress", "signals", "devices_that_go", "names_and_interrupts", "recipe_of_a_plain_bridge", "recipe_of_ser2net"]
+TIMED = ["words_of_avrdude", "boards_that_reset", "hints", "retries", "the_part_of_the_chip", "each_hint", "hints_over_each_memory", "hints_that_are_followed"]
+TIMED += ["progress", "backups", "signals", "devices_that_go", "names_and_interrupts", "recipe_of_a_plain_bridge", "recipe_of_ser2net"]
 
 if __name__ == "__main__":
     sys.exit(run_cases({name: lambda it=it: (room.clear(), it()) for name, it in CASES.items()}, __doc__, timed=TIMED))

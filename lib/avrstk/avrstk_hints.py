@@ -17,7 +17,10 @@ SAME = "run the same command again"
 ONE_IMAGE = "give one image that begins at 0 and leaves out no page"
 POWER_CYCLE = "power-cycle the board"
 UNCHANGED = "the chip is unchanged"
-LACKED = "that the part doesn't have, so the value is right: -V leaves out the comparison"
+TAKES = "flash, and EEPROM unless the fuse bit EESAVE is 0"
+LOCKED = f"a lock protects it: only an erase (-e) removes it, which takes all of {TAKES}"
+ANOTHER = "If this is a programmer, it can't erase: use another one"
+LOADER = "a bootloader can't erase the chip"
 STAYS = f"everything reported above was done. The chip stays in programming mode: {POWER_CYCLE}"
 
 
@@ -43,7 +46,7 @@ def hint(run, number):
     return first(
         (number, number and f"ended by {signal.Signals(number).name}: {state}"),
         (CHANGING & run.earlier and not CHANGING & run.commands, state),
-        (not run.was_opened, "; ".join([*matched(REFUSALS, error, words), UNOPENED])),
+        (not run.was_opened, "; ".join([*matched(REFUSALS, error, words), state if run.earlier else UNOPENED])),
         (run.silenced, f"{silenced}. Check {others}"),
         (error == "no answer" and run.left_at_error, done),
         (is_silent, f"no reply; {UNCHANGED}. Check: {speed}; that no serial monitor has the port open; {others}"),
@@ -71,6 +74,7 @@ def no_part(words, _):
     return first(
         (reason, f"{name} is not supported: {reason}. Use avrdude"),
         (package != name and package in parts(), f"without the package: -p {package}"),
+        (f"at{package}" in parts(), f"give -p at{package}"),
         (re.match("uno|nano|mega|leonardo|micro", name), chips),
         (True, f"-p ? lists the parts{auto}; others need a part file (--parts)"),
     )
@@ -80,17 +84,20 @@ def unread(words, found):
     """Returns what to do with an image that avrstk refuses. (No other format makes a text firmware.)"""
     name, line, fault, address = found.groups()
     update = next((it for it in words.updates if name in (it.file, it.memory, *it.text.split(":"))), None)
-    if not update or not address and (fault != "no record mark" or line != "1"):
+    held, is_at_begin = update.held(65_536) if update else b"", fault == "no record mark" and line == "1"
+    is_elf = held[:4] == b"\x7fELF" and not address
+    if not update or not (address or is_at_begin or is_elf):
         return "the file is damaged or cut short: build or download it again" if update else "is -p right?"
-    own, held = f"{update.memory}:{update.operation}", update.held(65_536)
+    own = f"{update.memory}:{update.operation}"
     size = words.field(f"{update.memory}_size") if update.memory in ("flash", "eeprom") else 1
     room = f"has {size:,} byte{'s'[:size > 1]}" if size else "is smaller"
     other = {b":": "i", b"S": "s", b"\x7f": "e"}.get(held[:1], update.format)
     above = "something is above its first record: delete it if it is a comment, else build or download the file again"
+    goes_on = f"{update.file} goes past it: " if update.elf else ""
     return first(
         (int(address or "0", 16) >= 0x810000, f"it has several memories: give the ELF file itself, as {own}:NAME.elf"),
-        (address and update.format == "m" and update.memory in FUSES, f"{update.memory} has 1 byte: give one value"),
-        (address, f"{update.memory} of {words.part} {room}; is -p right?"),
+        (address and update.memory in FUSES, f"{update.memory} has 1 byte: give its value, as {own}:0xE2:m"),
+        (address, f"{update.memory} of {words.part} {room}; {goes_on}is -p right?"),
         (other != update.format, f"it has {FORMATS.get(other)}: give {own}:{update.file}:{other}"),
         (re.search(rb"^" + RECORD.pattern, held, re.M), above),
         (True, f"it is not {FORMATS.get(update.format)}"),
@@ -101,9 +108,12 @@ def unopened(words, found):
     """Returns why a file can't be opened."""
     file, front = found[1], found[1].rpartition(":")[0]
     own = next((it for it in words.updates if it.file == file), None)
-    is_value = own and own.operation == "w" and re.fullmatch(r"(0[xb])?[0-9A-Fa-f, \t]+", file)
-    without = own and f"{own.memory}:{own.operation}:{front}"
+    is_value = own and own.operation in "wv" and re.fullmatch(r"(0[xb])?[0-9A-Fa-f, \t]+", file)
+    update = own and f"{own.memory}:{own.operation}"
+    base = f"{update}:0x{file}:m if it is hexadecimal, {update}:{file}:m if it is decimal"
+    without = own and f"{update}:{front}"
     return first(
+        (is_value and re.fullmatch("[1-9][0-9]", file), f"a value needs :m after it: give {base}"),
         (is_value, "a value needs :m after it, as lfuse:w:0xE2:m"),
         (own and os.path.isfile(front), f"a format is one letter: give -U {without}"),
         (not os.path.lexists(file), "there is no such file"),
@@ -129,31 +139,53 @@ def differs(words, found):
     """Returns the hint after a failed comparison."""
     memory, (address, wanted, held) = found[1], (int(it, 16) for it in found.groups()[1:])
     compared, writes = ([it for it in words.updates if it.memory == memory and it.operation == op] for op in "vw")
-    bits = words.bits().get(memory)
-    locked = "a lock protects it: only an erase (-e) removes it, with flash and EEPROM"
+    bits, given = words.bits().get(memory), [it.memory for it in words.updates if it.operation == "w"]
     # (a bit that a part doesn't have reads 1)
     is_open = bits is None and memory in ("efuse", "lock") and not wanted & ~held
+    lacks = bits is not None and not (wanted ^ held) & bits
+    update, other = f"{memory}:{'w' if writes else 'v'}:0x{held:02X}:m", ", ".join(it.file for it in compared)
     stay = ", ".join(str(it) for it in range(8) if (held & ~wanted) >> it & 1)
-    asks = f"bits {stay} stay 1. Does the data sheet have them? If not, the value is right: add -V. If so, {locked}"
-    always, other = f"{SAME}; if it always fails at the same address, ", ", ".join(it.file for it in compared)
-    # (without an erase, zeros remain)
-    remains = memory == "flash" and "-D" in words.flags and "-e" not in words.flags and not held & ~wanted
-    bootloader = "a page is worn" if remains and words.is_whole() else f"{ONE_IMAGE}, since it erases pages from 0 on"
-    old = f"old bytes remain without an erase. With a programmer leave out -D; with a bootloader {bootloader}"
-    is_far = memory == "eeprom" and words.is_wiring and address > 0xFF
+    is_erased = "-e" in words.flags or "flash" in given and "-D" not in words.flags
+    no_lock = "a bootloader can't write the lock: use a programmer"
+    cause = no_lock if memory == "lock" else "the chip or the programmer is damaged" if is_erased else LOCKED
+    asks = f"bits {stay} stay 1. If the part has none of them, give {update}. If it has any of them, {cause}"
+    is_late = {"lock", memory} <= set(given) and given.index("lock") < given.index(memory)
+    has_old = memory == "flash" and not is_erased and not held & ~wanted
+    again, always = f"{SAME}; if it fails again, ", f"{SAME}; if it always fails at the same address, "
+    worn = "a page is worn" if is_erased else f"a page is worn, or {LOCKED}"
+    far = "a bootloader reads other addresses above 255 (use a programmer), " if address > 0xFF else ""
     return first(
+        (lacks and not ~(wanted | bits) & 0xFF, "bits read 0 that this part lacks, and reads as 1: is -p right?"),
+        (lacks, f"only bits differ that the part doesn't have: give {update}"),
         (not writes, f"{memory} holds something else than {other}"),
-        (bits is not None and not (wanted ^ held) & bits, f"only bits differ {LACKED}"),
         (is_open, asks),
-        (memory == "lock" and wanted & ~held, "only an erase removes a lock: -e, which erases flash and EEPROM too"),
-        (memory == "lock", SAME),
-        (memory in FUSES, f"{SAME}; if it fails again, {locked}"),
-        (is_far, "the bootloader reads only the first 256 bytes of EEPROM: use a programmer"),
-        (remains, old),
+        (memory == "lock" and len(writes) > 1, "the lock is given twice: give one value"),
+        (memory == "lock" and wanted & ~held and not is_erased, f"only an erase removes a lock: -e, which takes all of {TAKES}"),
+        (is_late, "-U lock was given before: give it last"),
+        (memory in FUSES, f"{again}{cause}"),
+        (has_old, has_old and remains(words)),
         (compared, f"{always}{memory} holds something else than {other}"),
         (len(writes) > 1, f"{always}two images overlap: give one"),
-        (memory == "eeprom", f"{always}a page is worn, or a lock protects it"),
-        (True, f"{always}a page is worn, or -U lock was given before: give it last"),
+        (True, f"{always}{far if memory == 'eeprom' else ''}{worn}"),
+    )
+
+
+def remains(words):
+    """Returns the hint after flash that kept zeros of before, since nothing erased it."""
+    bootloader = "a page is worn" if words.is_whole() else f"{ONE_IMAGE}, since it erases pages from 0 on"
+    programmer = f"With a programmer leave out -D, which erases all of {TAKES}"
+    return f"old bytes remain without an erase. {programmer}; with a bootloader {bootloader}"
+
+
+def unerased(words, _):
+    """Returns what to do if an erase is refused."""
+    given = {it.memory for it in words.updates if it.operation == "w"}
+    without = "leave out -e, and " if "-e" in words.flags else ""
+    image = "" if words.is_whole() else f", and {ONE_IMAGE}"
+    return first(
+        (not given or given & set(FUSES), f"{LOADER}, or write fuses and the lock: use a programmer"),
+        ("flash" in given, f"{LOADER}: {without}use -D{image}. {ANOTHER}"),
+        (True, f"{LOADER}: leave out -e. {ANOTHER}"),
     )
 
 
@@ -179,15 +211,13 @@ REFUSALS = {
 REPLIED = {
     r"(\w+): address (\w+): (\w+) expected, (\w+) found": differs,
     r"signature is (\w\w \w\w \w\w)": another_part,
-    "command 12 ": lambda words, _: "a bootloader can't erase the chip: {}use -D{}".format(
-        "leave out -e, and " if "-e" in words.flags else "", "" if words.is_whole() else f", and {ONE_IMAGE}"
-    ),
+    "command 12 ": unerased,
     "command 10 ": "the programmer can't reach the chip, which is unchanged: check wires, power, clock and reset pin",
-    "command (17|1C) ": "a bootloader can't write fuses or read the calibration: use a programmer",
+    "command (17|19|1C) ": "a bootloader can't write fuses and the lock, or read the calibration: use a programmer",
     "no answer$": "the programmer stopped replying: check the cable and the power; {state}",
     "no answer in|.*bad answer$": "something else sends data (the board's application), or {speed} is wrong; {state}",
     "link ": "the device is gone: check the cable; {state}",
-    "command ": "the programmer refused the command: {state}",
+    "command ": "the programmer refused the command: {state}; if it refuses again, use another one",
     "-: cannot be (created|written)$": f"standard output is closed or full; {STAYS}",
     ".*: cannot be (created|written)$": f"check the folder and free space; {STAYS}",
 }

@@ -2,8 +2,9 @@
 
 from avrstk_common import HELP, READ, WRITE, Fault, Frames, Way, asked, came, data_file, ended_by, first, heed_signals
 from avrstk_common import is_frame, messages, parts, ready, refuse, run, say, session_program, show, version, wait
+from avrstk_backup import asking, back_up, restored
 from avrstk_hints import LEAVE, NO_CHIP, NO_SIGNATURES, ONE_IMAGE, SIGN_ON, hint, state_of
-from avrstk_words import DATA, FORMATS, FUSES, UNOPENED, Words, long_name, parts_of
+from avrstk_words import FORMATS, FUSES, UNOPENED, Words, long_name, parts_of
 
 import contextlib
 import copy
@@ -12,7 +13,6 @@ import fcntl
 import glob
 import os
 import re
-import shlex
 import socket
 import stat
 import struct
@@ -36,13 +36,15 @@ REFUSED = {
 # AVRDUDE's names of programmers with this protocol on a serial device, and of others that users often ask for
 SPEAKING = ["avrispv2", "stk500", "stk500v2", "wiring"]
 PROGRAMMERS = {
-    "arduino": "the bootloader of Uno and Nano (and Arduino as ISP), which speaks STK500 version 1",
+    "arduino": "the bootloader of Uno and Nano, which speaks STK500 version 1",
+    "stk500v1": "STK500 version 1, as Arduino as ISP speaks it",
     **dict.fromkeys(["usbasp", "usbtiny"], "a programmer with a protocol of its own over USB, without a serial device"),
     "avrispmkii": "a programmer on USB without a serial device, whose commands have no frames",
 }
 
 # the serial devices of USB that are here
-DEVICES, NONE_HERE = sorted(glob.glob("/dev/ttyACM*") + glob.glob("/dev/ttyUSB*")), "there is none here now"
+DEVICES = sorted(glob.glob("/dev/ttyACM*") + glob.glob("/dev/ttyUSB*"))
+NONE_HERE = "no serial device of USB is here now"
 
 # Linux's tcgets2 and tcsets2. Their 44 bytes: four words of flags, a byte, 19 control characters, two speeds
 TCGETS2, TCSETS2, BOTHER = 0x802C542A, 0x402C542B, 0x1000
@@ -52,12 +54,26 @@ ONE_WRITE = "a bootloader erases pages from 0 on, so one command writes flash on
 # the commands that carry the bytes of a memory
 CARRYING = {0x13: "writing flash", 0x14: "reading flash", 0x15: "writing eeprom", 0x16: "reading eeprom"}
 
-# the fuse bit that turns the reset pin off, by parts' long names; others have none
-RESET_PINS = {
-    r"atmega(165|169|325|329|645|649)": ("efuse", 0x01),
-    r"at90usb162$|atmega(8|16|32)u2$": ("hfuse", 0x40),
-    r"attiny|at90pwm|atmega(88|168|328|32m1|64m1)": ("hfuse", 0x80),
-}
+# fuses that keep an ISP programmer from the chip, by parts' long names: what a value does, its memory, its bits and
+# how these read then (by the parts' data sheets and the headers of avr-libc)
+GONE = "no ISP programmer reaches the chip then"
+EXTERNAL = "selects an external clock: the chip only works while a clock drives its pin XTAL1"
+SLOW = "selects a clock of 128 kHz or less, which is too slow for most programmers: they don't reach the chip then"
+RESET = f"turns the reset pin off (RSTDISBL): {GONE}"
+DEBUG = "turns debugWIRE on (DWEN): no ISP programmer reaches the chip after its next power-up"
+RISKS = [
+    ("", (f"turns SPIEN off: {GONE}", "hfuse", 0x20, 0x20)),
+    ("(?!attiny88)", (EXTERNAL, "lfuse", 0x0F, 0)),
+    ("attiny88", (EXTERNAL, "lfuse", 0x03, 0)),
+    ("attiny88", (SLOW, "lfuse", 0x03, 3)),
+    ("attiny([248][45]|1634)", (SLOW, "lfuse", 0x0F, 4)),
+    ("atmega(88|168|328|640|128[01]|256[01])|attiny43u", (SLOW, "lfuse", 0x0F, 3)),
+    ("atmega(165|169|325|329|645|649)", (RESET, "efuse", 0x01, 0)),
+    ("at90usb162|atmega(8|16|32)u2", (RESET, "hfuse", 0x40, 0)),
+    ("at90usb162|atmega(8|16|32)u2", (DEBUG, "hfuse", 0x80, 0)),
+    ("attiny|at90pwm|atmega(88|168|328|32m1|64m1)", (RESET, "hfuse", 0x80, 0)),
+    ("attiny|at90pwm|atmega(88|168|328|32m1|64m1)", (DEBUG, "hfuse", 0x40, 0)),
+]
 
 
 def list_devices():
@@ -75,8 +91,8 @@ def list_parts():
     show("\n".join(rows))
 
 
-def unhealed(words):
-    """Returns why a second run may not heal the chip; None if it does. (docs/TROUBLESHOOTING has the conditions.)"""
+def unrepaired(words):
+    """Returns why a second run may not repair the chip; None if it does. (docs/TROUBLESHOOTING has the conditions.)"""
     written = set()
     for it in words.updates:
         writes, pages, unwritten = it.operation == "w", [], f"it compares {it.memory}, which it didn't write before"
@@ -337,6 +353,9 @@ def judge(words):
     )
     for it in words.updates:
         it.judge(words.content(it.file) if it.is_image and not os.path.isdir(it.file) else None)
+        of_loader = words.is_wiring and it.memory == "eeprom"
+        is_far = of_loader and (words.field("eeprom_size") if it.operation == "r" else it.size()) not in range(257)
+        refuse((is_far, f"-U {it.given}: a bootloader reads other addresses above 255: use a programmer: {UNOPENED}"))
     if not words.has_port:
         judge_device(words.device)
     if words.is_wiring:
@@ -349,8 +368,8 @@ def judge(words):
         (not is_number, f"--retry {words.retry}: not a number from 0 to 99"),
         (not words.has_port and not os.path.exists("/proc/net"), "there is no /proc: who calls can't be told then"),
     )
-    why = is_retried and ("avrstk's own ports are run once" if words.has_port else unhealed(words))
-    refuse((why, f"--retry: the same command again may not heal this one: {why}"))
+    why = is_retried and ("avrstk's own ports are run once" if words.has_port else unrepaired(words))
+    refuse((why, f"--retry: the same command again may not repair this one: {why}"))
 
 
 def judge_files(words: Words) -> None:
@@ -423,24 +442,18 @@ def judge_part(words: Words, end: str) -> None:
 
 
 def warn(words):
-    """Warns of fuses that can make the chip unreachable."""
-    name, gone = long_name(words.part), "no ISP programmer reaches the chip then"
-    reset = next((it for names, it in RESET_PINS.items() if re.match(names, name)), (None, 0))
-    risks = {
-        "selects an external clock: the chip only works while a clock drives its pin XTAL1": ("lfuse", 0x0F, 0),
-        f"turns SPIEN off: {gone}": ("hfuse", 0x20, 0x20),
-        f"turns the reset pin off (RSTDISBL): {gone}": (*reset, 0),
-    }
-    writes = [it for it in words.updates if it.operation == "w" and it.value() is not None and words.parts_file is None]
-    for what, (memory, mask, risky) in risks.items():
-        found = [it.given for it in writes if it.memory == memory and it.value() & mask == risky]
+    """Warns of fuses that can make the chip unreachable, even if -q is given twice."""
+    name, writes = words.chip(), [it for it in words.updates if it.operation == "w"]
+    values = [(it, it.value()) for it in writes if it.memory in FUSES and it.value() is not None]
+    for what, memory, mask, risky in [row for names, row in RISKS if name and re.match(names, name)]:
+        found = [it.given for it, value in values if it.memory == memory and value & mask == risky]
         if found:
-            words.note(f"warning: {' and '.join(found)} {what}")
+            say(f"warning: {' and '.join(found)} {what}")
 
 
-def ran(words, put=messages.put):
-    """Makes a run, and gives the command again after faults that a second run heals. Returns the last run."""
-    earlier, count = frozenset(), int(words.retry)
+def ran(words, put=messages.put, earlier=frozenset()):
+    """Makes a run, and gives the command again after faults that a second run repairs. Returns the last run."""
+    count = int(words.retry)
     for number in range(1, count + 2):
         run = Run(words, earlier, put)
         try:
@@ -453,8 +466,8 @@ def ran(words, put=messages.put):
         finally:
             run.end()
         earlier |= run.commands
-        heals = re.match(r"no answer$|link |\w+: address \w+: \w+ expected, \w+ found$", run.error)
-        if number > count or ended_by() or not run.status or not heals:
+        repairs = re.match(r"no answer$|link |\w+: address \w+: \w+ expected, \w+ found$", run.error)
+        if number > count or ended_by() or not run.status or not repairs:
             return run
         words.note(f"{run.error}: the same command again, {number} of {count}")
         wait_for(words.device)
@@ -469,19 +482,24 @@ def wait_for(device):
         time.sleep(0.1)
 
 
+def ask(words, **given):
+    """Runs a session before the run. It writes nothing, and prints nothing if all goes well. Returns its commands and
+    its lines."""
+    session, lines = copy.copy(words), []
+    vars(session).update(given)
+    run = ran(session, lines.append)
+    if run.status:
+        messages.put(b"".join(lines))
+        refuse((not words.has_port, not words.has_port and hint(run, ended_by())))
+    return run.status, run.commands, b"".join(lines)
+
+
 def detect(words):
-    """Takes the part of the chip's signature for -p auto. The session writes nothing."""
+    """Takes the part of the chip's signature for -p auto. Returns the commands that were sent."""
     why = "-p auto is for a device, and looks in the part file that comes with avrstk (without --parts)"
     refuse((words.has_port or words.parts_file is not None, why))
-    session = copy.copy(words)
-    session.part, session.flags, session.updates = "m328p", ["-F", "-n"], []
-    lines = []
-    run = ran(session, lines.append)
-    found = re.search(rb"^avrstk: device signature = ((?:\w\w ?){3})$", b"".join(lines), re.M)
-    if run.status or not found:
-        messages.put(b"".join(lines))
-        raise Fault(hint(run, ended_by()))
-    signature = found[1].decode()
+    _, sent, lines = ask(words, part="m328p", flags=["-F", "-n"], updates=[])
+    signature = re.search(r"^avrstk: device signature = ((?:\w\w ?){3})$", lines.decode(), re.M)[1]
     names = parts_of(signature)
     has = f"the chip has the signature {signature}, which"
     why = first(
@@ -492,26 +510,19 @@ def detect(words):
     refuse((why, f"-p auto: {why}; nothing was written"))
     words.note(f"the chip is {names[0]} ({signature})")
     words.part = names[0]
+    return sent
 
 
-def restoring(words):
-    """Returns the command that restores a backup."""
-    values = {it: asked("cat", f"{words.backup}/{it}.txt") for it in FUSES}
-    is_locked = not int(values["lock"], 16) & 2
-    refuse((is_locked, "the chip is locked, so flash and EEPROM can't be read: this is no backup of them"))
-    given = [it for name in ("--parts", "-b") if name in words.last for it in (name, words.last[name])]
-    # (if all of a memory is FF, the erase restores it)
-    images = [f"{it.memory}:w:{it.file}:i" for it in words.updates[:2] if DATA.search(it.held(1 << 26))]
-    images += [f"{it}:w:{values[it]}:m" for it in ["efuse", "hfuse", "lfuse", "lock"]]
-    given += ["-p", words.part, "-P", words.device, "-e", *(word for it in images for word in ("-U", it))]
-    return " ".join(map(shlex.quote, ["avrstk-serial", *given]))
 
 
 def prepare(words):
     """Judges the command line, makes the log and the folder that it names, and prints what is understood otherwise."""
+    if words.restore is not None:
+        try:
+            words.updates, words.flags = restored(words), [*words.flags, "-e"]
+        except Fault as fault:
+            raise Fault(f"{fault}: {UNOPENED}")
     judge_files(words)
-    if words.backup is not None:
-        os.mkdir(words.backup)
     judge(words)
     if "-l" in words.last:
         messages.log = open(words.last["-l"], "wb", 0)
@@ -525,20 +536,30 @@ def prepare(words):
 def serve(words):
     prepare(words)
     heed_signals()
+    return back_up(words, lambda: execute(words)) if words.backup is not None else execute(words)
+
+
+def execute(words):
+    """Makes the run, after sessions that only ask. Prints what it changes or warns of even if -q is given twice."""
+    status, sent = 0, frozenset()
     if words.part == "auto":
-        detect(words)
+        sent = detect(words)
         judge_part(words, "nothing was written")
-    bits = words.bits()
+    if words.restore is not None:
+        status, asked_for, _ = ask(words, flags=[], updates=asking(words.restore))
+        sent |= asked_for
+    if status:
+        return status
+    # (a backup has the bits as they were read)
+    bits = words.bits() if words.parts_file is None and words.restore is None else {}
     for it in words.updates:
         lacks = it.mask(bits)
         if lacks:
-            words.note(f"{it.memory} of {words.part} has {lacks}")
+            say(f"{it.memory} of {words.part} has {lacks}")
     warn(words)
-    run = ran(words)
+    run = ran(words, earlier=sent)
     is_hinted = run.status and not words.has_port
     refuse((is_hinted, is_hinted and hint(run, ended_by())))
-    if words.backup is not None and not run.status:
-        show(restoring(words))
     return run.status
 
 

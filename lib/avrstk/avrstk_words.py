@@ -1,6 +1,6 @@
 """The command line of avrstk-serial: its options, and its updates, which are judged before the device is opened."""
 
-from avrstk_common import READ, Fault, data_file, first, part_words, parts, program, ready, refuse, say
+from avrstk_common import BUILT_IN, READ, Fault, data_file, first, part_words, parts, program, ready, refuse, say
 from avrstk_common import session_program
 from avrstk_elf import AREAS, SIGNATURE, hex_rows, sections_of
 
@@ -38,7 +38,7 @@ PACKED = {
 
 # options of AVRDUDE and of avrstk
 SHORT = "p:c:P:U:b:C:l:B:E:i:x:T:Y:OtysueDVnFAqvh?"
-LONG = ["parts=", "serve=", "chip=", "wait=", "retry=", "backup=", "version", "help"]
+LONG = ["parts=", "serve=", "chip=", "wait=", "retry=", "backup=", "restore=", "version", "help"]
 
 IGNORED = {"-C", "-s", "-u"}
 
@@ -76,23 +76,26 @@ class Words:
         self.last = last = dict(options)
         update, other = last.get("-U"), others[0] if others else ""
         refuse(
+            *((re.match("-.", last.get(it, "")), f"{it} has no value before {last.get(it)}") for it in ("-p", "-P", "-b")),
             (others and update in MEMORIES, f"an update is one word: give -U {':'.join([update or '', *others[:3]])}"),
             (re.match(r"[a-z]+:[rwv]:", other), f"{other} has no option before it: give -U {other}"),
             (others, f"{other} has no option before it: a file is given as -U flash:w:{other}"),
         )
         self.part, self.device, self.parts_file = last.get("-p"), last.get("-P"), last.get("--parts")
         self.programmer, self.baud = last.get("-c", "stk500v2"), last.get("-b", "115200")
-        self.wait, self.retry, self.backup = last.get("--wait", "0.3"), last.get("--retry", "0"), last.get("--backup")
+        self.wait, self.retry = last.get("--wait", "0.3"), last.get("--retry", "0")
+        self.backup, self.restore = last.get("--backup"), last.get("--restore")
         # avrstk's own ports need no device
         self.has_port = bool(re.match(r"stdio:|emu:|net:", self.device or ""))
         self.is_wiring = self.programmer.lower() == "wiring"
         self.given = [value for name, value in options if name == "-U"]
         self.updates = [Update(it) for it in self.given]
-        if self.backup is not None:
-            why = "--backup only reads: leave out -U and -e, and use a programmer, not a bootloader"
-            refuse((self.updates or "-e" in last or self.is_wiring, why))
-            ends = {it: "txt:h" if it in FUSES else "hex:i" for it in MEMORIES[:6]}
-            self.updates = [Update(f"{it}:r:{self.backup}/{it}.{end}") for it, end in ends.items()]
+        for name, others in [("--backup", "-U -e --restore"), ("--restore", "-U -e -D -V -n -F")]:
+            found = [it for it in others.split() if name in last and it in last]
+            refuse(
+                (found, f"{name} is for all memories, and verifies: leave out {' and '.join(found)}"),
+                (name in last and self.is_wiring, f"{name} needs a programmer, not a bootloader"),
+            )
         self.flags, self.contents = [name for name, _ in options if name in FLAGS], {}
         self.left_out = [f"{name} {value}".rstrip() for name, value in options if name in IGNORED]
 
@@ -124,6 +127,25 @@ class Words:
         if self.flags.count("-q") < 2:
             say(text)
 
+    def chip(self):
+        """Returns the long name of the part; with a part file of one's own, that of a part here with its signature."""
+        if self.parts_file is None:
+            return long_name(self.part)
+        names = parts_of(self.signature()) or [self.part] * (self.part in BUILT_IN)
+        return long_name((names or [""])[0])
+
+    def signature(self):
+        """Returns the digits of the part's signature, as far as they are known here."""
+        if self.parts_file is None:
+            return parts().get((self.part or "").lower(), {}).get("signature", "")
+        if not os.path.isfile(self.parts_file):
+            return ""
+        part = rf'(?:\bparts\.)?"?{re.escape(self.part or "")}"?'
+        entry = rf'^\s*(?:\[{part}\]|{part}\s*=)[^\[}}]*?\bsignature\s*=\s*["\'](\w{{6}})["\']'
+        with open(self.parts_file, encoding="utf-8", errors="replace") as it:
+            found = re.search(entry, it.read(65_536), re.M)
+        return found[1].upper() if found else ""
+
     def field(self, name):
         """Returns a number of the part, such as flash_size; None if it is not known here."""
         known = {} if self.parts_file is not None else parts().get((self.part or "").lower(), {})
@@ -131,8 +153,8 @@ class Words:
 
     def bits(self):
         """Returns the bits of each fuse and of the lock that the part has; none if it is not known here."""
-        name = long_name(self.part)
-        known = (masks for names, masks in rows_of("bits.txt") if name in names.split() and self.parts_file is None)
+        name = self.chip()
+        known = (masks for names, masks in rows_of("bits.txt") if name in names.split())
         return {it: int(mask, 16) for it, mask in zip(FUSES, next(known, "").split()) if mask != "-"}
 
     def plan(self):
@@ -176,10 +198,23 @@ class Update:
         if self.named:
             self.format, self.text = self.named, f"{self.memory}:{self.operation}:{self.file}:{self.named}"
 
+    def image(self):
+        """Returns the bytes of an image file by their addresses, as far as its first 64 kB have them."""
+        held = self.held(65_536) if self.is_image and not self.elf else b""
+        if self.format in ("i", "s") or self.format != "r" and RECORD.match(held):
+            return records_of(held)
+        return {at + it: byte for at, held in self.elf or [(0, held)] for it, byte in enumerate(held)}
+
+    def size(self):
+        """Returns where an image ends."""
+        values = re.findall(r"[^ \t,]+", self.file) if self.format == "m" else self.image()
+        return len(values) if self.format == "m" else max(values, default=-1) + 1
+
     def value(self):
-        """Returns the byte of an update of one byte with format m or of an ELF file, else None."""
-        if self.elf:
-            return self.elf[0][1][0] if self.memory in FUSES else None
+        """Returns the byte of an update of one byte, also from a file, else None."""
+        if self.is_image:
+            held = self.image() if self.memory in FUSES else {}
+            return held[0] if [*held] == [0] else None
         digits = re.fullmatch(r"[ \t,]*(?:0x([0-9A-F]+)|0b([01]+)|0([0-7]+)|([0-9]+))[ \t,]*", self.file, re.I | re.A)
         if self.format != "m" or not digits:
             return None
@@ -216,6 +251,7 @@ class Update:
         is_elf, begins = held[:4] == b"\x7fELF", RECORD.match(held[:1024])
         is_detected, front = self.format in (None, "a"), held[:1024]
         self.front = bytes(held[:65_536])
+        asked = f"give its value, as {self.memory}:w:0xE2:m" if self.memory in FUSES else "name its format"
         if is_elf and (is_detected or self.format == "e"):
             return self.fault_of_elf(held)
         packed = next((name for name, begin in PACKED.items() if re.match(begin, front)), None)
@@ -225,7 +261,7 @@ class Update:
             (is_detected and packed, f"is {packed}, not firmware"),
             (self.format == "e", "is not ELF"),
             (is_detected and self.file.lower().endswith(OF_ELF), "is not ELF, as its name says"),
-            (is_detected and not begins and is_text(front), "is text without records: name its format"),
+            (is_detected and not begins and is_text(front), f"is text without records: {asked}"),
         )
 
     def fault_of_elf(self, held: bytes) -> Optional[str]:
@@ -266,7 +302,7 @@ class Update:
 
     def held(self, most):
         """Returns the first bytes of an image, or of a file that a memory was read into."""
-        if self.is_image or not os.path.isfile(self.file):
+        if self.is_image or not os.path.isfile(self.file) or not os.access(self.file, os.R_OK):
             return self.front[:most]
         with open(self.file, "rb") as it:
             return it.read(most)
@@ -316,3 +352,16 @@ def is_text(held):
         return controls * 20 <= len(held)
     except UnicodeDecodeError:
         return not controls and len(re.findall(rb"[\t\n\f\r -~]", held)) * 2 > len(held)
+
+
+def records_of(held):
+    """Returns the bytes of Intel HEX or S-records by their addresses."""
+    found, base = {}, 0
+    for mark, digits in re.findall(rb"^[ \t]*(:|S[123])((?:[0-9A-Fa-f]{2})+)", held, re.M):
+        row, size = bytes.fromhex(digits.decode()), 2 if mark == b":" else int(mark[1:]) + 1
+        place = int.from_bytes(row[1 : 1 + size], "big")
+        if mark == b":" and row[3:4] in (b"\2", b"\4"):
+            base = int.from_bytes(row[4:6], "big") << (16 if row[3] == 4 else 4)
+        elif mark != b":" or row[3:4] == b"\0":
+            found.update((base + place + it, byte) for it, byte in enumerate(row[size + 1 + (mark == b":") : -1]))
+    return found
