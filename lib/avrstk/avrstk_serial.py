@@ -1,8 +1,9 @@
 """avrstk-serial: the command line, and runs of avrstk with a programmer on a serial device."""
 
-from avrstk_common import HELP, READ, WRITE, Fault, Frames, Way, asked, came, ended_by, first, heed_signals
+from avrstk_common import BUILT_IN, HELP, READ, WRITE, Fault, Frames, Way, asked, came, ended_by, first, heed_signals
 from avrstk_common import is_frame, messages, parts, ready, refuse, run, say, show, version, wait
 from avrstk_hints import LEAVE, NO_CHIP, NO_SIGNATURES, ONE_IMAGE, SIGN_ON, hint, state_of
+from avrstk_version1 import SPEEDS, Bridge
 from avrstk_words import DATA, FORMATS, FUSES, UNOPENED, Words, long_name, parts_of
 
 import contextlib
@@ -13,6 +14,7 @@ import glob
 import os
 import re
 import shlex
+import shutil
 import socket
 import stat
 import struct
@@ -33,9 +35,8 @@ REFUSED = {
 }
 
 # AVRDUDE's names of programmers with this protocol on a serial device, and of others that users often ask for
-SPEAKING = ["avrispv2", "stk500", "stk500v2", "wiring"]
+SPEAKING = ["avrispv2", "stk500", "stk500v2", "wiring", *SPEEDS]
 PROGRAMMERS = {
-    "arduino": "the bootloader of Uno and Nano (and Arduino as ISP), which speaks STK500 version 1",
     **dict.fromkeys(["usbasp", "usbtiny"], "a programmer with a protocol of its own over USB, without a serial device"),
     "avrispmkii": "a programmer on USB without a serial device, whose commands have no frames",
 }
@@ -123,7 +124,7 @@ def judge_device(device):
 class Device:
     """The serial device, opened for this run alone. At the end it gets its old settings back."""
 
-    def __init__(self, name, baud, is_wiring):
+    def __init__(self, name, baud, is_bootloader):
         self.file, self.old, act = None, None, "opened"
         try:
             self.file = os.open(name, os.O_RDWR | os.O_NOCTTY | os.O_NONBLOCK)
@@ -132,19 +133,23 @@ class Device:
             act = f"set to {baud} baud"
             self.old = fcntl.ioctl(self, TCGETS2, bytes(44))
             fcntl.ioctl(self, termios.TIOCEXCL)
-            fcntl.ioctl(self, TCSETS2, settings(self.old, baud))
-            (speed,) = struct.unpack_from("=I", fcntl.ioctl(self, TCGETS2, bytes(44)), 40)
-            if abs(speed - baud) * 20 > baud:
-                raise OSError(errno.EINVAL, f"it takes {speed}")
-            if is_wiring:
+            self.set_speed(baud)
+            if is_bootloader:
                 self.pulse()
         except OSError as fault:
             self.close()
             is_taken = fault.errno in (errno.EBUSY, errno.EWOULDBLOCK)
             raise Fault(f"{name}: cannot be {act}: {'another program has it' if is_taken else fault.strerror}")
 
+    def set_speed(self, baud: int) -> None:
+        """Sets the speed; raises OSError if the device takes another one instead."""
+        fcntl.ioctl(self, TCSETS2, settings(self.old, baud))
+        (speed,) = struct.unpack_from("=I", fcntl.ioctl(self, TCGETS2, bytes(44)), 40)
+        if abs(speed - baud) * 20 > baud:
+            raise OSError(errno.EINVAL, f"it takes {speed}")
+
     def pulse(self):
-        """Resets a board of -c wiring, as AVRDUDE does: releases DTR and RTS, and asserts them again."""
+        """Resets a board with a bootloader, as AVRDUDE does: releases DTR and RTS, and asserts them again."""
         for request in (termios.TIOCMBIC, termios.TIOCMBIS):
             # (a device may not have these lines)
             with contextlib.suppress(OSError):
@@ -261,10 +266,13 @@ class Run:
         self.files = [line]
         line.setsockopt(socket.IPPROTO_TCP, socket.TCP_NODELAY, 1)
         line.setblocking(False)
-        device = Device(self.words.device, int(self.words.baud), self.words.is_wiring)
-        self.files, self.was_opened = [line, device], True
-        there, back = self.ways = Way(line, device, self.note_commands), Way(device, line, self.note_replies)
-        ends = time.monotonic() + float(self.words.wait)
+        wait, words = float(self.words.wait), self.words
+        device = Device(words.device, words.speeds[0], words.is_bootloader)
+        self.device = Bridge(device, words.speeds, words.is_bootloader, wait) if words.is_version1 else device
+        end = self.device
+        self.files, self.was_opened = [line, end], True
+        there, back = self.ways = Way(line, end, self.note_commands), Way(end, line, self.note_replies)
+        ends = time.monotonic() + wait
         while ready({line: READ, came: READ}, ends) == {line} and not there.has_ended:
             there.take()
         there.held = there.held[-7:]
@@ -273,12 +281,19 @@ class Run:
 
     def note_commands(self, piece):
         for it in filter(is_frame, self.frames.pieces(piece)):
+            # (the Mega's bootloader ends with its reply to LEAVE. If the reply was lost, it has to start once more)
+            if self.words.is_wiring and it[5] == LEAVE and LEAVE in self.commands:
+                self.device.pulse()
+                time.sleep(float(self.words.wait))
             self.commands.add(it[5])
             self.progress.frame(it[5:-1])
         return piece
 
     def note_replies(self, piece):
-        """Notes whether the device sends bytes after ten seconds, but sent no valid reply."""
+        """Notes at which speed the device replies, and whether it sends bytes after ten seconds, but no valid reply."""
+        if self.words.is_version1 and len(self.words.speeds) > 1 and self.device.programmer.speed:
+            self.words.speeds = (self.device.programmer.speed,)
+            self.words.note(f"the device replies at {self.words.baud} baud")
         self.silenced |= bool(piece) and time.monotonic() > self.talks_until and self.commands <= {SIGN_ON, LEAVE}
         return piece
 
@@ -319,17 +334,44 @@ class Run:
             messages.put(self.kept + b"\n")
 
 
+def other_program():
+    """Returns the program that AVRSTK_ELSE names, or None. A link to this script, such as one named avrdude, is none."""
+    name, own = os.environ.get("AVRSTK_ELSE", ""), os.path.realpath(sys.argv[0])
+    folders = [""] if "/" in name else os.environ.get("PATH", os.defpath).split(os.pathsep)
+    places = [os.path.join(it, name) for it in folders if name]
+    return next((it for it in places if shutil.which(it) and os.path.realpath(it) != own), None)
+
+
+def leave_to_other(words):
+    """Runs the program that AVRSTK_ELSE names with the same options, if programmer, port or part are not avrstk's."""
+    known = BUILT_IN | set(parts()) | {"auto", "?", ""}
+    why = first(
+        (words.programmer.lower() not in SPEAKING, f"-c {words.programmer}: another programmer"),
+        (re.match(r"usb(:|$)", words.device or ""), f"-P {words.device}: no serial device"),
+        (words.parts_file is None and (words.part or "").lower() not in known, f"-p {words.part}: another part"),
+    )
+    other = why and other_program()
+    # (it doesn't know the script's own options)
+    if other and not any(it.startswith("--") for it in words.last):
+        say(f"{why}: {other} runs in place of avrstk")
+        messages.finish()
+        os.execve(other, [other, *sys.argv[1:]], {it: os.environ[it] for it in os.environ if it != "AVRSTK_ELSE"})
+
+
 def judge(words):
     """Refuses what can be refused without avrstk."""
+    leave_to_other(words)
     name, wait = words.programmer.lower(), re.fullmatch(r"[0-9]+(\.[0-9]+)?", words.wait)
-    what = f" is {PROGRAMMERS[name]}" if name in PROGRAMMERS else ": this speaks STK500v2 only"
-    is_speed = re.fullmatch(r"[0-9]{1,9}", words.baud) and int(words.baud)
+    what = f" is {PROGRAMMERS[name]}" if name in PROGRAMMERS else ": this speaks STK500 only"
     refuse(
         (name not in SPEAKING, f"-c {words.programmer}{what}: use avrdude -c {words.programmer}"),
         *((it in REFUSED, REFUSED.get(it)) for it in words.last),
-        (not is_speed, f"-b {words.baud}: not a speed"),
+        (not words.speeds, f"-b {words.last.get('-b')}: not a speed"),
         (not wait or float(words.wait) > 3, f"--wait {words.wait}: not a number of seconds from 0 to 3"),
+        (words.is_version1 and words.has_port, f"-c {words.programmer} is for a serial device, not -P {words.device}"),
     )
+    if words.is_version1 and words.is_bootloader:
+        judge_for_bootloader(words)
     for it in words.updates:
         it.judge()
     if not words.has_port:
@@ -344,8 +386,22 @@ def judge(words):
     refuse((why, f"--retry: the same command again may not heal this one: {why}"))
 
 
+def judge_for_bootloader(words):
+    """Refuses what a bootloader of version 1 can't do. Most return OK all the same, or write flash in place of EEPROM."""
+    own = next((it for it in words.updates if it.memory not in ("flash", "signature")), None)
+    writes = any(it.memory == "flash" and it.operation == "w" for it in words.updates)
+    erases, is_dry = "a bootloader can't erase the chip, but erases each page that it writes", "-n" in words.flags
+    refuse(
+        ("-e" in words.flags and not is_dry, f"-e: {erases}: leave it out, and give -D"),
+        (writes and "-D" not in words.flags and not is_dry, f"give -D, too: {erases}"),
+        (own, own and f"-U {own.given}: this bootloader has flash alone: use a programmer for {own.memory}"),
+    )
+
+
 def warn(words):
     """Warns of fuses that can make the chip unreachable, and of an image for a bootloader that leaves out pages."""
+    if words.is_version1:
+        words.note("version 1 has no checksums: this run is tested, not proved")
     name, gone = long_name(words.part), "no ISP programmer reaches the chip then"
     reset = next((it for names, it in RESET_PINS.items() if re.match(names, name)), (None, 0))
     risks = {
@@ -405,7 +461,7 @@ def detect(words):
     if run.status or not found:
         messages.put(b"".join(lines))
         raise Fault(hint(run, ended_by()))
-    signature = found[1].decode()
+    words.speeds, signature = session.speeds, found[1].decode()
     names = parts_of(signature)
     has = f"the chip has the signature {signature}, which"
     why = first(

@@ -1,6 +1,7 @@
 """The command line of avrstk-serial: its options, and its updates, which are judged before the device is opened."""
 
 from avrstk_common import Fault, data_file, first, part_words, parts, program, refuse, say, session_program
+from avrstk_version1 import SPEEDS
 
 import contextlib
 import getopt
@@ -71,11 +72,17 @@ class Words:
             (others, f"{other} has no option before it: a file is given as -U flash:w:{other}"),
         )
         self.part, self.device, self.parts_file = last.get("-p"), last.get("-P"), last.get("--parts")
-        self.programmer, self.baud = last.get("-c", "stk500v2"), last.get("-b", "115200")
+        self.programmer, baud = last.get("-c", "stk500v2"), last.get("-b")
         self.wait, self.retry, self.backup = last.get("--wait", "0.3"), last.get("--retry", "0"), last.get("--backup")
         # avrstk's own ports need no device
         self.has_port = bool(re.match(r"stdio:|emu:|net:", self.device or ""))
         self.is_wiring = self.programmer.lower() == "wiring"
+        self.is_version1 = self.programmer.lower() in SPEEDS
+        # whether the chip's own bootloader is meant, which a reset starts
+        self.is_bootloader = self.programmer.lower() in ("arduino", "wiring")
+        # the speeds to try, in turn; none if -b is no speed
+        known = SPEEDS.get(self.programmer.lower(), (115_200,))
+        self.speeds = known if baud is None else (int(baud),) if re.fullmatch(r"0*[1-9][0-9]{0,8}", baud) else ()
         self.given = [value for name, value in options if name == "-U"]
         self.updates = [Update(it) for it in self.given]
         if self.backup is not None:
@@ -85,6 +92,10 @@ class Words:
             self.updates = [Update(f"{it}:r:{self.backup}/{it}.{end}") for it, end in ends.items()]
         self.flags = [name for name, _ in options if name in FLAGS]
         self.left_out = [f"{name} {value}".rstrip() for name, value in options if name in IGNORED]
+
+    @property
+    def baud(self) -> str:
+        return " or ".join(map(str, self.speeds))
 
     def command(self, port):
         return [program(), *["--unproved"] * self.unproved, *self.options(port)]
