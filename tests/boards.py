@@ -28,10 +28,11 @@ import time
 from functools import lru_cache
 from pathlib import Path
 
-from cases import PATIENCE, leave_out, named, run_cases, same, sampled, see
+import serial
+from cases import PATIENCE, leave_out, named, put_program, run_cases, same, sampled, see
+from line import frames_of
 from program import PROGRAM, TOP, Room, frame, lines
 from records import hex_of
-from serial import speed, terminal
 
 sys.path[:0] = [str(TOP / "lib/avrstk")]
 from avrstk_common import Frames, is_frame  # noqa: E402
@@ -367,7 +368,7 @@ class Terminal:
 
     def __init__(self, kind, flash):
         self.kind, self.board, self.wants_reset = kind, Board(kind, flash), False
-        self.line, self.device = terminal()
+        self.line, self.device = serial.terminal()
         os.set_blocking(self.line, False)
         signal.signal(signal.SIGUSR1, lambda *_: setattr(self, "wants_reset", True))
         self.ends = threading.Event()
@@ -375,7 +376,7 @@ class Terminal:
         self.thread.start()
 
     def change(self, held):
-        return held if speed(self.line)[0] == KINDS[self.kind][1] else bytes(it ^ 0xA5 for it in held)
+        return held if serial.speed(self.line)[0] == KINDS[self.kind][1] else bytes(it ^ 0xA5 for it in held)
 
     def live(self):
         was_open, begun = False, time.monotonic() - self.board.time
@@ -429,20 +430,16 @@ def typed():
     """The options that Arduino IDE and PlatformIO give AVRDUDE flash these boards, over a terminal, in real time."""
     image = random.Random(5).randbytes(700)
     room.put("image.hex", hex_of([(0, image)]))
-    text = STAND_IN.format(lib=str(TOP / "lib/avrstk"), script=str(TOP / "avrstk-serial"), pid=os.getpid())
-    room.put("stand-in.py", text.encode())
     cases = TYPED | {"Arduino IDE, burn bootloader": ("ArduinoISP", FUSES_TYPED)}
     for what, (kind, words) in cases.items():
         if kind == "ArduinoISP" and not SKETCH:
             continue
         at = Terminal(kind, random.Random(9).randbytes(FLASH))
-        command = [sys.executable, "stand-in.py"]
-        with room.start(words.format(at.device).split(), program=command, env=os.environ | {"AVRSTK": str(PROGRAM)}) as it:
-            _, told = it.communicate(timeout=PATIENCE)
+        status, told = run_script(words.format(at.device).split())
         board = at.end()
-        same(f"{what}: status", (it.returncode, told.decode().splitlines()[-1:]), (0, ["avrstk: done"]))
+        same(f"{what}: status", (status, told.splitlines()[-1:]), (0, ["avrstk: done"]))
         note = "avrstk-serial: version 1 has no checksums: this run is tested, not proved"
-        same(f"{what}: is not called proved", told.decode().splitlines().count(note), 1)
+        same(f"{what}: is not called proved", told.splitlines().count(note), 1)
         if words == FUSES_TYPED:
             same(f"{what}: fuses and lock", board.rest()[1], b"\xff\xde\xfd\xff")
             same(f"{what}: flash", board.flash(), b"\xff" * FLASH)
@@ -450,7 +447,73 @@ def typed():
             same(f"{what}: the image", board.flash()[:700], image)
 
 
-CASES = named(clean, refused, each_byte, lossy, damaged_erases, lost_end, typed)
+class Leaving(serial.Bootloader):
+    """A bootloader of version 2 that has ended once it got LEAVE. Its reply is lost. A reset by DTR starts it again."""
+
+    def __init__(self, flash):
+        super().__init__(flash)
+        self.has_left, self.count = False, 0
+        signal.signal(signal.SIGUSR1, lambda *_: setattr(self, "has_left", False))
+
+    def live(self, caller):
+        self.address = self.erased = 0
+        with caller:
+            for it in frames_of(caller):
+                self.count += it[5] == 0x11
+                if not self.has_left and self.count != 1:
+                    caller.sendall(frame(it[1], it[5:6] + self.reply(it[5], it[6:-1])))
+                self.has_left |= it[5] == 0x11
+
+
+def lost_end_of_wiring():
+    """With -c wiring a lost reply to LEAVE doesn't fail a run whose image is there: a reset starts the bootloader again."""
+    board = Leaving(b"\xff" * FLASH)
+    at = serial.Board(server=board)
+    room.put("image.hex", hex_of([(0, bytes(256))]))
+    words = ["-p", "m328p", "-c", "wiring", "-D", "-U", "flash:w:image.hex", "-P", at.device]
+    status, told = run_script(words)
+    at.end()
+    same("a lost end over -c wiring", (status, told.splitlines()[-1]), (0, "avrstk: done"))
+    same("LEAVE was repeated, and the image is there", (board.count, board.flash[:256]), (2, bytes(256)))
+
+
+def run_script(words):
+    """Runs avrstk-serial with SIGUSR1 to this process in place of DTR. Returns its status and messages."""
+    text = STAND_IN.format(lib=str(TOP / "lib/avrstk"), script=str(TOP / "avrstk-serial"), pid=os.getpid())
+    room.put("stand-in.py", text.encode())
+    command = [sys.executable, "stand-in.py"]
+    with room.start(words, program=command, env=os.environ | {"AVRSTK": str(PROGRAM)}) as it:
+        _, told = it.communicate(timeout=PATIENCE)
+    return it.returncode, told.decode()
+
+
+def leaves_to_another():
+    """With AVRSTK_ELSE another program gets the options for a programmer, port or part that isn't avrstk's, and only
+    those. A link to avrstk-serial with its name is passed over."""
+    folder = room.folder / "else"
+    folder.mkdir()
+    put_program(room.folder / "else/avrdude", "#!/bin/sh\necho \"other: $*\"\n")
+    (room.folder / "avrdude").symlink_to(TOP / "avrstk-serial")
+    environment = {"AVRSTK": str(PROGRAM), "AVRSTK_ELSE": "avrdude", "PATH": f"{room.folder}:{folder}:{os.environ['PATH']}"}
+    cases = {
+        "-c usbasp -p m328p -U lfuse:r:-:h": True,
+        "-p m328p -P usb": True,
+        "-p m8 -P /dev/ttyUSB0": True,
+        "-p m328p -P /dev/nosuch": False,
+        "-c usbasp -p m328p --wait 1": False,
+        "-p m8 --parts parts.toml -P /dev/nosuch": False,
+    }
+    for words, is_left in cases.items():
+        how = {"env": os.environ | environment, "program": [sys.executable, room.folder / "avrdude"]}
+        with room.start(words.split(), **how) as it:
+            output, told = it.communicate(timeout=PATIENCE)
+        same(f"{words}: another program runs", output.decode(), f"other: {words}\n" if is_left else "")
+        see(f"{words}: a line says so", (b"runs in place of avrstk" in told) == is_left, told)
+    (room.folder / "avrdude").unlink()
+    shutil.rmtree(folder)
+
+
+CASES = named(clean, refused, each_byte, lossy, damaged_erases, lost_end, typed, lost_end_of_wiring, leaves_to_another)
 
 
 def main():
