@@ -69,7 +69,7 @@ _avrstk_value() {
     local device
     case $1 in
         -p) _avrstk_parts ;;
-        -c) _avrstk_behind "" "stk500v2$([ "$script" = avrstk ] || echo " wiring avrispv2 stk500")" ;;
+        -c) _avrstk_behind "" "stk500v2$([ "$script" = avrstk ] || echo " wiring avrispv2 stk500 arduino arduino_as_isp stk500v1 avrisp")" ;;
         -P)
             for device in /dev/ttyACM* /dev/ttyUSB* /dev/serial/by-id/*; do
                 [[ $script != avrstk-serial || ! -e $device || $device != "$value"* ]] || echo "$device"

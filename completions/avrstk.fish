@@ -65,7 +65,7 @@ complete -c avrstk -s c -x -a stk500v2 -d programmer
 complete -c avrstk -s P -x -a '(__avrstk_ports)' -d port
 complete -c avrstk -l serve -x -d 'serve at a port'
 complete -c avrstk -l chip -r -F -d 'chip file'
-complete -c avrstk-serial -s c -x -a 'stk500v2 wiring avrispv2 stk500' -d programmer
+complete -c avrstk-serial -s c -x -a 'stk500v2 wiring avrispv2 stk500 arduino arduino_as_isp stk500v1 avrisp' -d programmer
 complete -c avrstk-serial -s P -x -a '(__avrstk_ports (path filter -- /dev/ttyACM* /dev/ttyUSB* /dev/serial/by-id/*))' -d port
 complete -c avrstk-serial -l wait -x -d 'time for a reset'
 complete -c avrstk-serial -l retry -x -d 'runs after a failure that another run heals'

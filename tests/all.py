@@ -45,7 +45,7 @@ LIBRARY = ("from_c",)
 SHORT = ("runs", "lines", "made_frames", "manual")
 # scripts that ./test runs with the unproved program; the longest first, the longest of all in two halves
 HALVES = tuple(f"{name} {half}" for name in ("serve", "recipes", "serial") for half in ("1/2", "2/2"))
-QUICK = (*HALVES, "bad_lines", "avrdude", "chips", "drawn_runs", "why", "hostile", "parts", *SHORT)
+QUICK = (*HALVES, "boards", "bad_lines", "avrdude", "chips", "drawn_runs", "why", "hostile", "parts", *SHORT)
 # those that --all runs with both programs: two compilers made what these compare byte for byte
 BOTH = ("runs", "lines")
 # counts of bench/run.py

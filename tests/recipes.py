@@ -186,14 +186,17 @@ def in_place_of_avrdude(clone):
 
 
 def jobs(clone):
-    """Runs the steps with avrstk of docs/EMULATOR's recipes for GitLab and GitHub, and the one for pytest."""
+    """Runs the steps with avrstk of docs/EMULATOR's recipes for GitLab and GitHub, and those for pytest."""
     clone.types(["./install.sh ~/.local"])
     text = (TOP / "docs/EMULATOR.md").read_text().split("### Recipes for jobs")[1]
     gitlab, github, fixture = [textwrap.dedent(it) for it in re.findall(r"(?:^(?:    (?!\$ ).*)?\n)+", text, re.M) if it.strip()]
     steps = re.findall("^ +- (avrstk.*)", gitlab, re.M), re.findall("^ +(avrstk.*)", github, re.M)
     shutil.copy(clone.top / "examples/blink.hex", clone.folder / "firmware.hex")
     (clone.folder / "test_flash.py").write_text(fixture)
-    (typed,) = re.findall(r"run by `([^`]*)`", text)
+    typed, double = re.findall(r"run by `([^`]*)`", text)
+    if shutil.which("pytest"):
+        printed = clone.types([double])
+        see("the tests with a double pass", "3 passed" in printed, printed)
     for name, commands in [("gitlab", steps[0]), ("github", steps[1]), ("pytest", [typed])]:
         see(f"{name} has steps", len(commands) > (name != "pytest"), commands)
         if not has_avrdude() or name == "pytest" and not shutil.which("pytest"):

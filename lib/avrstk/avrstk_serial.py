@@ -1,9 +1,11 @@
 """avrstk-serial: the command line, and runs of avrstk with a programmer on a serial device."""
 
-from avrstk_common import HELP, READ, WRITE, Fault, Frames, Way, asked, came, data_file, ended_by, first, heed_signals
-from avrstk_common import is_frame, messages, parts, ready, refuse, run, say, session_program, show, version, wait
+from avrstk_common import BUILT_IN, HELP, READ, WRITE, Fault, Frames, Way, asked, came, data_file, ended_by, first
+from avrstk_common import heed_signals, is_frame, messages, parts, ready, refuse, run, say, session_program, show, version
+from avrstk_common import wait
 from avrstk_backup import asking, back_up, restored
 from avrstk_hints import LEAVE, NO_CHIP, NO_SIGNATURES, ONE_IMAGE, SIGN_ON, hint, state_of
+from avrstk_version1 import SPEEDS, Bridge
 from avrstk_words import FORMATS, FUSES, UNOPENED, Words, long_name, parts_of
 
 import contextlib
@@ -13,6 +15,8 @@ import fcntl
 import glob
 import os
 import re
+import shlex
+import shutil
 import socket
 import stat
 import struct
@@ -34,10 +38,8 @@ REFUSED = {
 }
 
 # AVRDUDE's names of programmers with this protocol on a serial device, and of others that users often ask for
-SPEAKING = ["avrispv2", "stk500", "stk500v2", "wiring"]
+SPEAKING = ["avrispv2", "stk500", "stk500v2", "wiring", *SPEEDS]
 PROGRAMMERS = {
-    "arduino": "the bootloader of Uno and Nano, which speaks STK500 version 1",
-    "stk500v1": "STK500 version 1, as Arduino as ISP speaks it",
     **dict.fromkeys(["usbasp", "usbtiny"], "a programmer with a protocol of its own over USB, without a serial device"),
     "avrispmkii": "a programmer on USB without a serial device, whose commands have no frames",
 }
@@ -142,7 +144,7 @@ def judge_device(device):
 class Device:
     """The serial device, opened for this run alone. At the end it gets its old settings back."""
 
-    def __init__(self, name, baud, is_wiring):
+    def __init__(self, name, baud, is_bootloader):
         self.file, self.old, act = None, None, "opened"
         try:
             self.file = os.open(name, os.O_RDWR | os.O_NOCTTY | os.O_NONBLOCK)
@@ -151,19 +153,23 @@ class Device:
             act = f"set to {baud} baud"
             self.old = fcntl.ioctl(self, TCGETS2, bytes(44))
             fcntl.ioctl(self, termios.TIOCEXCL)
-            fcntl.ioctl(self, TCSETS2, settings(self.old, baud))
-            (speed,) = struct.unpack_from("=I", fcntl.ioctl(self, TCGETS2, bytes(44)), 40)
-            if abs(speed - baud) * 20 > baud:
-                raise OSError(errno.EINVAL, f"it takes {speed}")
-            if is_wiring:
+            self.set_speed(baud)
+            if is_bootloader:
                 self.pulse()
         except OSError as fault:
             self.close()
             is_taken = fault.errno in (errno.EBUSY, errno.EWOULDBLOCK)
             raise Fault(f"{name}: cannot be {act}: {'another program has it' if is_taken else fault.strerror}")
 
+    def set_speed(self, baud: int) -> None:
+        """Sets the speed; raises OSError if the device takes another one instead."""
+        fcntl.ioctl(self, TCSETS2, settings(self.old, baud))
+        (speed,) = struct.unpack_from("=I", fcntl.ioctl(self, TCGETS2, bytes(44)), 40)
+        if abs(speed - baud) * 20 > baud:
+            raise OSError(errno.EINVAL, f"it takes {speed}")
+
     def pulse(self):
-        """Resets a board of -c wiring, as AVRDUDE does: releases DTR and RTS, and asserts them again."""
+        """Resets a board with a bootloader, as AVRDUDE does: releases DTR and RTS, and asserts them again."""
         for request in (termios.TIOCMBIC, termios.TIOCMBIS):
             # (a device may not have these lines)
             with contextlib.suppress(OSError):
@@ -282,10 +288,13 @@ class Run:
         self.files = [line]
         line.setsockopt(socket.IPPROTO_TCP, socket.TCP_NODELAY, 1)
         line.setblocking(False)
-        device = Device(self.words.device, int(self.words.baud), self.words.is_wiring)
-        self.files, self.was_opened = [line, device], True
-        there, back = self.ways = Way(line, device, self.note_commands), Way(device, line, self.note_replies)
-        ends = time.monotonic() + float(self.words.wait)
+        wait, words = float(self.words.wait), self.words
+        device = Device(words.device, words.speeds[0], words.is_bootloader)
+        self.device = Bridge(device, words.speeds, words.is_bootloader, wait) if words.is_version1 else device
+        end = self.device
+        self.files, self.was_opened = [line, end], True
+        there, back = self.ways = Way(line, end, self.note_commands), Way(end, line, self.note_replies)
+        ends = time.monotonic() + wait
         while ready({line: READ, came: READ}, ends) == {line} and not there.has_ended:
             there.take()
         there.held = there.held[-7:]
@@ -294,12 +303,19 @@ class Run:
 
     def note_commands(self, piece):
         for it in filter(is_frame, self.frames.pieces(piece)):
+            # (the Mega's bootloader ends with its reply to LEAVE. If the reply was lost, it has to start once more)
+            if self.words.is_wiring and it[5] == LEAVE and LEAVE in self.commands:
+                self.device.pulse()
+                time.sleep(float(self.words.wait))
             self.commands.add(it[5])
             self.progress.frame(it[5:-1])
         return piece
 
     def note_replies(self, piece):
-        """Notes whether the device sends bytes after ten seconds, but sent no valid reply."""
+        """Notes at which speed the device replies, and whether it sends bytes after ten seconds, but no valid reply."""
+        if self.words.is_version1 and len(self.words.speeds) > 1 and self.device.programmer.speed:
+            self.words.speeds = (self.device.programmer.speed,)
+            self.words.note(f"the device replies at {self.words.baud} baud")
         self.silenced |= bool(piece) and time.monotonic() > self.talks_until and self.commands <= {SIGN_ON, LEAVE}
         return piece
 
@@ -340,16 +356,41 @@ class Run:
             messages.put(self.kept + b"\n")
 
 
+def other_program():
+    """Returns the program that AVRSTK_ELSE names, or None. A link to this script, such as one named avrdude, is none."""
+    name, own = os.environ.get("AVRSTK_ELSE", ""), os.path.realpath(sys.argv[0])
+    folders = [""] if "/" in name else os.environ.get("PATH", os.defpath).split(os.pathsep)
+    places = [os.path.join(it, name) for it in folders if name]
+    return next((it for it in places if shutil.which(it) and os.path.realpath(it) != own), None)
+
+
+def leave_to_other(words):
+    """Runs the program that AVRSTK_ELSE names with the same options, if programmer, port or part are not avrstk's."""
+    known = BUILT_IN | set(parts()) | {"auto", "?", ""}
+    why = first(
+        (words.programmer.lower() not in SPEAKING, f"-c {words.programmer}: another programmer"),
+        (re.match(r"usb(:|$)", words.device or ""), f"-P {words.device}: no serial device"),
+        (words.parts_file is None and (words.part or "").lower() not in known, f"-p {words.part}: another part"),
+    )
+    other = why and other_program()
+    # (it doesn't know the script's own options)
+    if other and not any(it.startswith("--") for it in words.last):
+        say(f"{why}: {other} runs in place of avrstk")
+        messages.finish()
+        os.execve(other, [other, *sys.argv[1:]], {it: os.environ[it] for it in os.environ if it != "AVRSTK_ELSE"})
+
+
 def judge(words):
     """Refuses what can be refused without avrstk."""
+    leave_to_other(words)
     name, wait = words.programmer.lower(), re.fullmatch(r"[0-9]+(\.[0-9]+)?", words.wait)
-    what = f" is {PROGRAMMERS[name]}" if name in PROGRAMMERS else ": this speaks STK500v2 only"
-    is_speed = re.fullmatch(r"[0-9]{1,9}", words.baud) and int(words.baud)
+    what = f" is {PROGRAMMERS[name]}" if name in PROGRAMMERS else ": this speaks STK500 only"
     refuse(
         (name not in SPEAKING, f"-c {words.programmer}{what}: use avrdude -c {words.programmer}"),
         *((it in REFUSED, REFUSED.get(it)) for it in words.last),
-        (not is_speed, f"-b {words.baud}: not a speed"),
+        (not words.speeds, f"-b {words.last.get('-b')}: not a speed"),
         (not wait or float(words.wait) > 3, f"--wait {words.wait}: not a number of seconds from 0 to 3"),
+        (words.is_version1 and words.has_port, f"-c {words.programmer} is for a serial device, not -P {words.device}"),
     )
     for it in words.updates:
         it.judge(words.content(it.file) if it.is_image and not os.path.isdir(it.file) else None)
@@ -358,7 +399,7 @@ def judge(words):
         refuse((is_far, f"-U {it.given}: a bootloader reads other addresses above 255: use a programmer: {UNOPENED}"))
     if not words.has_port:
         judge_device(words.device)
-    if words.is_wiring:
+    if words.is_bootloader:
         judge_bootloader(words)
     if words.part != "auto":
         judge_part(words, UNOPENED)
@@ -401,12 +442,17 @@ def is_one(one: str, other: str) -> bool:
 
 
 def judge_bootloader(words: Words) -> None:
-    """Refuses what the bootloader of -c wiring can't do, and a second image of flash."""
-    writes = [it for it in words.updates if it.writes_flash()]
+    """Refuses what a bootloader can't do. One of version 1 returns OK all the same, or writes flash in place of EEPROM;
+    that of -c wiring erases pages by a count of its own."""
+    writes, is_dry = [it for it in words.updates if it.writes_flash()], "-n" in words.flags
     cures = {"leave out -e": "-e" in words.flags, "use -D": writes and "-D" not in words.flags}
-    cure = ", and ".join(it for it, is_needed in cures.items() if is_needed)
-    refuse((cure, f"a bootloader can't erase the chip: {cure}; {UNOPENED}"))
-    if len(writes) > 1:
+    cure = ", and ".join(it for it, is_needed in cures.items() if is_needed and not is_dry)
+    other = next((it for it in words.updates if words.is_version1 and it.memory not in ("flash", "signature")), None)
+    refuse(
+        (cure, f"a bootloader can't erase the chip: {cure}; {UNOPENED}"),
+        (other, other and f"-U {other.given}: this bootloader has flash alone: use a programmer; {UNOPENED}"),
+    )
+    if len(writes) > 1 and words.is_wiring:
         raise Fault(f"{ONE_WRITE}. {joined(writes, words.flash_pages() or [])}; {UNOPENED}")
 
 
@@ -442,7 +488,9 @@ def judge_part(words: Words, end: str) -> None:
 
 
 def warn(words):
-    """Warns of fuses that can make the chip unreachable, even if -q is given twice."""
+    """Warns of fuses that can make the chip unreachable, even if -q is given twice, and of version 1."""
+    if words.is_version1:
+        words.note("version 1 has no checksums: this run is tested, not proved")
     name, writes = words.chip(), [it for it in words.updates if it.operation == "w"]
     values = [(it, it.value()) for it in writes if it.memory in FUSES and it.value() is not None]
     for what, memory, mask, risky in [row for names, row in RISKS if name and re.match(names, name)]:
@@ -488,6 +536,7 @@ def ask(words, **given):
     session, lines = copy.copy(words), []
     vars(session).update(given)
     run = ran(session, lines.append)
+    words.speeds = session.speeds
     if run.status:
         messages.put(b"".join(lines))
         refuse((not words.has_port, not words.has_port and hint(run, ended_by())))

@@ -3,6 +3,7 @@
 from avrstk_common import BUILT_IN, READ, Fault, data_file, first, part_words, parts, program, ready, refuse, say
 from avrstk_common import session_program
 from avrstk_elf import AREAS, SIGNATURE, hex_rows, sections_of
+from avrstk_version1 import SPEEDS
 
 import codecs
 import contextlib
@@ -82,22 +83,32 @@ class Words:
             (others, f"{other} has no option before it: a file is given as -U flash:w:{other}"),
         )
         self.part, self.device, self.parts_file = last.get("-p"), last.get("-P"), last.get("--parts")
-        self.programmer, self.baud = last.get("-c", "stk500v2"), last.get("-b", "115200")
+        self.programmer, baud = last.get("-c", "stk500v2"), last.get("-b")
         self.wait, self.retry = last.get("--wait", "0.3"), last.get("--retry", "0")
         self.backup, self.restore = last.get("--backup"), last.get("--restore")
         # avrstk's own ports need no device
         self.has_port = bool(re.match(r"stdio:|emu:|net:", self.device or ""))
         self.is_wiring = self.programmer.lower() == "wiring"
+        self.is_version1 = self.programmer.lower() in SPEEDS
+        # whether the chip's own bootloader is meant, which a reset starts
+        self.is_bootloader = self.programmer.lower() in ("arduino", "wiring")
+        # the speeds to try, in turn; none if -b is no speed
+        known = SPEEDS.get(self.programmer.lower(), (115_200,))
+        self.speeds = known if baud is None else (int(baud),) if re.fullmatch(r"0*[1-9][0-9]{0,8}", baud) else ()
         self.given = [value for name, value in options if name == "-U"]
         self.updates = [Update(it) for it in self.given]
         for name, others in [("--backup", "-U -e --restore"), ("--restore", "-U -e -D -V -n -F")]:
             found = [it for it in others.split() if name in last and it in last]
             refuse(
                 (found, f"{name} is for all memories, and verifies: leave out {' and '.join(found)}"),
-                (name in last and self.is_wiring, f"{name} needs a programmer, not a bootloader"),
+                (name in last and self.is_bootloader, f"{name} needs a programmer, not a bootloader"),
             )
         self.flags, self.contents = [name for name, _ in options if name in FLAGS], {}
         self.left_out = [f"{name} {value}".rstrip() for name, value in options if name in IGNORED]
+
+    @property
+    def baud(self) -> str:
+        return " or ".join(map(str, self.speeds))
 
     def command(self, port):
         return [program(), *["--unproved"] * self.unproved, *self.options(port)]
