@@ -39,7 +39,8 @@ def hint(run, number):
     """Returns what to do after a failed run, judged by its first error. `number` is the signal that ended it."""
     error, words, state = run.error, run.words, state_of(run)
     speed, resets = f"the speed (-b {words.baud})", "that the board resets when the port opens"
-    others = f"{resets} (else press reset right after starting). Uno, Nano and USBasp use other protocols: use avrdude"
+    kinds = "Uno and Nano need -c arduino, Arduino as ISP -c arduino_as_isp, and USBasp needs avrdude"
+    others = f"{resets} (else press reset right after starting). {kinds}"
     silenced = f"the device sends data, but no valid reply: its application is running, or {speed} is wrong"
     is_silent = error == "no answer" and run.commands <= {SIGN_ON, LEAVE}
     done = f"everything above was done; only the last command got no reply. {POWER_CYCLE.capitalize()}"
@@ -212,6 +213,7 @@ REPLIED = {
     r"(\w+): address (\w+): (\w+) expected, (\w+) found": differs,
     r"signature is (\w\w \w\w \w\w)": another_part,
     "command 12 ": unerased,
+    "command 14 refused with status C1": f"flash outside the image is not FF, or the line is noisy: {SAME}",
     "command 10 ": "the programmer can't reach the chip, which is unchanged: check wires, power, clock and reset pin",
     "command (17|19|1C) ": "a bootloader can't write fuses and the lock, or read the calibration: use a programmer",
     "no answer$": "the programmer stopped replying: check the cable and the power; {state}",
