@@ -1,7 +1,7 @@
 -- The last use of a file is the open file again: what a call of the inner desk does to the record that is shown.
-use Rattle.std.proofs.Common.{◌≡◌, ◌≤◌, ℕ, Bool, true, List, [], ◌∷◌, ◌++◌, append-nil, take, length, Result, Ok, Err, OnOk, ◌&&◌, ◌==◌, not, false, None, ap, refl, sym, arith, if◌then◌else◌}
+use Rattle.std.proofs.Common.{◌≡◌, ◌≤◌, ℕ, Bool, true, List, [], ◌∷◌, ◌++◌, append-nil, take, length, Result, Ok, Err, OnOk, ◌&&◌, ◌==◌, not, false, None, ap, refl, sym, arith}
 use Rattle.std.specs.Prelude.{⊤}
-use Rattle.avr_desk.specs.Record.{Record, Bytes, all_uses, use_of, noted, written_on, is_to_read, is_to_write, after_open, after_create, after_read, after_write, with_open, with_replaced, with_tried}
+use Rattle.avr_desk.specs.Record.{Record, DeskState, Bytes, ChangesRecord, all_uses, use_of, noted, written_on, is_to_read, is_to_write, after_open, after_create, after_read, after_write, with_replaced, with_tried}
 use Rattle.avr_desk.specs.declared.desk.DeskFault.{DeskFault}
 use Rattle.avr_desk.specs.declared.desk.DeskFault.TheVariants.{NotFound, Failed}
 use Rattle.avr_desk.specs.declared.record.FileUse.{FileUse}
@@ -10,7 +10,6 @@ use Rattle.avr_desk.specs.declared.record.Open.{Open}
 use Rattle.avr_desk.specs.declared.record.Open.TheVariants.{Closed, ToRead, ToWrite}
 use Rattle.avr_desk.specs.declared.record.Opening.TheVariants.{Absent, Found}
 use Rattle.avr_tool.specs.Noted.{Noted}
-use Rattle.avr_desk.specs.Record.{DeskState, ChangesRecord}
 use Rattle.avr_desk.specs.Stream.{SendsPart, SendsTaken}
 use Rattle.avr_desk.specs.declared.stream.Stream.TheVariants.{File}
 use Rattle.avr_tool.specs.Unlocked.{last_open, all_but_open, open_by, finished_by, open_after, record_shown, uses_shown, with_written, UnlockedState, unlocked}

@@ -1,6 +1,5 @@
 -- What one call adds to the notes of a desk of six calls.
 use Rattle.std.specs.Prelude.{◌+◌, ◌++◌, ◌∷◌, [], Some, None}
-use Rattle.avr_desk.specs.declared.record.Writing.{Writing}
 use Rattle.avr_tool.specs.Noted.{Noted}
 use Rattle.avr_tool.specs.declared.noted.Note.{Note}
 use Rattle.avr_tool.specs.declared.noted.Note.TheVariants.{Held, Released, Replaced, Tried}

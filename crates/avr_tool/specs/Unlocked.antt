@@ -71,11 +71,12 @@ open_after is_open (Ok done) = true
 open_after is_open (Err NotFound) = false
 open_after is_open (Err Failed) = is_open
 
--- The inner desk created the file and wrote these bytes, all of them if the call succeeded. After a failure it wrote a
--- prefix of them, or it couldn't create the file.
+-- the file was created, and these bytes were written to it
 abbrev pub with_written : Bytes → Bytes → Record → Record
 with_written name bytes r = after_write bytes (after_create name (Ok tt) r)
 
+-- The inner desk created the file and wrote all bytes. After a failure it wrote a prefix of them, or it couldn't create
+-- the file.
 abbrev pub WritesInPlace : Bytes → Bytes → DeskState → DeskState → Result ⊤ DeskFault → Type 0
 WritesInPlace name bytes old new (Ok done) = ChangesRecord (with_written name bytes) old new
 WritesInPlace name bytes old new (Err fault) = (new.kept ≡ old.kept)

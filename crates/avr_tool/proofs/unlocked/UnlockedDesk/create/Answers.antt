@@ -1,4 +1,3 @@
-use Rattle.std.proofs.Common.{rules}
 use Rattle.avr_tool.proofs.Reopened.{created_kept}
 use Rattle.avr_tool.proofs.unlocked.UnlockedDesk.create.Goals as goal
 
