@@ -154,7 +154,7 @@ def segment_file(image):
     rows = []
     for at, part in runs_of(image):
         for it in range(0, len(part), 16):
-            data, before = bytes(part[it : it + 16]), max(0, at + it - 0xFFF8) // 16
+            data, before = bytes(part[it : it + 16]), max(0, at + it - 0xFFF0) // 16
             segment = before or (at + it) // 16 & 0xF000
             rows += [bytes([2, 0, 0, 2]) + segment.to_bytes(2, "big")]
             rows += [bytes([len(data)]) + (at + it - segment * 16 & 0xFFFF).to_bytes(2, "big") + b"\x00" + data]
