@@ -149,13 +149,13 @@ def srec_file(image, draw):
     return "".join(f"S{it[0]}{it[1:].hex().upper()}{~sum(it[1:]) & 255:02X}\n" for it in rows).encode()
 
 
-def segment_file(image, draw):
-    """Returns an Intel HEX file with segments. In some the address wraps inside of a record."""
+def segment_file(image):
+    """Returns an Intel HEX file with segments. Above 64 KiB the address wraps inside of many records."""
     rows = []
     for at, part in runs_of(image):
         for it in range(0, len(part), 16):
-            data, before = bytes(part[it : it + 16]), max(0, at + it - 0xFFF8) // 16
-            segment = draw.choice([(at + it) // 16 & 0xF000, before, before])
+            data, before = bytes(part[it : it + 16]), max(0, at + it - 0xFFF0) // 16
+            segment = before or (at + it) // 16 & 0xF000
             rows += [bytes([2, 0, 0, 2]) + segment.to_bytes(2, "big")]
             rows += [bytes([len(data)]) + (at + it - segment * 16 & 0xFFFF).to_bytes(2, "big") + b"\x00" + data]
     return "".join(f":{(it + bytes([-sum(it) & 255])).hex()}\n" for it in [*rows, bytes([0, 0, 0, 1])]).encode()
@@ -177,13 +177,13 @@ def image_file(draw, size):
     image = image_in(draw, size)
     if draw.random() < 0.1:
         image = {at + draw.choice([size - 1, size, 65_536]): it for at, it in image.items()}
-    kind = draw.choice("iisrww")
+    kind = draw.choice("iisrw" + "wwww" * (size > 65_536))
     if kind == "r":
         at = draw.choice([0, 1, 2, size - 1, size, size + 1, draw.randrange(size)]) % 5000
         text = draw.choice([b"", b"", b"\x7fELF", b":0400000001", b" :0"]) + bytes(draw.choices(range(256), k=at))
     else:
         runs = [(at, bytes(it)) for at, it in runs_of(image)]
-        files = {"i": lambda: hex_of(runs, draw.choice([1, 16, 32, 255])), "w": lambda: segment_file(image, draw)}
+        files = {"i": lambda: hex_of(runs, draw.choice([1, 16, 32, 255])), "w": lambda: segment_file(image)}
         text = files.get(kind, lambda: srec_file(image, draw))()
         text = damaged(text, draw) if draw.random() < 0.25 else text
     return draw.choice(["a", "", kind.replace("w", "i")] + ["i", "s", "r"] * (draw.random() < 0.1)), text
@@ -201,7 +201,8 @@ def values(draw, size):
 
 def update(draw, part, files, streams):
     """Returns the text of an update, for which it may add a file. `streams` says how often it names standard ones."""
-    memory, op = draw.choice([*MEMORIES, "flash", "flash", "eeprom", "eeprom", "lfuse"]), draw.choice("rwwwv")
+    often = ["flash"] * (2 if part.flash_size <= 65_536 else 12) + ["eeprom", "eeprom", "lfuse"]
+    memory, op = draw.choice([*MEMORIES, *often]), draw.choice("rwwwv")
     if memory in READ_ONLY and draw.random() < 0.9:
         op = "r"
     odd = "boot:w:a flash flash:x:a lfuse:w: lfuse:w::m flash:w:a:h flash:r:x:m missing.hex :w:a lfuse:w a:w::".split()
