@@ -62,8 +62,7 @@ class Port:
         return f"[{address}]:{port}" if ":" in address else f"{address}:{port}"
 
     def next_client(self, until):
-        """Returns the first client that has sent a byte; None after a signal, or if `until` passes. Hangs up on the
-        oldest silent ones."""
+        """Returns the first client that has sent a byte, None after a signal or `until`. Ends the oldest silent ones."""
         while True:
             oldest = next(iter(self.silent), None)
             watched = dict.fromkeys([came, self.door, *self.silent], READ)
@@ -122,8 +121,8 @@ class Link:
         return self.device is not None and os.path.islink(self.link) and os.readlink(self.link) == self.device
 
     def next_client(self, until):
-        """Returns the terminal whose client has sent a byte; None after a signal, or if `until` passes. If there can be
-        no terminal for the client after that one, the next call fails."""
+        """Returns the terminal whose client has sent a byte, None after a signal or `until`. If there can be no terminal
+        for the client after that one, the next call fails."""
         if self.fault:
             raise self.fault
         with_input = select.poll()
@@ -172,8 +171,8 @@ class Job:
         """Returns its status, which is that of a shell if a signal has ended it, and 1 if it can't be ended."""
         with contextlib.suppress(subprocess.TimeoutExpired):
             self.ran.wait(1)
-        status = self.ran.returncode
-        return 1 if status is None else 128 - status if status < 0 else status
+        status = 1 if self.ran.returncode is None else self.ran.returncode
+        return 128 - status if status < 0 else status
 
 
 def started() -> List[int]:
@@ -337,10 +336,7 @@ def stray(words: List[str]) -> Optional[str]:
 def main():
     at = sys.argv.index("--") if "--" in sys.argv else len(sys.argv)
     client, program = sys.argv[at + 1 :], stray(sys.argv[1:at])
-    refuse(
-        (sys.argv[-1] == "--", "no command after --"),
-        (program and not client, f"{program}: a command comes after --"),
-    )
+    refuse((sys.argv[-1] == "--", "no command after --"), (program and not client, f"{program}: a command comes after --"))
     given, places = getopt.gnu_getopt(sys.argv[1:at], "p:h", LONG)
     options = dict(given)
     if {"-h", "--help", "--version"} & set(options) or not sys.argv[1:]:
@@ -358,12 +354,12 @@ def main():
     words = [*part_words(options.get("-p"), parts), "-P", f"emu:{chip}"]
     command = [session_program(), *words]
     # runs that serve nobody check the options and set the lock. They report why they fail
-    quiet = {"stdin": subprocess.DEVNULL, "stdout": subprocess.DEVNULL}
-    if subprocess.run([*command, "-n"], **quiet).returncode:
+    fails = lambda *it: subprocess.run(it, stdin=subprocess.DEVNULL, stdout=subprocess.DEVNULL).returncode
+    if fails(*command, "-n"):
         return 1
     if traffic:
         traffic.open(chip, parts)
-    if "--locked" in options and subprocess.run([built(None), *words, "-q", "-q", "-U", "lock:w:0xFC:m"], **quiet).returncode:
+    if "--locked" in options and fails(built(None), *words, "-q", "-q", "-U", "lock:w:0xFC:m"):
         return 1
     heed_signals()
     try:
