@@ -61,8 +61,8 @@ def spoiled(frame):
 
 
 class Log:
-    """The file of --log, with at most `limit` bytes. A line that it doesn't take at once is lost: no pipe stops the server.
-    A message reports the first one, and a line in the log how many."""
+    """The file of --log, with at most `limit` bytes. A line that it doesn't take at once is lost: no pipe stops the
+    server. A message reports the first one, and a line in the log how many."""
 
     def __init__(self, name: str, limit: int):
         try:

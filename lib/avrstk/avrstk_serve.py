@@ -62,7 +62,7 @@ class Port:
         return f"[{address}]:{port}" if ":" in address else f"{address}:{port}"
 
     def next_client(self, until):
-        """Returns the first client that has sent a byte, None after a signal or `until`. Ends the oldest silent ones."""
+        """Returns the first client that has sent a byte; None after a signal or `until`. Ends the oldest silent one."""
         while True:
             oldest = next(iter(self.silent), None)
             watched = dict.fromkeys([came, self.door, *self.silent], READ)
@@ -121,8 +121,8 @@ class Link:
         return self.device is not None and os.path.islink(self.link) and os.readlink(self.link) == self.device
 
     def next_client(self, until):
-        """Returns the terminal whose client has sent a byte, None after a signal or `until`. If there can be no terminal
-        for the client after that one, the next call fails."""
+        """Returns the terminal whose client has sent a byte; None after a signal or `until`. If there can be no
+        terminal for the client after that one, the next call fails."""
         if self.fault:
             raise self.fault
         with_input = select.poll()
@@ -140,8 +140,8 @@ class Link:
 
 
 class Job:
-    """A command that runs as the client. It stays in the server's process group, so it can read the terminal, and Ctrl-C
-    reaches both."""
+    """A command that runs as the client. It stays in the server's process group, so it can read the terminal, and
+    Ctrl-C reaches both."""
 
     def __init__(self, command: List[str], where: str, limit: Optional[float]):
         with contextlib.suppress(ImportError, AttributeError):
@@ -336,7 +336,10 @@ def stray(words: List[str]) -> Optional[str]:
 def main():
     at = sys.argv.index("--") if "--" in sys.argv else len(sys.argv)
     client, program = sys.argv[at + 1 :], stray(sys.argv[1:at])
-    refuse((sys.argv[-1] == "--", "no command after --"), (program and not client, f"{program}: a command comes after --"))
+    refuse(
+        (sys.argv[-1] == "--", "no command after --"),
+        (program and not client, f"{program}: a command comes after --"),
+    )
     given, places = getopt.gnu_getopt(sys.argv[1:at], "p:h", LONG)
     options = dict(given)
     if {"-h", "--help", "--version"} & set(options) or not sys.argv[1:]:
