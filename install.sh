@@ -4,7 +4,7 @@
 # are installed as a site, if cmark-gfm is there to make it. With --with-c the library for C is installed too: archive,
 # shared library, header, pkg-config's file.
 #
-#     ./install.sh [--with-c] [PREFIX]      PREFIX is /usr/local by default; ~/.local needs no other user's rights
+#     ./install.sh [--with-c] [PREFIX]      PREFIX is /usr/local by default, which needs root; ~/.local doesn't
 #     ./install.sh --remove [PREFIX]        removes what any version of this script installed there, and the folders that
 #                                           it made, by the manifest share/avrstk/manifest
 #     ./install.sh --help                   prints this text
@@ -97,7 +97,8 @@ check() {
         [ -d "$folder" ] || fail "$folder is not a folder"
         [ -w "$folder" ] || fail "$folder cannot be written: run it by sudo, or give a folder of your own: $0 ~/.local"
         [ -n "$destination" ] || [ "$file" = "$manifest" ] || [[ ! -e $file && ! -L $file ]] ||
-            [[ $known == *$'\n'"${file#"${prefix%/}/"}"$'\n'* ]] || fail "$file is there, but not by this script: nothing is installed"
+            [[ $known == *$'\n'"${file#"${prefix%/}/"}"$'\n'* ]] ||
+            fail "$file is there, but not by this script: nothing is installed"
     done
     if [ -L "$manifest" ] || { [ -e "$manifest" ] && [ ! -f "$manifest" ]; }; then
         fail "$manifest is no manifest of this script"

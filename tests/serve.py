@@ -381,7 +381,8 @@ def a_command():
         see(f"{words}: its messages", told is None or found[1:] == (told, ""), found)
         shutil.rmtree(room.folder / "chip.bin", ignore_errors=True)
     # (a child, one that has lost its parent, one that ignores the signal)
-    rows = [("exec sleep 600", 143, "TERM"), ("sleep 600; true", 143, "INT"), ("(sleep 600 & sleep 600 &); sleep 600; true", 143, "HUP")]
+    rows = [("exec sleep 600", 143, "TERM"), ("sleep 600; true", 143, "INT")]
+    rows += [("(sleep 600 & sleep 600 &); sleep 600; true", 143, "HUP")]
     for command, status, name in [*rows, ("trap '' TERM; while :; do sleep 600; done", 137, "TERM")]:
         with Serving("--", "sh", "-c", f"echo begun; {command}") as it:
             same(f"{command}: its output", it.said, b"begun\n")

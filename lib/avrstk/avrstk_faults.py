@@ -60,14 +60,9 @@ def spoiled(frame):
     return frame[:-2] + bytes([frame[-2] ^ 1, frame[-1]])
 
 
-def is_one_place(name: str, other: str) -> bool:
-    have_one = os.path.exists(name) and os.path.exists(other) and os.path.samefile(name, other)
-    return have_one or os.path.realpath(name) == os.path.realpath(other)
-
-
 class Log:
-    """The file of --log, with at most `limit` bytes. No pipe makes the server wait: lines that the file doesn't take at
-    once are lost. The first time a message reports that, and the next line in the log says how many."""
+    """The file of --log, with at most `limit` bytes. A line that it doesn't take at once is lost: no pipe stops the
+    server. A message reports the first one, and a line in the log how many."""
 
     def __init__(self, name: str, limit: int):
         try:
@@ -89,8 +84,8 @@ class Log:
             why = "its reader is too slow" if isinstance(fault, BlockingIOError) else fault.strerror
         self.lost += 1
         if not self.is_told:
-            self.is_told = True
             say(f"--log: lines are missing: {why}")
+        self.is_told = True
 
 
 class Traffic:
@@ -115,9 +110,10 @@ class Traffic:
     def open(self, *files: Optional[str]) -> None:
         """Opens the log, which is none of these files."""
         name, limit = self.last.get("--log", os.devnull), self.last.get("--log-limit", f"{1 << 62}")
+        is_one = os.path.realpath(name) in [os.path.realpath(it) for it in files if it]
         refuse(
             (not re.fullmatch("[0-9]{1,19}", limit), f"--log-limit {limit}: not a number of bytes"),
-            (any(is_one_place(name, it) for it in files if it), f"--log {name}: this is the chip file or the part file"),
+            (is_one, f"--log {name}: this is the chip file or the part file"),
         )
         self.log = Log(name, int(limit))
 

@@ -62,8 +62,7 @@ class Port:
         return f"[{address}]:{port}" if ":" in address else f"{address}:{port}"
 
     def next_client(self, until):
-        """Returns the first client that has sent a byte; None after a signal, or if `until` passes. Hangs up on the
-        oldest silent ones."""
+        """Returns the first client that has sent a byte; None after a signal or `until`. Ends the oldest silent one."""
         while True:
             oldest = next(iter(self.silent), None)
             watched = dict.fromkeys([came, self.door, *self.silent], READ)
@@ -122,8 +121,8 @@ class Link:
         return self.device is not None and os.path.islink(self.link) and os.readlink(self.link) == self.device
 
     def next_client(self, until):
-        """Returns the terminal whose client has sent a byte; None after a signal, or if `until` passes. If there can be
-        no terminal for the client after that one, the next call fails."""
+        """Returns the terminal whose client has sent a byte; None after a signal or `until`. If there can be no
+        terminal for the client after that one, the next call fails."""
         if self.fault:
             raise self.fault
         with_input = select.poll()
@@ -141,8 +140,8 @@ class Link:
 
 
 class Job:
-    """A command that runs as the client. It stays in the server's process group, so it can read the terminal, and Ctrl-C
-    reaches both."""
+    """A command that runs as the client. It stays in the server's process group, so it can read the terminal, and
+    Ctrl-C reaches both."""
 
     def __init__(self, command: List[str], where: str, limit: Optional[float]):
         with contextlib.suppress(ImportError, AttributeError):
@@ -172,8 +171,8 @@ class Job:
         """Returns its status, which is that of a shell if a signal has ended it, and 1 if it can't be ended."""
         with contextlib.suppress(subprocess.TimeoutExpired):
             self.ran.wait(1)
-        status = self.ran.returncode
-        return 1 if status is None else 128 - status if status < 0 else status
+        status = 1 if self.ran.returncode is None else self.ran.returncode
+        return 128 - status if status < 0 else status
 
 
 def started() -> List[int]:
@@ -358,12 +357,12 @@ def main():
     words = [*part_words(options.get("-p"), parts), "-P", f"emu:{chip}"]
     command = [session_program(), *words]
     # runs that serve nobody check the options and set the lock. They report why they fail
-    quiet = {"stdin": subprocess.DEVNULL, "stdout": subprocess.DEVNULL}
-    if subprocess.run([*command, "-n"], **quiet).returncode:
+    fails = lambda *it: subprocess.run(it, stdin=subprocess.DEVNULL, stdout=subprocess.DEVNULL).returncode
+    if fails(*command, "-n"):
         return 1
     if traffic:
         traffic.open(chip, parts)
-    if "--locked" in options and subprocess.run([built(None), *words, "-q", "-q", "-U", "lock:w:0xFC:m"], **quiet).returncode:
+    if "--locked" in options and fails(built(None), *words, "-q", "-q", "-U", "lock:w:0xFC:m"):
         return 1
     heed_signals()
     try:
