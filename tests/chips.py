@@ -247,7 +247,7 @@ def whose_lock():
         status, messages, _ = traced(prepare, words, call, act, when)
         last = messages.splitlines(True)[-1] if wanted[1] else None
         same(f"{what}: the run", (status, last), wanted)
-        same(f"{what}: what a link leads to", room.read("victim"), b"mine") if call == "a link" else None
+        same(f"{what}: what a link leads to", room.read("victim"), b"mine") if what == "a link" else None
         see(f"{what}: the chip is whole", len(room.read("chip.bin")) == CHIP_FILE)
 
 
