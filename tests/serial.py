@@ -1036,7 +1036,7 @@ def linked(name, text, *more):
     subprocess.run(made, cwd=room.folder, check=True, input=text.encode())
 
 
-def elf_of(segments, sections, sizes=(32, 40), length=100):
+def odd_elf(segments, sections, sizes=(32, 40), length=100):
     """Returns an ELF file with so many equal headers, of these sizes. Each section has the file's last bytes."""
     begin = 52 + 32 * segments * (sizes[0] > 0)
     end = begin + 40 * sections * (sizes[1] > 0)
@@ -1084,10 +1084,10 @@ def elf_files():
     room.put("note", note)
     words = ["--add-section", ".note.gnu.avr.deviceinfo=note", "-R", ".signature", "main.elf", "mega.elf"]
     subprocess.run(["avr-objcopy", *words], cwd=room.folder, check=True)
-    room.put("loop.elf", elf_of(65_535, 65_535, sizes=(0, 0)))
-    room.put("headers.elf", elf_of(500, 501))
-    room.put("sizes.elf", elf_of(1, 1, sizes=(32, 64)))
-    room.put("sum.elf", elf_of(1, 999, length=8_000))
+    room.put("loop.elf", odd_elf(65_535, 65_535, sizes=(0, 0)))
+    room.put("headers.elf", odd_elf(500, 501))
+    room.put("sizes.elf", odd_elf(1, 1, sizes=(32, 64)))
+    room.put("sum.elf", odd_elf(1, 999, length=8_000))
     linked("main.o", ELF, "-c")
     room.put("cut.elf", room.read("main.elf")[:700])
     for text, why in table("elf"):
