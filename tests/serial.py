@@ -1401,9 +1401,9 @@ def each_hint():
         "elf.hex": room.read("small.elf"),
         "comment.hex": b"; made by x\n" + good,
         "page.hex": b"<!DOCTYPE html>\n<p>no such firmware</p>\n",
+        **{"srec.hex": room.read("blink.srec"), "hex.srec": good, "closed.hex": good},
         "late.hex": hex_of([(0x1000, b"late")]),
         "other.hex": hex_of([(0x1000, b"\xfe\xdc\xba\x98")]),
-        "closed.hex": good,
         "main.elf": elf_of(b"123", 0x810000),
         "efuse.hex": hex_of([(0, b"\5")]),
         "mega.hex": hex_of([(0, bytes(300))]),
@@ -1415,7 +1415,7 @@ def each_hint():
     (room.folder / "closed.hex").chmod(0)
     with socket.socket(socket.AF_UNIX) as it:
         it.bind(str(room.folder / "socket"))
-    held = {"blink": firmware[:228], "elf": b"\x0c\x94\x34\x00"}
+    held = {"blink": firmware[:228], "elf": b"\x0c\x94\x34\x00", "old": OLD[:228]}
     places = {"flash": 0, "eeprom": 32_768, "lfuse": -4, "hfuse": -3, "efuse": -2, "lock": -1}
 
     def ran(row):
@@ -1438,7 +1438,7 @@ def each_hint():
 
 
 def hints_that_are_followed():
-    """Follows hints as typed until a run ends well or a hint has no command. No walk ends well with another chip."""
+    """Follows hints of damaged files, and of a bootloader's images, until a run ends well with the wanted chip."""
     firmware, good = flashed(), room.read("blink.hex")
     image = bytes(it % 251 for it in range(700))
     old = bytes(it % 241 for it in range(32_768))
@@ -1464,13 +1464,6 @@ def hints_that_are_followed():
     ways = itertools.product(bad, [[""], [":i"], ["", "-D", "-V"]])
     for number, (name, (form, *words)) in enumerate(sampled("hints of damaged files", 7, ways)):
         follows(name, flash(f"{number}{name}{form}", *words), file=f"{number}{name}", text=bad[name])
-    follows("srec.hex", flash("srec.hex"), file="srec.hex", text=room.read("blink.srec"))
-    follows("hex.srec", flash("hex.srec"), file="hex.srec", text=good)
-    big = lambda chip: b"\xff" * 32_768 + image + b"\xff" * (len(chip) - 32_768 - len(image))
-    follows("big.hex", flash("big.hex"), big, "big.hex", hex_of([(32_768, image)]), part="m2560", has="m2560")
-    follows("a file alone", ["-p", "m328p", "blink.hex"])
-    for memory in ["flash:v:blink.hex", "eeprom:v:0x01:m", "lfuse:v:0xE2:m", "lock:v:0x00:m"]:
-        follows(memory, ["-p", "m328p", "-U", memory], lambda chip: old + b"\xff" * 1028, chip=old + b"\xff" * 1028)
     late, merged = hex_of([(0x1000, image)]), b"\xff" * 0x1000 + image
     wanted = lambda chip: merged[: 0x1000 + 768].ljust(0x1300, b"\xff") + old[0x1300:]
     for number, words in enumerate([[], ["-D"], ["-e"], ["-c", "wiring"], ["-c", "wiring", "-D"]]):
@@ -1479,7 +1472,6 @@ def hints_that_are_followed():
     follows("-D", flash("late.hex", "-D"), with_flash(image, 0x1000), "late.hex", late, chip=old + b"\xff" * 1028)
     for (name, *_), hints in zip(walks, side_by_side(lambda it: walk(*it[:3], **it[3]), walks)):
         same(f"{name}: one hint", len(hints), 1) if name in bad else None
-        same("big.hex", hints[0][:45], "flash of m328p has 32,768 bytes; is -p right?") if name == "big.hex" else None
 
 
 def signals():

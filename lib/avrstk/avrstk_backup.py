@@ -49,7 +49,8 @@ def back_up(words: Words, runs: Callable[[], int]) -> int:
                     os.unlink(f"{folder}/{it}")
                 os.rmdir(folder)
     if is_whole:
-        given = [it for name in ("--parts", "-c", "-b", "--wait") if name in words.last for it in (name, words.last[name])]
+        kept = [it for it in ("--parts", "-c", "-b", "--wait") if it in words.last]
+        given = [it for name in kept for it in (name, words.last[name])]
         given += ["-p", words.part, "-P", words.device, f"--restore={folder}"]
         show(" ".join(map(shlex.quote, ["avrstk-serial", *given])))
     return status

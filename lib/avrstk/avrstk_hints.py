@@ -151,6 +151,7 @@ def differs(words, found):
     cause = no_lock if memory == "lock" else "the chip or the programmer is damaged" if is_erased else LOCKED
     asks = f"bits {stay} stay 1. If the part has none of them, give {update}. If it has any of them, {cause}"
     is_late = {"lock", memory} <= set(given) and given.index("lock") < given.index(memory)
+    is_locked = memory == "lock" and wanted & ~held and not is_erased
     has_old = memory == "flash" and not is_erased and not held & ~wanted
     again, always = f"{SAME}; if it fails again, ", f"{SAME}; if it always fails at the same address, "
     worn = "a page is worn" if is_erased else f"a page is worn, or {LOCKED}"
@@ -161,7 +162,7 @@ def differs(words, found):
         (not writes, f"{memory} holds something else than {other}"),
         (is_open, asks),
         (memory == "lock" and len(writes) > 1, "the lock is given twice: give one value"),
-        (memory == "lock" and wanted & ~held and not is_erased, f"only an erase removes a lock: -e, which takes all of {TAKES}"),
+        (is_locked, f"only an erase removes a lock: -e, which takes all of {TAKES}"),
         (is_late, "-U lock was given before: give it last"),
         (memory in FUSES, f"{again}{cause}"),
         (has_old, has_old and remains(words)),

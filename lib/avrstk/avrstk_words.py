@@ -77,7 +77,7 @@ class Words:
         self.last = last = dict(options)
         update, other = last.get("-U"), others[0] if others else ""
         refuse(
-            *((re.match("-.", last.get(it, "")), f"{it} has no value before {last.get(it)}") for it in ("-p", "-P", "-b")),
+            *((last.get(it, "")[:1] == "-", f"{it} has no value before {last.get(it)}") for it in ("-p", "-P", "-b")),
             (others and update in MEMORIES, f"an update is one word: give -U {':'.join([update or '', *others[:3]])}"),
             (re.match(r"[a-z]+:[rwv]:", other), f"{other} has no option before it: give -U {other}"),
             (others, f"{other} has no option before it: a file is given as -U flash:w:{other}"),
