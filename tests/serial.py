@@ -457,7 +457,7 @@ def devices():
         (["-P", os.path.basename("/dev/null")], "null: there is no such device (it is /dev/null)"),
         (["-P", here], f"{here}: not a device"),
         (["-P", "/dev/null"], "/dev/null: cannot be set to 115200 baud"),
-        ([], "no device given (-P); there "),
+        ([], "no device given (-P); "),
     ]:
         status, _, _, own = run([*FLASH, *words])
         see(f"device {words}", (status, len(own)) == (1, 1) and own[0].startswith(wanted), own)
