@@ -26,7 +26,7 @@ is_for_serial() {
     done
     case $programmer in
         stk500v2) [ -z "$ignored" ] || return 0 ;;
-        wiring | avrispv2 | stk500) return 0 ;;
+        wiring | avrispv2 | stk500 | arduino | arduino_as_isp | stk500v1 | avrisp) return 0 ;;
         *) return 1 ;;
     esac
     case $port in
@@ -51,6 +51,6 @@ run() {
     is_for_serial "$@" || exec "$program" "$@"
     "$program" "$@" || status=$?
     [ "$status" != 1 ] ||
-        echo "avrstk: hint: avrstk-serial, with the same options, takes serial devices, AVRDUDE's part names, -p '?' and -c wiring" >&2 || true
+        echo "avrstk: hint: avrstk-serial, with the same options, takes serial devices, AVRDUDE's part names, -p '?', -c wiring and -c arduino" >&2 || true
     exit "$status"
 }
