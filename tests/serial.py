@@ -63,11 +63,11 @@ room = Room()
 boards = itertools.count()
 
 
-def elf_with(code, address=0):
-    """Returns an ELF file with one section, .text, at this address."""
-    names = b"\0.text\0.shstrtab\0"
+def elf_with(code, name=b".text", address=0):
+    """Returns an ELF file with one section of bytes, of this name and address."""
+    names = b"\0" + name + b"\0.shstrtab\0"
     begin = struct.pack("<16s2H5I6H", b"\x7fELF\1\1\1", 2, 83, 1, 0, 0, 52 + len(code + names), 0, 52, 32, 0, 40, 3, 2)
-    sections = [(0,) * 10, (1, 1, 6, address, 52, len(code), 0, 0, 1, 0), (7, 3, 0, 0, 52 + len(code), len(names), 0, 0, 1, 0)]
+    sections = [(0,) * 10, (1, 1, 6, address, 52, len(code), 0, 0, 1, 0), (len(name) + 2, 3, 0, 0, 52 + len(code), len(names), 0, 0, 1, 0)]
     return begin + code + names + b"".join(struct.pack("<10I", *it) for it in sections)
 
 
@@ -1404,7 +1404,7 @@ def each_hint():
         **{"srec.hex": room.read("blink.srec"), "hex.srec": good, "closed.hex": good},
         "late.hex": hex_of([(0x1000, b"late")]),
         "other.hex": hex_of([(0x1000, b"\xfe\xdc\xba\x98")]),
-        "main.elf": elf_with(b"123", 0x810000),
+        "main.elf": elf_with(b"123", b".eeprom", 0x810000),
         "efuse.hex": hex_of([(0, b"\5")]),
         "mega.hex": hex_of([(0, bytes(300))]),
         "long.bin": bytes(256) + b"\xee" * 100,
