@@ -30,9 +30,9 @@ pub fn a_run_is_one_function()
         ⊎ (StopsSession plan (devices x.link between) y × (status ≡ 1))) }
 {}
 
-/// States that a run that stopped, in planning or in its session, did a prefix of the whole run. It stopped for a
-/// reason that fits the place: the line or the file that failed was the next one. `one`: whole runs over the same
-/// openings and replies have the same status.
+/// States that a run that stopped, in planning or in its session, did a prefix of the whole run. Its reason fits the
+/// place: the line or the file that failed was the next one. `one`: whole runs over the same openings and replies have
+/// the same status.
 // Proof: `stop_prefix` and `one_status` (Runs/Joined).
 pub fn a_stop_is_a_prefix()
     ensures prefix { (s : AnySettings) (x y : Devices) (status : ℕ) → IsStopped s x y status → IsPrefixOfRun s x y }

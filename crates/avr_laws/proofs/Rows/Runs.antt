@@ -91,7 +91,7 @@ only_the_images s before now r is silent p got later executions sound part held 
 abbrev Holds : List ℕ → Type 0
 Holds flash = IsWritten small (asked_items plan) old (left flash)
 
--- 1. A plan for another size: no settings and files give this plan for four bytes of flash,
+-- A plan for another size: no settings and files give this plan for four bytes of flash,
 pub another_size : (s : Settings) (openings : List Opening)
     → (planned s openings).stage_outcome ≡ Produced (flash_plan (Some 1 ∷ Some 2 ∷ [])) → ⊥
 another_size s openings is = search (rules, plan_fitted s openings _ is)
@@ -100,11 +100,11 @@ another_size s openings is = search (rules, plan_fitted s openings _ is)
 pub another_chip : (chip : Chip) → chip.flash ≡ 1 ∷ 2 ∷ [] → IsSoundChip chip → chip.part ≡ plan.part → ⊥
 another_chip chip is sound part = search rules
 
--- 3. The chip from before the erase: old bytes stay where no image has a byte.
+-- The chip from before the erase: old bytes stay where no image has a byte.
 pub before_the_erase : Holds (1 ∷ 2 ∷ 0 ∷ 0 ∷ []) → ⊥
 before_the_erase holds = let byte : 0 ≡ 255 = holds.rest_of_flash 2 (omega arith) refl in omega (arith, byte)
 
--- 4. A programmer that keeps half a page: a part of the page is written, with status 0,
+-- A programmer that keeps half a page: a part of the page is written, with status 0,
 pub half_a_page : Holds (1 ∷ 255 ∷ 255 ∷ 255 ∷ []) → ⊥
 half_a_page holds = let byte : 255 ≡ 2 = holds.images Flash 1 2 refl (omega arith) in omega (arith, byte)
 
@@ -117,7 +117,7 @@ pub whole_page : (after_frames device
     ≡ record (fresh_state small) { flash = 1 ∷ 2 ∷ 255 ∷ 255 ∷ [] }
 whole_page = refl
 
--- 5. A frame that was sent once and reaches the programmer twice.
+-- A frame that was sent once and reaches the programmer twice.
 abbrev sign_on : List ℕ
 sign_on = frame 1 (0x01 ∷ [])
 
@@ -144,7 +144,7 @@ twice executions came =
     ap (λ (g : FramesByRestart). length g.0) came.good in
     omega (arith, few, two)
 
--- 6. Status 0 with a wrong byte, or with a byte missing.
+-- Status 0 with a wrong byte, or with a byte missing.
 pub a_wrong_byte : Holds (1 ∷ 3 ∷ 255 ∷ 255 ∷ []) → ⊥
 a_wrong_byte holds = let byte : 3 ≡ 2 = holds.images Flash 1 2 refl (omega arith) in omega (arith, byte)
 
@@ -175,7 +175,7 @@ tasks byte = Write Lfuse (Some byte ∷ []) ∷ []
 abbrev fuse_plan : ℕ → Plan
 fuse_plan byte = record { part = m328p; tasks = tasks byte; switches = switches false }
 
--- 2. An image of another update: the plan has the byte of the named file,
+-- An image of another update: the plan has the byte of the named file,
 pub the_file_named : (planned (settings false)
     (Found (record { name = codes "low"; bytes = 0xE2 ∷ []; ended = true }) ∷ [])).stage_outcome
     ≡ Produced (fuse_plan 0xE2)
@@ -193,7 +193,7 @@ another_file asked = search rules
 pub another_address : HasImage (FileHolds files) (codes "low") Raw 2 (None ∷ Some 0xE2 ∷ []) → ⊥
 another_address has = search rules
 
--- 7. The promise over files is an equation too: these bytes are in the chip file, and no others.
+-- The promise over files is an equation too: these bytes are in the chip file, and no others.
 abbrev fresh : ℕ → Chip
 fresh byte = record (fresh_state m328p) { lfuse = byte }
 
