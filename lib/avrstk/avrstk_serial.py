@@ -386,7 +386,8 @@ def judge_bootloader(words: Words) -> None:
     writes = [it for it in words.updates if it.writes_flash()]
     cures = {"leave out -e": "-e" in words.flags, "use -D": writes and "-D" not in words.flags}
     cure = ", and ".join(it for it, is_needed in cures.items() if is_needed)
-    refuse((cure, f"a bootloader can't erase the chip: {cure}; {UNOPENED}"))
+    other = "With a programmer leave out -c wiring"
+    refuse((cure, f"-c wiring is for a bootloader, which can't erase the chip: {cure}. {other}; {UNOPENED}"))
     if len(writes) > 1:
         raise Fault(f"{ONE_WRITE}. {joined(writes, words.flash_pages() or [])}; {UNOPENED}")
 
