@@ -1182,7 +1182,7 @@ FOLLOWED = [
     (r"leave out -D, which erases all of flash, and EEPROM unless", lambda words, case, _: on_a_bootloader(words, case) if "loads" in case else without(words, "-D")),
     (r": (leave out -e, and )?use -D(, and give one image .* no page)?\. If", lambda words, case, _: "loads" in case and on_a_bootloader(words, case)),
     (r": leave out -e. If this is a programmer, it can't", lambda words, case, _: "loads" in case and without(words, "-e")),
-    (r"can't erase the chip: .*(use -D|leave out -e); nothing", on_a_bootloader),
+    (r"^-c wiring is for a bootloader, which can't", lambda words, case, _: on_a_bootloader(words, case) if "loads" in case else without(without(words, "-c"), "wiring")),
     (r"from 0 on without gaps", another_file),
     (r"lacks, and reads as 1: is -p right\?", lambda *_: None),
     (r"is -p right\?", lambda words, case, _: other_part(words, case["part"], "blink.hex")),

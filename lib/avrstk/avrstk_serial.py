@@ -447,10 +447,11 @@ def judge_bootloader(words: Words) -> None:
     writes, is_dry = [it for it in words.updates if it.writes_flash()], "-n" in words.flags
     cures = {"leave out -e": "-e" in words.flags, "use -D": writes and "-D" not in words.flags}
     cure = ", and ".join(it for it, is_needed in cures.items() if is_needed and not is_dry)
-    other = next((it for it in words.updates if words.is_version1 and it.memory not in ("flash", "signature")), None)
+    is_for, programmer = f"-c {words.programmer} is for a bootloader", f"With a programmer leave out -c {words.programmer}"
+    own = next((it for it in words.updates if words.is_version1 and it.memory not in ("flash", "signature")), None)
     refuse(
-        (cure, f"a bootloader can't erase the chip: {cure}; {UNOPENED}"),
-        (other, other and f"-U {other.given}: this bootloader has flash alone: use a programmer; {UNOPENED}"),
+        (cure, f"{is_for}, which can't erase the chip: {cure}. {programmer}; {UNOPENED}"),
+        (own, own and f"-U {own.given}: {is_for}, which has flash alone: use a programmer; {UNOPENED}"),
     )
     if len(writes) > 1 and words.is_wiring:
         raise Fault(f"{ONE_WRITE}. {joined(writes, words.flash_pages() or [])}; {UNOPENED}")
