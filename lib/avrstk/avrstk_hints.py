@@ -203,7 +203,6 @@ KINDS = {
 REFUSALS = {
     rf"update (\d+): ({'|'.join(KINDS)})$": lambda words, it: f"-U {words.given[int(it[1]) - 1]}: {KINDS[it[2]]}",
     ".*: not a number$": "a value is written as 0xE2, 0b11100010, 0342 or 226",
-    ".*: ELF is not read$": "an ELF file is read by its name, not from a pipe",
     "(.*): cannot be opened$": unopened,
     "no part ": no_part,
     r"(.*?): (?:line (\d+): )?(bad |line too long|no record mark|address (\w{8}) out of range)": unread,
@@ -214,7 +213,8 @@ REPLIED = {
     r"(\w+): address (\w+): (\w+) expected, (\w+) found": differs,
     r"signature is (\w\w \w\w \w\w)": another_part,
     "command 12 ": unerased,
-    "command 14 refused with status C1": f"flash outside the image is not FF, or the line is noisy: {SAME}",
+    "command 14 refused with status C1": "flash outside the image is not FF, or the line is noisy: {state}; "
+    "if it refuses again, use another one",
     "command 10 ": "the programmer can't reach the chip, which is unchanged: check wires, power, clock and reset pin",
     "command (17|19|1C) ": "a bootloader can't write fuses and the lock, or read the calibration: use a programmer",
     "no answer$": "the programmer stopped replying: check the cable and the power; {state}",
