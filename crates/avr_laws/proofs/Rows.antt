@@ -7,3 +7,5 @@ pub mod Kept
 pub mod OtherSignature
 pub mod Served
 pub mod Promise
+pub mod Loss
+pub mod Edges
