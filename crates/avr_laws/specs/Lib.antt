@@ -22,6 +22,7 @@ pub mod InMemory
 pub mod ChipFound
 pub mod Promise
 pub mod Worked
+pub mod WorkedLoss
 pub mod Killed
 -- the program, port by port
 pub mod KeptByPort

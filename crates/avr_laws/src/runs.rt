@@ -1,13 +1,13 @@
 //! What status 0 means. Laws of few bad frames, of a further run, and of worked outcomes.
 
-ghost use Rattle.std.specs.Prelude.{◌≡◌, ◌<◌, ◌*◌, ◌⊎◌, ℕ, true, false, List, [], All, Some, map};
+ghost use Rattle.std.specs.Prelude.{◌≡◌, ◌<◌, ◌*◌, ◌⊎◌, ℕ, true, false, List, [], ◌∷◌, All, Some, map};
 ghost use Rattle.avr_plan.specs.declared.settings.Settings.{Settings};
 ghost use Rattle.avr_desk.specs.Memory.{MemDeskState, Stock, memory_state, stock_of};
 ghost use Rattle.avr_desk.specs.Truth.{HoldsTrue};
 ghost use Rattle.avr_session.specs.Run.{RunsBetween};
 ghost use Rattle.ghosts.specs.Preserves.{Preserves};
 ghost use Rattle.stk_host.specs.Links.{ConsumesTape, TranscriptIsTrueSince, StreamState, TapeState, stream_state, tape_state};
-ghost use Rattle.avr_desk.specs.Record.{DeskState, ChangesRecord, Record};
+ghost use Rattle.avr_desk.specs.Record.{DeskState, ChangesRecord, Record, nothing_kept};
 ghost use Rattle.avr_laws.specs.Again.{AgreesOnTwoChips, ItemsKeepEeprom};
 ghost use Rattle.avr_tool.specs.OverFaultyLink.{SessionStopped, SessionOverWire, OverExchanges, Weight, total_weight, bodies_in, memories, events_over, wire_and_desk};
 ghost use Rattle.avr_laws.specs.AnyLink.{OverAnyWire, WholeSessionOverExchanges};
@@ -27,10 +27,12 @@ ghost use Rattle.avr_session.specs.Stopping.{IsSound, EndWithLine, keeping, link
 ghost use Rattle.avr_tool.specs.Headline.{IsRun, IsStopped};
 ghost use Rattle.avr_laws.specs.InMemory.{AreUnused, LeavesOutcome, LeavesOverStreams, RunOutcome, outcome_shown};
 ghost use Rattle.avr_laws.specs.Worked.{absent_outcome, absent_settings, worked_frames, fuse_plan, worked_lines, forged_replies, no_stock, worked_replies, worked_outcome, worked_settings};
+ghost use Rattle.avr_laws.specs.WorkedLoss.{image_read, loss_executions, loss_frames, loss_plan, loss_programmer, loss_replies, loss_updates, old_chip, old_file, received_first, received_later, tiny};
+ghost use Rattle.avr_laws.specs.ChipFound.{IsChipInFile};
 ghost use Rattle.stk_emu.specs.Device.{device};
 ghost use Rattle.stk_emu.specs.Effect.{memories_of, erase_keeps_eeprom, effects, memory_in};
 ghost use Rattle.avr_laws.specs.FewBadFrames.{AtMostThreeBadOfSeven};
-ghost use Rattle.avr_laws.specs.AskedPlan.{FileGave, IsAsked};
+ghost use Rattle.avr_laws.specs.AskedPlan.{AreTasksOf, FileGave, IsAsked};
 ghost use Rattle.avr_laws.specs.Kept.{HasGeometryOf, IsKept, NoneForged};
 ghost use Rattle.stk_emu.specs.Programmer.{Programmer, fresh_programmer};
 ghost use Rattle.stk_host.specs.Play.{IsBytePrefixOf};
@@ -43,7 +45,7 @@ ghost use Rattle.stk_frame.specs.Cut.{body_of, frames};
 ghost use Rattle.stk_emu.specs.Exchange.{Execution, Exchange};
 ghost use Rattle.avr_laws.specs.AnyTape.{ReceivedSentFrames, after_received_bytes};
 ghost use Rattle.avr_laws.specs.NoForgedFrame.{ForgesNoFrame};
-ghost use Rattle.stk_host.specs.Dialog.{Event, played, bytes_sent, outputs};
+ghost use Rattle.stk_host.specs.Dialog.{Event, played, bytes_sent, frames_in, outputs};
 ghost use Rattle.stk_host.specs.Transcript.{Transcript, heard, sent};
 ghost use Rattle.stk_host.specs.Tape.{Tape};
 
@@ -81,6 +83,22 @@ pub fn status_0_means_the_images<D: Desk, L: Link>(
 {
     run(alloc, settings, desk, link)
 }
+
+/// States that all premises of status 0 hold together in a worked run over a bad link, which ended with status 0. The
+/// link brought a reply late, damaged a command and lost another one, and the programmer restarted. The image is what a
+/// file holds, and the chip that of a chip file.
+// Proof: the lemmas of Rows/Loss.
+pub fn a_run_over_a_bad_link_meets_all_premises()
+    ensures image { AreTasksOf (FileGave nothing_kept image_read) tiny loss_updates loss_plan.tasks }
+    ensures ends { (played (session loss_plan) 1 loss_replies).outcome ≡ Some (0, 17, []) }
+    ensures sends { frames_in (played (session loss_plan) 1 loss_replies).events ≡ loss_frames }
+    ensures chip { IsChipInFile tiny (Some old_file) old_chip × IsSoundChip old_chip
+        × HasGeometryOf tiny old_chip.part }
+    ensures came { ReceivedSentFrames received_first (received_later ∷ []) loss_frames loss_executions }
+    ensures forged { NoneForged device loss_frames loss_replies loss_programmer loss_executions [] }
+    ensures left { (after_received_bytes device received_first (received_later ∷ []) loss_programmer).chip.flash
+        ≡ 0x12 ∷ 0x34 ∷ 0xFF ∷ 0xFF ∷ 0xFF ∷ 0xFF ∷ 0xFF ∷ 0xFF ∷ [] }
+{}
 
 /// States that a broken-off run and the same run with status 0 leave what one run leaves, if no frame is forged, except
 /// for one fuse case. The first sent any prefix of its bytes: it was killed, or its link failed. The programmer may

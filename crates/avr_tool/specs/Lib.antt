@@ -22,6 +22,7 @@ pub use Rattle.stk_emu.specs.DialogOverExchanges
 pub use Rattle.stk_emu.specs.Device
 pub use Rattle.stk_emu.specs.Effect
 pub use Rattle.stk_emu.specs.Emulator
+pub use Rattle.stk_emu.specs.Lawful
 pub use Rattle.stk_emu.specs.Programmer
 pub use Rattle.stk_emu.specs.Settled
 pub use Rattle.stk_emu.specs.Exchange

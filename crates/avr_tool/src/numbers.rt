@@ -1,6 +1,6 @@
 //! The numbers of files, frames and runs, in one law.
 
-ghost use Rattle.std.specs.Prelude.{◌≡◌, ◌∷◌, ◌+◌, ◌/◌, [], List, ℕ, length, nat_le, nat_lt, Err, if◌then◌else◌};
+ghost use Rattle.std.specs.Prelude.{◌≡◌, ◌≤◌, ◌==◌, ◌&&◌, ◌∷◌, ◌+◌, ◌/◌, ◌%◌, [], List, ℕ, filter, length, nat_le, nat_lt, not, Err, if◌then◌else◌};
 ghost use Rattle.avr_plan.specs.Settings.{updates_from, updates_of};
 ghost use Rattle.avr_plan.specs.declared.settings.SettingsFault.TheVariants.{TooMany};
 ghost use Rattle.avr_plan.specs.declared.update.Format.{Format as AnyFormat};
@@ -13,6 +13,10 @@ ghost use Rattle.avr_plan.specs.ImageFile.{image_within};
 ghost use Rattle.avr_plan.specs.Lines.{bad_file_line, part_file_line};
 ghost use Rattle.avr_plan.specs.Planning.{checked_image, checked_parts, or_line};
 ghost use Rattle.avr_records.specs.Record.{longest};
+ghost use Rattle.stk_emu.specs.Lawful.{IsLawful};
+ghost use Rattle.stk_emu.specs.Programmer.{Programmer, block_response, flash_reads, if_programming, read_flash, with_address_moved};
+ghost use Rattle.stk_frame.specs.Cut.{cut, is_good};
+ghost use Rattle.stk_frame.specs.declared.command.ReadBlock.{ReadBlock};
 ghost use Rattle.stk_frame.specs.declared.protocol.TheConstants.{MESSAGE_START, TOKEN, LARGEST_BODY, LARGEST_FRAME, EXTENDED_ADDRESS};
 ghost use Rattle.stk_frame.specs.declared.protocol.TheConstants.{CMD_SIGN_ON, CMD_SET_PARAMETER, CMD_GET_PARAMETER, CMD_LOAD_ADDRESS, CMD_ENTER_PROGMODE_ISP, CMD_LEAVE_PROGMODE_ISP, CMD_CHIP_ERASE_ISP, CMD_PROGRAM_FLASH_ISP, CMD_READ_FLASH_ISP, CMD_PROGRAM_EEPROM_ISP, CMD_READ_EEPROM_ISP, CMD_PROGRAM_FUSE_ISP, CMD_READ_FUSE_ISP, CMD_PROGRAM_LOCK_ISP, CMD_READ_LOCK_ISP, CMD_READ_SIGNATURE_ISP, CMD_READ_OSCCAL_ISP, CMD_SPI_MULTI};
 ghost use Rattle.stk_frame.specs.declared.protocol.TheConstants.{STATUS_CMD_OK, STATUS_CMD_TOUT, STATUS_RDY_BSY_TOUT, STATUS_SET_PARAM_MISSING, STATUS_CMD_FAILED, STATUS_CKSUM_ERROR, STATUS_CMD_UNKNOWN, ANSWER_CKSUM_ERROR};
@@ -39,6 +43,12 @@ pub fn the_numbers_are()
         (if nat_lt 131072 part.flash_size then start / 2 + EXTENDED_ADDRESS else start / 2) }
     ensures extended { EXTENDED_ADDRESS ≡ 2147483648 }
     ensures reads { READS ≡ 16777216 }
+    ensures block { (f : ReadBlock) (p : Programmer) → read_flash f p ≡
+        if_programming 0x14 p (not (f.count == 0) && f.count % 2 == 0 && nat_le f.count 272)
+        (block_response 0x14 (flash_reads p.wide f.cmd1 p.address 0 f.count p.chip)
+        (with_address_moved (f.count / 2) p)) }
+    ensures noise { (noise : List ℕ) → IsLawful noise → length noise ≤ 2048 }
+    ensures all_noise { (noise : List ℕ) → length noise ≤ 2048 → filter is_good (cut noise) ≡ [] → IsLawful noise }
     ensures commands { CMD_SIGN_ON ∷ CMD_SET_PARAMETER ∷ CMD_GET_PARAMETER ∷ CMD_LOAD_ADDRESS ∷ []
         ≡ 0x01 ∷ 0x02 ∷ 0x03 ∷ 0x06 ∷ [] }
     ensures modes { CMD_ENTER_PROGMODE_ISP ∷ CMD_LEAVE_PROGMODE_ISP ∷ CMD_CHIP_ERASE_ISP ∷ CMD_SPI_MULTI ∷ []

@@ -26,7 +26,7 @@ use Rattle.avr_laws.specs.Kept.{FilesAreSaved, HasGeometryOf, KeepsOnPart, named
 use Rattle.avr_laws.specs.Worked.{worked_frames, worked_replies, worked_settings}
 use Rattle.avr_laws.proofs.Rows.Kept.{programmer, first, second, third, fourth, fifth, sixth}
 
-abbrev m328 : Part
+abbrev pub m328 : Part
 m328 = record m328p { id = codes "m328"; signature = 0x1E ∷ 0x95 ∷ 0x14 ∷ [] }
 
 abbrev plan : Bool → Plan

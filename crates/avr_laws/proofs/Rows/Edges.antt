@@ -1,0 +1,81 @@
+-- What the definitions of the promise refuse at their edges: a weaker definition doesn't meet one of these.
+use Rattle.std.proofs.Common.{◌≡◌, ap, subst, arith, ℕ, zero, suc, List, [], ◌∷◌, ◌++◌, ◌∙◌, length, refl, inl, inr, Option, Some, true}
+use Rattle.std.specs.Prelude.{codes, replicate, slice_index}
+use Rattle.avr_plan.specs.declared.update.Format.TheVariants.{Raw}
+use Rattle.avr_desk.specs.Record.{Bytes, Record}
+use Rattle.avr_image.specs.Image.{from_zero}
+use Rattle.avr_part.specs.BuiltIn.{m328p}
+use Rattle.avr_plan.specs.Plan.{Plan}
+use Rattle.stk_emu.specs.Effect.{Memories}
+use Rattle.stk_frame.specs.Frame.{frame}
+use Rattle.avr_laws.proofs.Held.Chip.{from_file}
+use Rattle.avr_laws.proofs.Rows.OtherSignature.{m328}
+use Rattle.avr_laws.specs.AskedPlan.{FileGave, HasImage}
+use Rattle.avr_laws.specs.ChipFound.{IsChipInFile}
+use Rattle.avr_laws.specs.Kept.{KeepsOnPart}
+use Rattle.avr_laws.specs.KeptByPort.{IsKeptInFile}
+use Rattle.avr_laws.specs.NoForgedFrame.{IsAmongFirst, IsNotForged}
+use Rattle.avr_laws.specs.Worked.{worked_settings}
+use Rattle.avr_laws.specs.WorkedLoss.{image_read, old_file}
+
+-- ---- a reply that is 255 frames late isn't forged, and one that is 256 late is
+
+abbrev late : List ℕ
+late = frame 1 (0x01 ∷ 0x00 ∷ [])
+
+-- the replies so far, the last one first, if those since this one were lost
+abbrev since : ℕ → List (List ℕ)
+since count = replicate count [] ++ late ∷ []
+
+still_among : (count : ℕ) → IsAmongFirst (suc count) (since count) late
+still_among zero = inl refl
+still_among (suc count) = inr (still_among count)
+
+no_longer_among : (count : ℕ) → IsAmongFirst count (since count) late → ⊥
+no_longer_among zero among = among
+no_longer_among (suc count) (inl same) = cc
+no_longer_among (suc count) (inr among) = no_longer_among count among
+
+pub late_by_255 : IsNotForged (since 255) late
+late_by_255 good = inr (still_among 255)
+
+pub late_by_256 : IsNotForged (since 256) late → ⊥
+late_by_256 not_forged = elim (not_forged refl) [ inl same ↦ cc | inr among ↦ no_longer_among 256 among ]
+
+-- ---- a file that was read before the run gives no text
+
+pub read_before : (name text : Bytes) → FileGave image_read image_read name text → ⊥
+read_before name text gave = let none = gave.1 in omega (arith, none)
+
+-- ---- a file of 4,194,304 bytes gives an image, and a longer one doesn't
+
+pub longest_file : (text : Bytes) → length text ≡ 4194304
+    → HasImage (λ name given. given ≡ text) (codes "image") Raw 4194304 (from_zero text 4194304)
+longest_file text is = (text, refl, omega (arith, is), (omega (arith, is), refl))
+
+pub longer_file : (text : Bytes) (size : ℕ) (image : List (Option ℕ)) → length text ≡ 4194305
+    → HasImage (λ name given. given ≡ text) (codes "image") Raw size image → ⊥
+longer_file text size image is has =
+    let few = has.2 in let same : length has.0 ≡ 4194305 = ap length has.1 ∙ is in omega (arith, few, same)
+
+-- ---- a chip file of another part
+
+abbrev plan : Plan
+plan = record { part = m328p; tasks = []; switches = worked_settings.switches }
+
+pub another_part : (name : Bytes) (old new : Record) (kept : IsKeptInFile name plan old new)
+    → kept.found ≡ Some old_file → ⊥
+another_part name old new kept is =
+    let size = (from_file m328p (Some old_file) kept.chip
+    (subst (λ (found : Option Bytes). IsChipInFile m328p found kept.chip) is kept.was)).0 in
+    omega (arith, size)
+
+-- ---- another signature, without -F, also if the run is dry
+
+abbrev dry_plan : Plan
+dry_plan = record { part = m328; tasks = []; switches = record worked_settings.switches { dry = true } }
+
+pub dry_not_forced : (before after : Memories) (old now : Record)
+    → KeepsOnPart m328p dry_plan before after old now → ⊥
+dry_not_forced before after old now kept =
+    let last : 0x0F ≡ 0x14 = ap (λ (bytes : Bytes). slice_index bytes 2) (kept.signature refl) in omega (arith, last)
