@@ -7,9 +7,6 @@ pub mod Kept
 pub mod OtherSignature
 pub mod Served
 pub mod Promise
-<<<<<<< HEAD
 pub mod Folder
-=======
 pub mod Loss
 pub mod Edges
->>>>>>> law
