@@ -9,3 +9,4 @@ pub mod Served
 pub mod Promise
 pub mod Loss
 pub mod Edges
+pub mod Begun
