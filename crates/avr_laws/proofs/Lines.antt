@@ -2,5 +2,6 @@
 pub mod Ends
 pub mod AnyTape
 pub mod NoForgedFrame
+pub mod FirstFrames
 pub mod MadeFrame
 pub mod Damaged

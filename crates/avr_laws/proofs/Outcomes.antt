@@ -7,6 +7,7 @@ pub mod Promise
 pub mod OtherPart
 pub mod OwnSignature
 pub mod Kept
+pub mod Begun
 pub mod TwoRuns
 pub mod OverDamage
 pub mod Refused

@@ -10,3 +10,4 @@ pub mod Promise
 pub mod Folder
 pub mod Loss
 pub mod Edges
+pub mod Begun

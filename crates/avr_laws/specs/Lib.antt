@@ -26,6 +26,7 @@ pub mod WorkedLoss
 pub mod Killed
 -- the program, port by port
 pub mod KeptByPort
+pub mod BegunByPort
 -- two processes
 pub mod TwoProcesses
 -- of the crates below, the definitions that public contracts cite

@@ -54,7 +54,9 @@ pub use planning::{
     a_plan_fits_its_part, a_plan_is_of_whole_files, a_plan_is_the_one_asked_for,
     a_plan_only_reads_and_warns, a_sound_plan_is_refused_aloud, what_is_promised_is_what_runs_do,
 };
-pub use program::a_program_with_status_0_kept_its_plan;
+pub use program::{
+    a_program_with_status_0_kept_its_plan, whatever_the_status_first_write_operations_were_made,
+};
 pub use runs::{
     a_forged_frame_voids_the_promise, a_further_run_repairs, a_run_in_memory_has_one_outcome,
     a_run_in_memory_is_a_function_of_its_files, a_run_over_a_bad_link_meets_all_premises,

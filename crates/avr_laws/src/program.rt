@@ -2,6 +2,7 @@
 ghost use Rattle.std.specs.Prelude.{◌≡◌, []};
 ghost use Rattle.avr_desk.specs.Handles.{IsTrueRecord};
 ghost use Rattle.avr_desk.specs.Shown.{IsNewDesk, IsTrueSince as IsTrueDesk};
+ghost use Rattle.avr_laws.specs.BegunByPort.{BeginsCommandLine};
 ghost use Rattle.avr_laws.specs.KeptByPort.{KeepsCommandLine};
 ghost use Rattle.avr_tool.specs.Sockets.{IsOverAddress};
 ghost use Rattle.stk_host.specs.Links.{TranscriptIsTrueSince};
@@ -43,6 +44,32 @@ pub fn a_program_with_status_0_kept_its_plan<
     // The messages took what the record has of them. So did standard output, if no created file is the output, too.
     ensures shows { IsTrueDesk S.FileSystem S.File.Read S.File.Write S.Input.Read O.Write M.Write desk.old desk.new }
     ensures streams { TranscriptIsTrueSince R.remaining W.contents link.old link.new }
+{
+    run_command_line(line, network, alloc, desk, link)
+}
+
+/// Runs a command line as [`a_program_with_status_0_kept_its_plan`] does. States what its run made of a chip behind a
+/// link, whatever its status: the first write operations of the plan that the command line and the opened files ask
+/// for, in order, and nothing else. The chip has the plan's part. Over the emulator this law states nothing.
+// Proof: `words_begun` (Outcomes/Begun), by `first_go_along` (Lines/FirstFrames).
+pub fn whatever_the_status_first_write_operations_were_made<
+    C: CommandLine,
+    N: Network,
+    S: FileSystem + Drop,
+    O: Outlet + Drop,
+    M: Outlet + Drop,
+    R: Read + Drop,
+    W: Write + Drop,
+>(
+    line: &C,
+    network: N,
+    alloc: Global,
+    desk: &mut SystemDesk<S, O, M>,
+    link: &mut StreamLink<R, W>,
+) -> u8
+    ensures begun { link.old.transcript ≡ []
+        → BeginsCommandLine C.is_words (IsOverAddress N.Network N.Stream.Read N.Stream.Write N.Stream.closed)
+        N.Network.unused link.new.transcript desk.old.kept desk.new.kept }
 {
     run_command_line(line, network, alloc, desk, link)
 }

@@ -103,7 +103,7 @@ module _ {P : Type 0} (m : Device P) where
       by_sent NotExecuted (inr (inl same)) = absurd (none_good t.0 same good)
       by_sent (ThenRestarted execution) (inr (inl same)) = by_sent execution (inr (inl same))
 
-  by_reading : (n : ℕ) (bytes : List ℕ) (p : P) (execution : Execution) (before : List (List ℕ)) (reading : Reading)
+  pub by_reading : (n : ℕ) (bytes : List ℕ) (p : P) (execution : Execution) (before : List (List ℕ)) (reading : Reading)
       (tape left : Tape) → answer n tape ≡ Some (reading, left) → Past n 1 before
       → AreNotForged n (frame_of_reply m n bytes p execution
       ∷ before) (cut (take reply_byte_limit (leading_bytes tape))) → IsAuthentic m bytes p execution reading
@@ -119,7 +119,7 @@ module _ {P : Type 0} (m : Device P) where
   its_number n bytes p Executed = search rules
   its_number n bytes p (ThenRestarted execution) = its_number n bytes p execution
 
-  more_past : (n : ℕ) (bytes : List ℕ) (p : P) (execution : Execution) (before : List (List ℕ)) → Past n 1 before
+  pub more_past : (n : ℕ) (bytes : List ℕ) (p : P) (execution : Execution) (before : List (List ℕ)) → Past n 1 before
       → Past (next n) 1 (frame_of_reply m n bytes p execution ∷ before)
   more_past n bytes p execution before past = (its_number n bytes p execution, further_back n 1 before past)
 
