@@ -1,7 +1,7 @@
 -- A chip file holds the chip that is read from it, place by place.
-use Rattle.std.proofs.Common.{◌≡◌, ◌∙◌, ◌+◌, ◌≤◌, ap, sym, subst, ℕ, List, [], ◌∷◌, ◌++◌, length, take, drop, get_or, refl, arith, Option, Some, None, length-append, rules}
+use Rattle.std.proofs.Common.{◌≡◌, ◌+◌, ◌≤◌, sym, subst, ℕ, List, [], ◌∷◌, length, drop, refl, arith, Option, Some, None, length-append, rules}
 use Rattle.std.proofs.lemmas.List.{length-drop, length-take-le}
-use Rattle.avr_part.specs.ChipFile.{chip_file, chip_file_size, state_from_file}
+use Rattle.avr_part.specs.ChipFile.{chip_file_size, state_from_file}
 use Rattle.avr_part.specs.Part.{Part}
 use Rattle.avr_part.specs.State.{ChipState as Chip, fresh_state}
 use Rattle.avr_part.proofs.ChipFiles.{eeprom_part, flash_part, fuse_part, written_again}

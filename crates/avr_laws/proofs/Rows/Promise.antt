@@ -1,7 +1,7 @@
 -- Nothing in the promise is empty. First a run that meets all its premises, and what this run kept. It is `-p m328p
 -- -U lfuse:w:0xE2:m` over a fresh chip, on a link that loses nothing. Then worlds that meet relations of the law, and
 -- worlds that these refuse. docs/PROOFS.md has the table.
-use Rattle.std.proofs.Common.{◌≡◌, ◌∙◌, ap, sym, subst, refl, arith, rules, ℕ, true, ◌<◌, List, [], ◌∷◌, ◌++◌, length, append-nil, Option, Some, None, Result, Ok, Err}
+use Rattle.std.proofs.Common.{◌≡◌, ◌∙◌, ap, sym, subst, refl, arith, rules, ℕ, true, ◌<◌, List, [], ◌∷◌, ◌++◌, length, append-nil, Option, Some, None, Result, Ok}
 use lib.Utf8.{encode}
 use Rattle.std.proofs.lemmas.List.{length-replicate}
 use Rattle.std.proofs.lemmas.List.Elements.{All-cons, All-nil, All-replicate}
@@ -35,8 +35,6 @@ use Rattle.avr_part.specs.ChipFile.{chip_file}
 use Rattle.avr_part.specs.Part.{Part, IsPart}
 use Rattle.avr_part.specs.Sound.{IsSoundChip}
 use Rattle.avr_part.specs.State.{ChipState as Chip, fresh_state}
-use Rattle.avr_part.specs.declared.fault.PartFault.{PartFault}
-use Rattle.avr_part.specs.declared.fault.PartFault.TheVariants.{NoSuchPart}
 use Rattle.avr_part.specs.declared.part.Mem.TheVariants.{Lfuse}
 use Rattle.avr_plan.specs.Plan.{Plan, IsFitted}
 use Rattle.avr_plan.specs.declared.planned.Task.TheVariants.{Write}
