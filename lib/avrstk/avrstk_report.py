@@ -23,7 +23,8 @@ KINDS = {
     r"command \w\w refused": "refused",
     r"\w+: address \w+: \w+ expected, \w+ found$": "mismatch",
     r"no answer|link |command \w\w: bad answer$": "line",
-    r".*: (cannot be |in use by |not a regular |line \d+: |bad |line too long|no record mark|address |\d+ bytes, )": "file",
+    r".*: (cannot be |in use by |not a regular |line \d+: |\d+ bytes, )": "file",
+    r".*: (bad |line too long|no record mark|address )": "file",
 }
 
 
@@ -71,7 +72,7 @@ class Report:
         return counts.get(id(update))
 
     def update(self, update) -> dict:
-        """Returns what became of one -U. The digest is that of the bytes that the script read, or of the file read into."""
+        """Returns what became of one -U. The digest is that of the image as it was read, or of the file read into."""
         held = self.words.contents.get(update.file) if update.is_image else None
         if update.operation == "r" and os.path.isfile(update.file):
             with contextlib.suppress(OSError), open(update.file, "rb") as file:

@@ -1,8 +1,8 @@
 """avrstk-serial: the command line, and runs of avrstk with a programmer on a serial device."""
 
 from avrstk_common import BUILT_IN, HELP, READ, WRITE, Fault, Frames, Way, asked, came, data_file, ended_by, first
-from avrstk_common import heed_signals, is_frame, messages, parts, ready, refuse, run, say, session_program, show, version
-from avrstk_common import wait
+from avrstk_common import heed_signals, is_frame, messages, parts, ready, refuse, run, say, session_program, show
+from avrstk_common import version, wait
 from avrstk_backup import asking, back_up, restored
 from avrstk_report import Report, write
 from avrstk_hints import LEAVE, NO_CHIP, NO_SIGNATURES, ONE_IMAGE, SIGN_ON, hint, state_of
@@ -369,7 +369,7 @@ class Run:
 
 
 def other_program():
-    """Returns the program that AVRSTK_ELSE names, or None. A link to this script, such as one named avrdude, is none."""
+    """Returns the program that AVRSTK_ELSE names, or None. A link to this script, as one named avrdude, is none."""
     name, own = os.environ.get("AVRSTK_ELSE", ""), os.path.realpath(sys.argv[0])
     folders = [""] if "/" in name else os.environ.get("PATH", os.defpath).split(os.pathsep)
     places = [os.path.join(it, name) for it in folders if name]
@@ -462,7 +462,8 @@ def judge_bootloader(words: Words) -> None:
     writes, is_dry = [it for it in words.updates if it.writes_flash()], "-n" in words.flags
     cures = {"leave out -e": "-e" in words.flags, "use -D": writes and "-D" not in words.flags}
     cure = ", and ".join(it for it, is_needed in cures.items() if is_needed and not is_dry)
-    is_for, programmer = f"-c {words.programmer} is for a bootloader", f"With a programmer leave out -c {words.programmer}"
+    name = f"-c {words.programmer}"
+    is_for, programmer = f"{name} is for a bootloader", f"With a programmer leave out {name}"
     own = next((it for it in words.updates if words.is_version1 and it.memory not in ("flash", "signature")), None)
     refuse(
         (cure, f"{is_for}, which can't erase the chip: {cure}. {programmer}; {UNOPENED}"),
