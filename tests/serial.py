@@ -463,7 +463,8 @@ def ports_of_avrstk():
     # (avrstk has ended, too: else its output stays open)
     same("a signal", (started.stdout.read(), started.wait(PATIENCE)), (b"", 1))
     status, output, told, own = run(["-c", "?"])
-    same("-c ?", (status, told, own, output.split()), (0, b"", [], [b"avrispv2", b"stk500", b"stk500v2", b"wiring"]))
+    names = b"avrispv2 stk500 stk500v2 wiring arduino arduino_as_isp stk500v1 avrisp".split()
+    same("-c ?", (status, told, own, output.split()), (0, b"", [], names))
 
 
 def devices():
