@@ -80,7 +80,7 @@ _avrstk_value() {
             esac ;;
         -U) _avrstk_update ;;
         -b) [ "$script" = avrstk ] || _avrstk_behind "" "9600 19200 38400 57600 115200 250000" ;;
-        --parts | --chip | --backup | --restore | -l | -C) _avrstk_behind "" ;;
+        --parts | --chip | --backup | --restore | --json | -l | -C) _avrstk_behind "" ;;
         --lose | --lose-reply | --corrupt | --corrupt-reply | --late | --drop)
             _avrstk_behind "" "CHIP_ERASE PROGRAM_FLASH READ_FLASH LOAD_ADDRESS ENTER_PROGMODE SIGN_ON 1 2%" ;;
     esac
@@ -92,7 +92,7 @@ _avrstk() {
     script=${line%%[[:blank:]]*}
     script=${script##*/}
     case $script in
-        avrstk-serial) options="-p -c -P -U -e -D -V -n -F -A -q -b -v -C -l --parts --wait --retry --backup --restore --version -h --help" ;;
+        avrstk-serial) options="-p -c -P -U -e -D -V -n -F -A -q -b -v -C -l --parts --wait --retry --backup --restore --json --version -h --help" ;;
         avrstk-serve) options="-p --chip --parts --idle --timeout --listen --pty --log --log-limit --lose --lose-reply --corrupt --corrupt-reply --late --drop --seed --bootloader --locked --no-chip --version -h --help" ;;
         *) script=avrstk ;;
     esac
@@ -107,7 +107,7 @@ _avrstk() {
     before=${before##*[[:blank:]]}
     value=$typed
     case $before in
-        -[pcPUblC] | --parts | --chip | --serve | --wait | --idle | --timeout | --retry | --backup | --restore | --listen | --pty | --log | --log-limit | --lose | --lose-reply | --corrupt | --corrupt-reply | --late | --drop | --seed) found=$(_avrstk_value "$before") ;;
+        -[pcPUblC] | --parts | --chip | --serve | --wait | --idle | --timeout | --retry | --backup | --restore | --json | --listen | --pty | --log | --log-limit | --lose | --lose-reply | --corrupt | --corrupt-reply | --late | --drop | --seed) found=$(_avrstk_value "$before") ;;
         *) case $typed in
             --parts=* | --chip=*)
                 front=${typed%%=*}=

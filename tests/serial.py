@@ -15,6 +15,7 @@ import ast
 import bz2
 import fcntl
 import gzip
+import hashlib
 import io
 import itertools
 import json
@@ -213,9 +214,26 @@ def speed(line):
 
 
 def over(words, board=None, **more):
-    """Runs these options over a board. Returns what `run` does, and the chip."""
-    it = Board(**(board or {}))
-    return *run([*words, "-P", it.device], **more), it.end()
+    """Runs these options over a board. Returns what `run` does, and the chip. The run's report has to fit its schema."""
+    it, name = Board(**(board or {})), f"report{next(boards)}.json"
+    found = *run([*words, "-P", it.device, "--json", name], **more), it.end()
+    if it.opened:
+        same(f"{words}: the status in its report", report_of(name)["status"], found[0])
+    return found
+
+
+def report_of(name):
+    """Returns a report, which has to fit its schema (if jsonschema is installed)."""
+    report = json.loads(room.read(name))
+    try:
+        import jsonschema
+    except ModuleNotFoundError:
+        return report
+    try:
+        jsonschema.validate(report, json.loads((TOP / "docs/report.schema.json").read_text()))
+    except jsonschema.ValidationError as fault:
+        see(f"{name}: its fields", False, fault.message)
+    return report
 
 
 def run_as_anyone(words, program):
@@ -445,7 +463,8 @@ def ports_of_avrstk():
     # (avrstk has ended, too: else its output stays open)
     same("a signal", (started.stdout.read(), started.wait(PATIENCE)), (b"", 1))
     status, output, told, own = run(["-c", "?"])
-    same("-c ?", (status, told, own, output.split()), (0, b"", [], [b"avrispv2", b"stk500", b"stk500v2", b"wiring"]))
+    names = b"avrispv2 stk500 stk500v2 wiring arduino arduino_as_isp stk500v1 avrisp".split()
+    same("-c ?", (status, told, own, output.split()), (0, b"", [], names))
 
 
 def devices():
@@ -1498,6 +1517,52 @@ def signals():
         it.end()
 
 
+def reports():
+    """--json writes what a run did: kinds of failures, the chip, each update; also after a signal, and on the output."""
+    try:
+        import jsonschema  # noqa: F401
+    except ModuleNotFoundError:
+        leave_out("the schema of reports", "python3-jsonschema is not installed")
+    for board, words, kind, chip, error in table("reports"):
+        it = Board(**board_of(board.strip("-")))
+        words = ["-p", "m328p", "-P", it.device, *words.split(), "--json", "report.json"]
+        status, *_, own = run(words)
+        it.end()
+        found, what = report_of("report.json"), f"{board}, {words}"
+        same(what, (found["status"], found["kind"] or "-", found["chip"]), (status, kind, chip))
+        see(f"{what}: its error", (found["error"] or "").startswith(error) and bool(error) == bool(found["error"]), found["error"])
+        see(f"{what}: its hint", found["hint"] is None or found["hint"] in own, (found["hint"], own))
+    held = room.read("blink.hex")
+    it = Board(answer=lambda reply, lost=iter([b""]): next(lost, reply) if reply[5] == 0x13 else reply)
+    output = run(["-p", "m328p", "-P", it.device, "-U", "flash:w:blink.hex", "-U", "flash:r:back.hex:i", "--json", "-"])[1]
+    it.end()
+    found, (wrote, read) = json.loads(output), json.loads(output)["updates"]
+    same("an image", (wrote["bytes"], wrote["written"], wrote["verified"]), (len(held), 228, 228))
+    same("its digest", wrote["sha256"], hashlib.sha256(held).hexdigest())
+    same("a file", (read["read"], read["sha256"]), (228, hashlib.sha256(room.read("back.hex")).hexdigest()))
+    same("one lost reply", (found["repeated"], found["retries"], found["signature"]), (1, 0, "1E 95 0F"))
+    same("all commands", found["commands"], len(list(frames_of_stream(it.heard))))
+    reached = threading.Event()
+    it = Board(answer=lambda reply: reached.set() or b"" if reply[5] == 0x13 else reply)
+    started = start([*FLASH, "-P", it.device, "--json", "report.json"])
+    see("it is reached", reached.wait(PATIENCE))
+    started.send_signal(signal.SIGTERM)
+    started.communicate(timeout=PATIENCE)
+    it.end()
+    found = report_of("report.json")
+    same("after a signal", (found["kind"], found["chip"]), ("interrupted", "erased or partly written"))
+    room.put("report.json", b"old")
+    same("a folder that isn't there", run([*FLASH, "-P", "emu:c.bin", "--json", "no/report.json"])[0], 1)
+
+
+def frames_of_stream(heard):
+    """Yields the frames of these bytes."""
+    while heard:
+        size = 6 + int.from_bytes(heard[2:4], "big")
+        yield heard[:size]
+        heard = heard[size:]
+
+
 def cut_lines():
     """If a signal cuts a line of avrstk, the script ends that line before its own."""
     halts = room.folder / "halts"
@@ -1763,7 +1828,7 @@ CASES = named(
     *(ports_of_avrstk, speeds_that_a_device_has_not, lines_of_a_board, bits_that_do_not_exist, lists, retries),
     *(retries_that_are_refused, the_part_of_the_chip, hints, elf_files, elf_files_with_faults, each_hint, hints_over_each_memory),
     *(hints_that_are_followed, progress, few_lines, backups, warnings, images_that_are_read_once, over_a_bootloader),
-    *(files_of_one_command, signals, cut_lines, closed_streams),
+    *(files_of_one_command, reports, signals, cut_lines, closed_streams),
     *(messages_that_nobody_reads, one_run_at_a_time, settings_that_are_kept, devices_that_go, strangers),
     *(names_and_interrupts, recipe_of_the_script, recipe_of_a_plain_bridge, recipe_of_ser2net),
 )

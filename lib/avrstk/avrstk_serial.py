@@ -1,9 +1,10 @@
 """avrstk-serial: the command line, and runs of avrstk with a programmer on a serial device."""
 
 from avrstk_common import BUILT_IN, HELP, READ, WRITE, Fault, Frames, Way, asked, came, data_file, ended_by, first
-from avrstk_common import heed_signals, is_frame, messages, parts, ready, refuse, run, say, session_program, show, version
-from avrstk_common import wait
+from avrstk_common import heed_signals, is_frame, messages, parts, ready, refuse, run, say, session_program, show
+from avrstk_common import version, wait
 from avrstk_backup import asking, back_up, restored
+from avrstk_report import Report, write
 from avrstk_hints import LEAVE, NO_CHIP, NO_SIGNATURES, ONE_IMAGE, SIGN_ON, hint, state_of
 from avrstk_version1 import SPEEDS, Bridge
 from avrstk_words import FORMATS, FUSES, UNOPENED, Words, long_name, parts_of
@@ -242,8 +243,10 @@ class Run:
 
     def __init__(self, words, earlier=frozenset(), put=messages.put):
         self.words, self.earlier, self.put = words, earlier, put
-        self.progress, self.frames, self.commands = Progress(words), Frames(), set()
+        self.progress, self.frames, self.replies, self.commands = Progress(words), Frames(), Frames(), set()
         self.error, self.kept, self.status = "", b"", None
+        # commands that were sent, those among them that were sent again, and the last two without a reply
+        self.sent, self.repeated, self.silent = 0, 0, {}
         self.left_at_error = self.silenced = self.was_opened = False
         # the files to close, and the ways between avrstk and the device
         self.port, self.ways = None if words.has_port else socket.create_server(("127.0.0.1", 0)), []
@@ -266,6 +269,7 @@ class Run:
             self.progress.what, self.progress.drawn = None, 0.0
             shown = self.words.shown(it)
             self.put(shown + b"\n")
+            self.words.report.note(os.fsdecode(shown).partition("avrstk: ")[2])
             # (several updates may have one file: only the name that avrstk got tells which one is faulty)
             text = os.fsdecode(shown if it.endswith(b": cannot be opened") else it).partition("avrstk: ")[2]
             if text.startswith("error: ") and not self.error:
@@ -307,15 +311,23 @@ class Run:
             if self.words.is_wiring and it[5] == LEAVE and LEAVE in self.commands:
                 self.device.pulse()
                 time.sleep(float(self.words.wait))
+            self.count(it)
             self.commands.add(it[5])
             self.progress.frame(it[5:-1])
         return piece
+
+    def count(self, frame: bytes) -> None:
+        """Counts a command, which is sent again if it is one of the last two and got no reply."""
+        self.sent, self.repeated = self.sent + 1, self.repeated + (frame[5:-1] in self.silent.values())
+        self.silent = {**dict(list(self.silent.items())[-1:]), frame[1]: frame[5:-1]}
 
     def note_replies(self, piece):
         """Notes at which speed the device replies, and whether it sends bytes after ten seconds, but no valid reply."""
         if self.words.is_version1 and len(self.words.speeds) > 1 and self.device.programmer.speed:
             self.words.speeds = (self.device.programmer.speed,)
             self.words.note(f"the device replies at {self.words.baud} baud")
+        for it in filter(is_frame, self.replies.pieces(piece)):
+            self.silent.pop(it[1], None)
         self.silenced |= bool(piece) and time.monotonic() > self.talks_until and self.commands <= {SIGN_ON, LEAVE}
         return piece
 
@@ -357,7 +369,7 @@ class Run:
 
 
 def other_program():
-    """Returns the program that AVRSTK_ELSE names, or None. A link to this script, such as one named avrdude, is none."""
+    """Returns the program that AVRSTK_ELSE names, or None. A link to this script, as one named avrdude, is none."""
     name, own = os.environ.get("AVRSTK_ELSE", ""), os.path.realpath(sys.argv[0])
     folders = [""] if "/" in name else os.environ.get("PATH", os.defpath).split(os.pathsep)
     places = [os.path.join(it, name) for it in folders if name]
@@ -392,13 +404,16 @@ def judge(words):
         (not wait or float(words.wait) > 3, f"--wait {words.wait}: not a number of seconds from 0 to 3"),
         (words.is_version1 and words.has_port, f"-c {words.programmer} is for a serial device, not -P {words.device}"),
     )
+    words.report.stage = "file"
     for it in words.updates:
         it.judge(words.content(it.file) if it.is_image and not os.path.isdir(it.file) else None)
         of_loader = words.is_wiring and it.memory == "eeprom"
         is_far = of_loader and (words.field("eeprom_size") if it.operation == "r" else it.size()) not in range(257)
         refuse((is_far, f"-U {it.given}: a bootloader reads other addresses above 255: use a programmer: {UNOPENED}"))
+    words.report.stage = "device"
     if not words.has_port:
         judge_device(words.device)
+    words.report.stage = "arguments"
     if words.is_bootloader:
         judge_bootloader(words)
     if words.part != "auto":
@@ -447,7 +462,8 @@ def judge_bootloader(words: Words) -> None:
     writes, is_dry = [it for it in words.updates if it.writes_flash()], "-n" in words.flags
     cures = {"leave out -e": "-e" in words.flags, "use -D": writes and "-D" not in words.flags}
     cure = ", and ".join(it for it, is_needed in cures.items() if is_needed and not is_dry)
-    is_for, programmer = f"-c {words.programmer} is for a bootloader", f"With a programmer leave out -c {words.programmer}"
+    name = f"-c {words.programmer}"
+    is_for, programmer = f"{name} is for a bootloader", f"With a programmer leave out {name}"
     own = next((it for it in words.updates if words.is_version1 and it.memory not in ("flash", "signature")), None)
     refuse(
         (cure, f"{is_for}, which can't erase the chip: {cure}. {programmer}; {UNOPENED}"),
@@ -504,7 +520,9 @@ def ran(words, put=messages.put, earlier=frozenset()):
     """Makes a run, and gives the command again after faults that a second run repairs. Returns the last run."""
     count = int(words.retry)
     for number in range(1, count + 2):
+        words.tries = number
         run = Run(words, earlier, put)
+        words.report.runs.append(run)
         try:
             run.bridge()
         except BaseException:
@@ -572,7 +590,9 @@ def prepare(words):
             words.updates, words.flags = restored(words), [*words.flags, "-e"]
         except Fault as fault:
             raise Fault(f"{fault}: {UNOPENED}")
+    words.report.stage = "file"
     judge_files(words)
+    words.report.stage = "arguments"
     judge(words)
     if "-l" in words.last:
         messages.log = open(words.last["-l"], "wb", 0)
@@ -581,6 +601,20 @@ def prepare(words):
     for it in words.updates if "-q" not in words.flags else []:
         if it.named:
             say(f"{it.file} is read as {FORMATS[it.named]} (:{it.named})")
+
+
+def reported(words):
+    """Makes the run, and its report if --json asks for one."""
+    words.report, status = Report(words), 1
+    try:
+        status = serve(words)
+    except (Fault, OSError) as fault:
+        words.report.told = f"{fault.filename}: {fault.strerror}" if isinstance(fault, OSError) else str(fault)
+        raise
+    finally:
+        if "--json" in words.last:
+            write(words.last["--json"], words.report.made(status, ended_by()))
+    return status
 
 
 def serve(words):
@@ -607,6 +641,7 @@ def execute(words):
         if lacks:
             say(f"{it.memory} of {words.part} has {lacks}")
     warn(words)
+    words.report.stage = "device"
     run = ran(words, earlier=sent)
     is_hinted = run.status and not words.has_port
     refuse((is_hinted, is_hinted and hint(run, ended_by())))
@@ -622,4 +657,4 @@ def main():
         (words.part == "?", list_parts),
         (words.programmer == "?", lambda: show("\n".join(SPEAKING))),
     )
-    return (shown or (lambda: serve(words)))()
+    return (shown or (lambda: reported(words)))()

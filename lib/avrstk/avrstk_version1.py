@@ -225,7 +225,7 @@ class Version1:
 
 
 class Bridge:
-    """A file for avrstk's frames, in place of a device that speaks version 1. A thread reads them and writes replies."""
+    """A file for avrstk's frames, in place of a device that speaks version 1. A thread writes the replies."""
 
     def __init__(self, device, speeds, is_bootloader, wait: float):
         self.device, (self.inner, self.outer), self.talked, self.is_open = device, socket.socketpair(), 0.0, True

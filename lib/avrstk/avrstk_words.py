@@ -39,7 +39,7 @@ PACKED = {
 
 # options of AVRDUDE and of avrstk
 SHORT = "p:c:P:U:b:C:l:B:E:i:x:T:Y:OtysueDVnFAqvh?"
-LONG = ["parts=", "serve=", "chip=", "wait=", "retry=", "backup=", "restore=", "version", "help"]
+LONG = ["parts=", "serve=", "chip=", "wait=", "retry=", "backup=", "restore=", "json=", "version", "help"]
 
 IGNORED = {"-C", "-s", "-u"}
 
@@ -104,6 +104,8 @@ class Words:
                 (name in last and self.is_bootloader, f"{name} needs a programmer, not a bootloader"),
             )
         self.flags, self.contents = [name for name, _ in options if name in FLAGS], {}
+        # the report of the run, and how many times avrstk was run
+        self.report, self.tries = None, 0
         self.left_out = [f"{name} {value}".rstrip() for name, value in options if name in IGNORED]
 
     @property
