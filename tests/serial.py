@@ -790,7 +790,7 @@ def backups():
         words = shlex.split(output.decode())
         see(f"{name}: its command", words[:5] == ["avrstk-serial", "--wait", "0.4", "-p", "m328p"], output)
         same(f"{name}: there is none yet", told(["--backup", name], {}), (1, [f"--backup {name}: File exists: {UNOPENED}"]))
-        # (D7: the erase keeps EEPROM. This lock forbids all but an erase)
+        # (this high fuse keeps EEPROM at an erase. This lock forbids all but an erase)
         for chip in [b"\xe1\xd7\xfa\xfc", b"\xff" * 4]:
             room.put("new.bin", bytes(33_792) + chip)
             it = Boards({}, {}, chip="new.bin")
