@@ -31,7 +31,7 @@ from pathlib import Path
 import serial
 from cases import PATIENCE, leave_out, named, put_program, run_cases, same, sampled, see
 from line import frames_of
-from program import PROGRAM, TOP, Room, frame, lines
+from program import PROGRAM, TOP, Room, frame, has_avrdude, lines
 from records import hex_of
 
 sys.path[:0] = [str(TOP / "lib/avrstk")]
@@ -447,6 +447,39 @@ def typed():
             same(f"{what}: the image", board.flash()[:700], image)
 
 
+def avrdude_beside():
+    """AVRDUDE 7.1 over the same boards: EEPROM over ArduinoISP lands at other addresses, compares as equal, and the
+    status is 0; eeprom:w at an Uno overwrites its flash. avrstk-serial writes the one right, and refuses the other."""
+    if not has_avrdude():
+        return leave_out("AVRDUDE over these boards", "AVRDUDE 7.1 is not installed")
+    data, old = bytes(range(1, 65)), random.Random(9).randbytes(FLASH)
+    room.put("data.bin", data)
+    if SKETCH:
+        at = Terminal("ArduinoISP", old)
+        words = f"-p m328p -c stk500v1 -P {at.device} -b 19200 -D -q -q -U eeprom:w:data.bin:r"
+        ran = subprocess.run(["avrdude", *words.split()], cwd=room.folder, capture_output=True, timeout=PATIENCE)
+        held, _ = at.end().rest()
+        same("avrdude, EEPROM over ArduinoISP: its status", ran.returncode, 0)
+        same("avrdude, EEPROM over ArduinoISP: the bytes", held[:20], data[:4] + b"\xff" * 4 + data[4:8] + b"\xff" * 4 + data[8:12])
+        at = Terminal("ArduinoISP", old)
+        status, told = run_script(words.replace(at_of(words), at.device).split())
+        held, _ = at.end().rest()
+        same("avrstk-serial, EEPROM over ArduinoISP", (status, held[:64]), (0, data))
+    at = Terminal("optiboot", old)
+    words = f"-p m328p -c arduino -P {at.device} -b 115200 -D -q -q -U eeprom:w:data.bin:r"
+    ran = subprocess.run(["avrdude", *words.split()], cwd=room.folder, capture_output=True, timeout=PATIENCE)
+    flash = at.end().flash()
+    see("avrdude, eeprom:w at an Uno: its firmware is another", flash[:128] != old[:128], (ran.returncode, ran.stderr))
+    at = Terminal("optiboot", old)
+    status, told = run_script(words.replace(at_of(words), at.device).split())
+    same("avrstk-serial, eeprom:w at an Uno", (status, at.end().flash()), (1, old[: KINDS["optiboot"][0]]))
+
+
+def at_of(words):
+    """Returns the device of a command."""
+    return words.split()[words.split().index("-P") + 1]
+
+
 class Leaving(serial.Bootloader):
     """A bootloader of version 2 that has ended once it got LEAVE. Its reply is lost. A reset by DTR starts it again."""
 
@@ -513,7 +546,10 @@ def leaves_to_another():
     shutil.rmtree(folder)
 
 
-CASES = named(clean, refused, each_byte, lossy, damaged_erases, lost_end, typed, lost_end_of_wiring, leaves_to_another)
+CASES = named(
+    *(clean, refused, each_byte, lossy, damaged_erases, lost_end),
+    *(typed, avrdude_beside, lost_end_of_wiring, leaves_to_another),
+)
 
 
 def main():
@@ -525,7 +561,7 @@ def main():
         return run_cases({}, __doc__)
     if not SKETCH:
         leave_out("ArduinoISP", f"{' and '.join(map(str, SKETCHES))} is not there")
-    return run_cases(CASES, __doc__, timed=["typed"])
+    return run_cases(CASES, __doc__, timed=["typed", "avrdude_beside"])
 
 
 if __name__ == "__main__":
