@@ -21,7 +21,7 @@ import textwrap
 from pathlib import Path
 
 from cases import PATIENCE, leave_out, named, own_environment, put_program, run_cases, same, see
-from program import LISTENS, PROGRAM, SESSION, TOP, has_avrdude, kept_port, port_of
+from program import PROGRAM, SESSION, TOP, has_avrdude, kept_port, port_of
 from serial import Board
 
 # commands that are no step of using the tool, or that start proofs
@@ -30,12 +30,8 @@ NOT_HERE = ("cd ", "git ", "./test", ".ci/", "./avrstk --build", "./install.sh -
 # `rt` in the clone: notes that it was called
 RT = '#!/bin/sh\necho "$@" >>"$NOTED"\nexit 1\n'
 
-# in the shell of the commands, `sleep 1` waits until the background job listens or ends, however long that takes
-WAITS = """
-listens() {{ grep -q "{0}" /proc/net/tcp; }}
-sleep() {{ [ "$1" = 1 ] || command sleep "$1"; until [ "$1" != 1 ] || listens || ! kill -0 $!; do command sleep 0.02; done; }}
-trap 'kill $(jobs -p) 2>/dev/null; wait' EXIT
-"""
+# at the end of the commands' shell, its background jobs are ended
+ENDS = "trap 'kill $(jobs -p) 2>/dev/null; wait' EXIT\n"
 
 
 class Clone:
@@ -85,7 +81,7 @@ class Clone:
         path = f"{self.folder}/bin:{self.folder}/home/.local/bin:{os.environ['PATH']}"
         environment = own_environment(PATH=path, HOME=str(self.folder / "home"), NOTED=str(self.noted))
         typed = [f"{it} || echo 'FAILED here'" for it in commands]
-        text = WAITS.format(LISTENS.format(port)) + "\n".join(typed).replace("5000", str(port))
+        text = ENDS + "\n".join(typed).replace("5000", str(port))
         how = {"stdin": subprocess.DEVNULL, "stdout": subprocess.PIPE, "stderr": subprocess.STDOUT, "text": True}
         with kept:
             return subprocess.run(["bash", "-c", text], cwd=self.top, env=environment, timeout=PATIENCE, **how).stdout
