@@ -245,9 +245,10 @@ class Bridge:
 
     def serve(self) -> None:
         """Replies to frames until the other end is closed. Of several that wait, all but the last have timed out."""
-        frames = Frames()
+        frames, piece = Frames(), b" "
         with contextlib.suppress(OSError), self.inner:
-            while piece := self.inner.recv(65_536):
+            while piece:
+                piece = self.inner.recv(65_536)
                 for frame in list(filter(is_frame, frames.pieces(piece)))[-1:]:
                     body = self.programmer.reply(frame[5:-1])
                     if body:
