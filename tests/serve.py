@@ -662,6 +662,9 @@ def faults():
             same(f"{options}: {client[0]}: status, flash, EEPROM", found, wanted)
             see(f"{options}: {client[0]}: the log", any(mark in row for row in marks()), marks())
             see(f"{options}: the seed is printed", ("--seed 7 makes the same faults again" in told) == ("%" in options), told)
+    for words, status, lines in [(["--lose", "1000"], 0, 1), (["--lose", "1000", "--strict"], 1, 1), (["--strict"], 0, 0)]:
+        found, told, _ = ran(["0", *M328P, "--log", "log", *words, "--", "true"])
+        same(f"{words}: it never struck", (found, told), (status, "avrstk-serve: --lose 1000 never struck\n" * lines))
     if not clients[1]:
         leave_out("faults with AVRDUDE", "AVRDUDE 7.1 is not installed")
 

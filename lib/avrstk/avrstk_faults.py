@@ -41,8 +41,10 @@ def seconds(option, given):
 def which(given, chance):
     """Returns whether a command, by its number and its name, is one of these."""
     share = re.fullmatch(r"([0-9]{1,2}(?:\.[0-9]+)?)%", given)
-    is_known = share or given in COMMANDS.values() or re.fullmatch("[1-9][0-9]{0,8}", given)
-    refuse((not is_known, f"{given}: not the name of a command in the log, its number, or a share such as 2%"))
+    is_one = re.fullmatch("(?:([A-Z_]+)#)?[1-9][0-9]{0,8}", given)
+    is_known = share or given in COMMANDS.values() or is_one and is_one[1] in (None, *COMMANDS.values())
+    what = "not the name of a command in the log, its number, one of a name such as CHIP_ERASE#1, or a share such as 2%"
+    refuse((not is_known, f"{given}: {what}"))
     return (lambda *_: chance() * 100 < float(share[1])) if share else lambda *it: given in it
 
 
@@ -97,13 +99,18 @@ class Traffic:
         self.is_bootloader = "--bootloader" in last
         self.refused = set().union(*(codes for it, codes in REFUSED.items() if it in last))
         self.client = self.count = 0
+        # how many commands of each name there were, and the options whose faults have struck
+        self.names, self.struck, self.is_strict = collections.Counter(), set(), "--strict" in last
         self.lateness = seconds("--late", last.get("--late", "0:1"))
         given = [(it, value) for it, value in options if it in FAULTS]
         seed, each = last.get("--seed", str(random.randrange(1_000_000))), {"--drop": ["--lose", "--lose-reply"]}
         refuse((not re.fullmatch("[0-9]{1,18}", seed), f"--seed {seed}: not a number"))
         chance = random.Random(seed).random
         meant = lambda name, value: which(value.partition(":")[0] if name == "--late" else value, chance)
-        self.faults = [(it, meant(name, value)) for name, value in given for it in each.get(name, [name])]
+        self.given = [f"{name} {value}" for name, value in given]
+        self.faults = [
+            (it, meant(name, value), f"{name} {value}") for name, value in given for it in each.get(name, [name])
+        ]
         if any("%" in value for _, value in given):
             say(f"--seed {seed} makes the same faults again")
 
@@ -125,6 +132,10 @@ class Traffic:
         changed = lambda act, pieces: lambda more: b"".join(act(it) if is_frame(it) else it for it in pieces(more))
         return changed(self.command, Frames().pieces), changed(self.reply, Frames().pieces)
 
+    def unstruck(self) -> list:
+        """Returns the options whose faults never struck."""
+        return [it for it in self.given if it not in self.struck]
+
     def end(self):
         """Notes the commands that got no reply."""
         for line, _ in self.waiting:
@@ -141,7 +152,11 @@ class Traffic:
         name, more = COMMANDS.get(body[0], "unknown"), " .." if len(body) > 16 else ""
         when = time.strftime("%Y-%m-%d %H:%M:%S")
         line = f"{when} client {self.client}, {frame[1]}: {name} {body[:16].hex(' ')}{more}"
-        faults = [it for it, is_meant in self.faults if is_meant(str(self.count), name)]
+        self.names[name] += 1
+        own = str(self.count), name, f"{name}#{self.names[name]}"
+        meant = [(it, given) for it, is_meant, given in self.faults if is_meant(*own)]
+        faults = [it for it, _ in meant]
+        self.struck |= {given for _, given in meant}
         if "--lose" in faults:
             self.note(line, ["lost"])
             return b""

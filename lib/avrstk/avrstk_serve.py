@@ -31,7 +31,7 @@ PATIENCE = 8
 GRACE = 10
 
 LONG = ["parts=", "chip=", "idle=", "listen=", "pty=", "timeout=", "log=", "log-limit=", "seed=", "locked"]
-LONG += ["version", "help"]
+LONG += ["strict", "version", "help"]
 LONG += [it[2:] + "=" for it in FAULTS] + [it[2:] for it in REFUSED]
 
 
@@ -201,7 +201,7 @@ class Server:
         if not command:
             show(f"serving at {readable(where)}")
             self.serve_clients(None)
-            return int(self.has_failed)
+            return int(self.has_failed or self.lacks_faults())
         job, ended = Job(command, where, limit), None
         try:
             self.serve_clients(GRACE)
@@ -212,7 +212,15 @@ class Server:
         finally:
             if ended != signal.SIGCHLD:
                 job.end()
-        return {None: 1, signal.SIGALRM: 124}.get(ended) or job.status() or int(self.has_failed)
+        status = {None: 1, signal.SIGALRM: 124}.get(ended) or job.status()
+        return status or int(self.lacks_faults() or self.has_failed)
+
+    def lacks_faults(self) -> bool:
+        """Reports the faults that never struck, and returns whether the status depends on them."""
+        lacking = self.traffic.unstruck() if self.traffic else []
+        for it in lacking:
+            say(f"{it} never struck")
+        return bool(lacking) and self.traffic.is_strict
 
     def serve_clients(self, grace: Optional[int]) -> None:
         """Serves clients until a signal comes. With `grace`, it ends so many seconds after a session that did not end
