@@ -202,7 +202,12 @@ over_streams : (s : Settings) (x y : Devices) (status : ℕ) → x.link.transcri
 over_streams s x y status silent (inl r) = run_begun s x y status r silent
 over_streams s x y status silent (inr (inl stopped, one)) =
     inr (session_begun s x y 1 silent
-    (record { plan = stopped.plan; between = stopped.between; made = stopped.made; then_is = inr (stopped.then_is, refl) }))
+    (record {
+      plan = stopped.plan;
+      between = stopped.between;
+      made = stopped.made;
+      then_is = inr (stopped.then_is, refl);
+    }))
 over_streams s x y status silent (inr (inr stopped, one)) =
     inl (ap (λ (l : LinkState). sent l.transcript) stopped.same ∙ ap sent silent)
 

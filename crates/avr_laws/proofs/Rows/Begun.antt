@@ -1,4 +1,4 @@
--- What a run made whatever its status: the worked run of Rows/Promise, and one that wrote another byte than its plan has.
+-- What a run made whatever its status: a worked run, and one that wrote another byte than its plan has.
 use Rattle.std.proofs.Common.{◌≡◌, ap, arith, refl, ℕ, zero, suc, All, List, [], ◌∷◌, take, append-nil, Some}
 use Rattle.std.proofs.lemmas.List.Elements.{All-cons, All-nil}
 use Rattle.avr_part.specs.BuiltIn.{m328p}
@@ -47,8 +47,8 @@ whole = ([], append-nil (sent (passed 0xE2)))
 
 pub fuse_begun : IsBegun (writing 0xE2) (passed 0xE2)
 fuse_begun p got later executions sound part came none =
-    first_made (writing 0xE2) p sound part fits (heard (passed 0xE2)) (sent (passed 0xE2)) whole got later executions came
-    none
+    first_made (writing 0xE2) p sound part fits (heard (passed 0xE2)) (sent (passed 0xE2)) whole got later executions
+    came none
 
 -- ---- a run that wrote 62
 

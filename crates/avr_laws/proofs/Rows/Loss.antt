@@ -115,7 +115,8 @@ by_test m (piece ∷ pieces) tape p executions before is =
     let execution = first_execution executions in
     let replies = frame_of_reply m n (body_of piece) p execution ∷ before in
     let read = cut (take reply_byte_limit (leading_bytes tape)) in
-    let later = λ (left : Tape). none_forged m pieces left (after_execution execution (m.after (body_of piece) p) p m.reset)
+    let later = λ (left : Tape).
+    none_forged m pieces left (after_execution execution (m.after (body_of piece) p) p m.reset)
     (later_executions executions) replies in
     on_true _ _ (answer n tape) (λ reading left passed.
     let parts = both (are_not_forged n replies read) (later left) passed in (
