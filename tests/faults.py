@@ -48,7 +48,7 @@ RUNS = {
     "no part": (["-P", "stdio:"], b"", 1),
 }
 
-# (before a file is created, the run looks whether it is the held chip)
+# (before a file is created, the run looks whether it is the held chip, or a file that the run makes beside it)
 CREATED = "out.hex: cannot be created"
 
 # The lines that may report a refused call of each kind; the file is the one that the call was for. (A device that can't
@@ -57,7 +57,7 @@ LINES = {
     "growth": ["out of memory", "link cannot be written", "link cannot be read", "chip.bin: cannot be written", CREATED],
     "read": ["link cannot be read", "{file}: cannot be read"],
     "write": ["link cannot be written", "{file}: cannot be written"],
-    "open": ["{file}: cannot be opened", "{file}: cannot be created", "{file}: cannot be written"],
+    "open": ["{file}: cannot be opened", "{file}: cannot be created", "{file}: cannot be written", CREATED],
     "file": ["{file}: cannot be written", "{file}: cannot be created", "{file}: cannot be opened", CREATED],
     "socket": ["port net:127.0.0.1:PORT cannot be opened", "port PORT cannot be opened"],
 }
