@@ -1307,7 +1307,8 @@ def followed(name, words, **case):
     else:
         see(f"{name}: it comes to an end", False, hints)
     seen.update(chosen)
-    found = bytes(server.flash) if server else room.read(chip) or b""
+    # (a bootloader's chip has a lock that is open)
+    found = bytes(server.flash) + b"\xff" if server else room.read(chip) or b""
     return status if words else None, hints, found
 
 
@@ -1706,7 +1707,8 @@ def strangers():
     it = Board()
     # (the program that starts avrstk may keep running beside it)
     late = "while not os.path.exists('go'):\n    time.sleep(0.01)\nimport subprocess\n"
-    late += f"sys.exit(subprocess.call(['{PROGRAM}', *sys.argv[1:]]))\n"
+    # (an image is an open file of the script)
+    late += f"sys.exit(subprocess.call(['{PROGRAM}', *sys.argv[1:]], close_fds=False))\n"
     fake = stand_in("open('port', 'w').write(str(port) + '\\n')\n" + late)
     started = start([*FLASH, "-P", it.device], env=fake)
     wait_until(lambda: (room.read("port") or b"").endswith(b"\n"))
