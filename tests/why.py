@@ -154,6 +154,8 @@ def closed_connection():
             started = subprocess.Popen([*tool, *port], **quiet)
             client = door.accept()[0]
             client.recv(100)
+            # the reply and the end arrive together: a command that comes between them would make the close a reset
+            client.setsockopt(socket.IPPROTO_TCP, socket.TCP_CORK, 1)
             client.sendall(REPLIES[: ENDS[0]])
             client.close()
             begun = time.monotonic()
