@@ -1485,7 +1485,8 @@ def hints_that_are_followed():
     for number, (name, (form, *words)) in enumerate(sampled("hints of damaged files", 7, ways)):
         follows(name, flash(f"{number}{name}{form}", *words), file=f"{number}{name}", text=bad[name])
     late, merged = hex_of([(0x1000, image)]), b"\xff" * 0x1000 + image
-    wanted = lambda chip: merged[: 0x1000 + 768].ljust(0x1300, b"\xff") + old[0x1300:]
+    # (with the lock, as for each bootloader's chip)
+    wanted = lambda chip: merged[: 0x1000 + 768].ljust(0x1300, b"\xff") + old[0x1300:] + b"\xff"
     for number, words in enumerate([[], ["-D"], ["-e"], ["-c", "wiring"], ["-c", "wiring", "-D"]]):
         own = {"file": f"late{number}.hex", "text": late, "again": hex_of([(0, merged)])}
         follows(f"a bootloader {words}", flash(own["file"], *words), wanted, board={"server": Bootloader(old)}, loads=1, **own)
