@@ -147,21 +147,24 @@ def closed_connection():
     quiet = {"stdin": subprocess.DEVNULL, "stdout": subprocess.DEVNULL, "stderr": subprocess.PIPE}
     with socket.create_server(("127.0.0.1", 0)) as door:
         port = ["-p", "m328p", "-P", f"net:127.0.0.1:{door.getsockname()[1]}"]
-        for tool in [[PROGRAM], ["avrdude", "-qq", "-c", "stk500v2"]]:
-            if tool[0] != PROGRAM and not has_avrdude():
+        avrdude = ["avrdude", "-qq", "-c", "stk500v2"]
+        for tool, told in [([PROGRAM], "ended"), ([PROGRAM], "cannot be read"), (avrdude, "")]:
+            if not told and not has_avrdude():
                 leave_out("AVRDUDE at a closed connection", "AVRDUDE 7.1 is not installed")
                 continue
             started = subprocess.Popen([*tool, *port], **quiet)
             client = door.accept()[0]
             client.recv(100)
-            # the reply and the end arrive together: a command that comes between them would make the close a reset
-            client.setsockopt(socket.IPPROTO_TCP, socket.TCP_CORK, 1)
+            # the reply and the end arrive together, or a command that isn't read makes the close a reset
+            client.setsockopt(socket.IPPROTO_TCP, socket.TCP_CORK, told != "cannot be read")
             client.sendall(REPLIES[: ENDS[0]])
+            if told == "cannot be read":
+                client.recv(1, socket.MSG_PEEK)
             client.close()
             begun = time.monotonic()
-            if tool[0] == PROGRAM:
-                told = started.communicate(timeout=PATIENCE)[1]
-                same("`link ended`", (started.returncode, told), (1, lines("error: link ended")))
+            if told:
+                messages = started.communicate(timeout=PATIENCE)[1]
+                same(f"`link {told}`", (started.returncode, messages), (1, lines(f"error: link {told}")))
                 see("at once", time.monotonic() - begun < 2, time.monotonic() - begun)
                 continue
             used = lambda: sum(map(int, open(f"/proc/{started.pid}/stat").read().rpartition(")")[2].split()[11:13]))
