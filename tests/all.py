@@ -38,7 +38,16 @@ PROGRAMS = {it.parent.parent.name: it.parent.parent / "out" for it in TOP.glob("
 # scripts of tools/, which only read
 CHECKED = ("measure --check", "reach --check", "site --check", "man_pages", "promises", "tests_page")
 # scripts that run no program of this project, or compile it themselves; the longest first
-SOURCES = ("rattle tests", "build", "rattle examples", "rattle refused", "vendor", "rattle names", "documents", *CHECKED)
+SOURCES = (
+    "rattle tests",
+    "build",
+    "rattle examples",
+    "rattle refused",
+    "vendor",
+    "rattle names",
+    "documents",
+    *CHECKED,
+)
 # scripts over the library for C, which takes minutes to prove and build, so that only --all runs them
 LIBRARY = ("from_c",)
 # scripts that take seconds
@@ -338,7 +347,9 @@ def chosen(names):
     """Runs the scripts of these names, with the built program."""
     known = list(dict.fromkeys([*SOURCES, *LIBRARY, *PROGRAM]))
     steps = [it for it in known if it in names or it.split()[0] in set(names) - set(known)]
-    current = os.environ.get("AVRSTK") or not subprocess.run(["./avrstk", "--which"], cwd=TOP, capture_output=True).returncode
+    current = (
+        os.environ.get("AVRSTK") or not subprocess.run(["./avrstk", "--which"], cwd=TOP, capture_output=True).returncode
+    )
     built = [] if current else [build()]
     with ThreadPoolExecutor(LANES) as lanes:
         done = built + list(lanes.map(script, steps))
@@ -350,7 +361,11 @@ def machine():
     says = lambda word: subprocess.run(["rt", word], capture_output=True, text=True)
     kit, told = says("version").stdout.strip(), says("help")
     # (a kit whose rt ci takes names remembers what passed)
-    keeps = "keeps what passed" if re.search(r"rt ci \[?NAME", told.stdout + told.stderr) else "proves everything anew in each rt ci"
+    keeps = (
+        "keeps what passed"
+        if re.search(r"rt ci \[?NAME", told.stdout + told.stderr)
+        else "proves everything anew in each rt ci"
+    )
     return f"{LANES} processors, {free_memory() / 1e6:.0f} GB free; {kit}, which {keeps}"
 
 
@@ -358,7 +373,11 @@ def costs(done, checks):
     """Returns the table of processor seconds, and the whole in first checks of one crate."""
     whole, (measure, _) = sum(it.processor for it in done), checks.of(MEASURE)
     two = f"reckoned for two processors: {whole / 2 / 60:.0f} minutes"
-    ratio = f"{whole / measure:.0f} times {MEASURE}'s first check of {measure:.0f} s" if measure else f"{MEASURE} was not proved anew"
+    ratio = (
+        f"{whole / measure:.0f} times {MEASURE}'s first check of {measure:.0f} s"
+        if measure
+        else f"{MEASURE} was not proved anew"
+    )
     over = f"; more than {MOST}" if measure and whole / measure > MOST else ""
     return [*checks.table(), f"the whole: {whole:.0f} s of a processor, {ratio}{over}; {two}"]
 

@@ -84,9 +84,19 @@ def sketch(name, baud):
     known = [it for it in (CORE / "cores/arduino").iterdir() if it.suffix in (".c", ".cpp", ".S")]
     files = [*known, *(CORE / "libraries/SPI/src").glob("*.cpp"), room.folder / f"{name}.cpp"]
     for at, it in enumerate(files):
-        how = {".c": ["avr-gcc", *flags], ".S": ["avr-gcc", *flags, "-x", "assembler-with-cpp"]}.get(it.suffix, ["avr-g++", *plus])
+        how = {".c": ["avr-gcc", *flags], ".S": ["avr-gcc", *flags, "-x", "assembler-with-cpp"]}.get(
+            it.suffix, ["avr-g++", *plus]
+        )
         compiled(f"{name}.{at}.o", *how, "-c", it)
-    compiled(f"{name}.elf", "avr-gcc", "-Os", "-mmcu=atmega328p", "-Wl,--gc-sections", *(f"{name}.{at}.o" for at in range(len(files))), "-lm")
+    compiled(
+        f"{name}.elf",
+        "avr-gcc",
+        "-Os",
+        "-mmcu=atmega328p",
+        "-Wl,--gc-sections",
+        *(f"{name}.{at}.o" for at in range(len(files))),
+        "-lm",
+    )
 
 
 @lru_cache
@@ -241,7 +251,10 @@ def clean():
         flash = board.flash()
         wanted = (image + b"\xff" * FLASH if board.is_sketch else image + b"\xff" * 120 + old[5_120:])[: len(flash)]
         same(f"{kind}: its flash", flash, wanted)
-        see(f"{kind}: what was read", room.read("back.bin")[: len(flash)] == flash.rstrip(b"\xff") or not board.is_sketch)
+        see(
+            f"{kind}: what was read",
+            room.read("back.bin")[: len(flash)] == flash.rstrip(b"\xff") or not board.is_sketch,
+        )
         if board.is_sketch:
             same(f"{kind}: EEPROM and fuses", board.rest(), (image[:64] + b"\xff" * 960, b"\xe2\xd9\xff\xff"))
             same(f"{kind}: instructions that came too early", board.lib.target_ignored(), 0)
@@ -410,13 +423,27 @@ def polled(line):
 
 # what Arduino IDE and PlatformIO type, and users
 TYPED = {
-    "Arduino IDE, Uno": ("optiboot", "-C/etc/avrdude.conf -v -patmega328p -carduino -P{} -b115200 -D -Uflash:w:image.hex:i"),
-    "PlatformIO, Uno": ("optiboot", "-v -p atmega328p -C /etc/avrdude.conf -c arduino -b 115200 -D -P {} -U flash:w:image.hex:i"),
-    "Arduino IDE, old Nano": ("ATmegaBOOT", "-C/etc/avrdude.conf -v -patmega328p -carduino -P{} -b57600 -D -Uflash:w:image.hex:i"),
+    "Arduino IDE, Uno": (
+        "optiboot",
+        "-C/etc/avrdude.conf -v -patmega328p -carduino -P{} -b115200 -D -Uflash:w:image.hex:i",
+    ),
+    "PlatformIO, Uno": (
+        "optiboot",
+        "-v -p atmega328p -C /etc/avrdude.conf -c arduino -b 115200 -D -P {} -U flash:w:image.hex:i",
+    ),
+    "Arduino IDE, old Nano": (
+        "ATmegaBOOT",
+        "-C/etc/avrdude.conf -v -patmega328p -carduino -P{} -b57600 -D -Uflash:w:image.hex:i",
+    ),
     "an old Nano, no speed": ("ATmegaBOOT", "-p auto -c arduino -P {} -D -U flash:w:image.hex"),
-    "Arduino IDE, ArduinoISP": ("ArduinoISP", "-C/etc/avrdude.conf -v -patmega328p -cstk500v1 -P{} -b19200 -Uflash:w:image.hex:i"),
+    "Arduino IDE, ArduinoISP": (
+        "ArduinoISP",
+        "-C/etc/avrdude.conf -v -patmega328p -cstk500v1 -P{} -b19200 -Uflash:w:image.hex:i",
+    ),
 }
-FUSES_TYPED = "-v -patmega328p -carduino_as_isp -P{} -e -Ulock:w:0x3F:m -Uefuse:w:0xFD:m -Uhfuse:w:0xDE:m -Ulfuse:w:0xFF:m"
+FUSES_TYPED = (
+    "-v -patmega328p -carduino_as_isp -P{} -e -Ulock:w:0x3F:m -Uefuse:w:0xFD:m -Uhfuse:w:0xDE:m -Ulfuse:w:0xFF:m"
+)
 STAND_IN = """import os, signal, sys
 sys.path[:1], sys.dont_write_bytecode, sys.argv[0] = [{lib!r}], True, {script!r}
 __doc__ = ""
@@ -460,7 +487,11 @@ def avrdude_beside():
         ran = subprocess.run(["avrdude", *words.split()], cwd=room.folder, capture_output=True, timeout=PATIENCE)
         held, _ = at.end().rest()
         same("avrdude, EEPROM over ArduinoISP: its status", ran.returncode, 0)
-        same("avrdude, EEPROM over ArduinoISP: the bytes", held[:20], data[:4] + b"\xff" * 4 + data[4:8] + b"\xff" * 4 + data[8:12])
+        same(
+            "avrdude, EEPROM over ArduinoISP: the bytes",
+            held[:20],
+            data[:4] + b"\xff" * 4 + data[4:8] + b"\xff" * 4 + data[8:12],
+        )
         at = Terminal("ArduinoISP", old)
         status, told = run_script(words.replace(at_of(words), at.device).split())
         held, _ = at.end().rest()
@@ -525,9 +556,13 @@ def leaves_to_another():
     those. A link to avrstk-serial with its name is passed over."""
     folder = room.folder / "else"
     folder.mkdir()
-    put_program(room.folder / "else/avrdude", "#!/bin/sh\necho \"other: $*\"\n")
+    put_program(room.folder / "else/avrdude", '#!/bin/sh\necho "other: $*"\n')
     (room.folder / "avrdude").symlink_to(TOP / "avrstk-serial")
-    environment = {"AVRSTK": str(PROGRAM), "AVRSTK_ELSE": "avrdude", "PATH": f"{room.folder}:{folder}:{os.environ['PATH']}"}
+    environment = {
+        "AVRSTK": str(PROGRAM),
+        "AVRSTK_ELSE": "avrdude",
+        "PATH": f"{room.folder}:{folder}:{os.environ['PATH']}",
+    }
     cases = {
         "-c usbasp -p m328p -U lfuse:r:-:h": True,
         "-p m328p -P usb": True,

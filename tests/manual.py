@@ -100,7 +100,9 @@ HEADINGS = ["NAME", "SYNOPSIS", "DESCRIPTION", "EXAMPLES", "OPTIONS", "EXIT STAT
 COMMON = ["NAME", "DESCRIPTION", "EXAMPLES", "FILES", "SEE ALSO"]
 
 # the repository's folders and files that are not installed
-NOT_INSTALLED = re.compile(r"\b(?:docs|examples|crates|tests|tools|parts)/|\./|\binstall\.sh|CHANGELOG|README|" + HERE_ALONE.pattern)
+NOT_INSTALLED = re.compile(
+    r"\b(?:docs|examples|crates|tests|tools|parts)/|\./|\binstall\.sh|CHANGELOG|README|" + HERE_ALONE.pattern
+)
 
 
 def pages_are_whole():
@@ -193,7 +195,11 @@ def names_agree():
     see("--help names the built-in parts", ", ".join(parts()[:-1]) in shown and parts()[-1] in shown, parts())
     in_clone, installed = re.findall(r"--parts (\S+\.toml)", shown)
     see("--help names the part file of a clone", (TOP / in_clone).is_file(), in_clone)
-    see("--help names the package's part file as its man page does", f"\n.I {installed}\n" in PAGES["avrstk"].read_text(), installed)
+    see(
+        "--help names the package's part file as its man page does",
+        f"\n.I {installed}\n" in PAGES["avrstk"].read_text(),
+        installed,
+    )
     see("USAGE names the built-in parts", all(f"`{it}` (AT" in USAGE.read_text() for it in parts()), parts())
     see("the completions have the built-in parts", f'"{" ".join(parts())}"' in completions, parts())
 

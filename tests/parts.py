@@ -52,6 +52,7 @@ HEAD_OF_UNSUPPORTED = """\
 # the first bytes of the instructions that the program sends, by AVRDUDE's names for memories and operations
 SENT = {(memory, operation): bytes.fromhex(sent) for memory, operation, sent in table("instructions")}
 
+
 def configured():
     """Returns the ISP parts of AVRDUDE's configuration: name, properties, memories, operations."""
     ran = subprocess.run(["avrdude", "-p", "*/At"], capture_output=True, text=True, errors="replace")

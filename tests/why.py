@@ -51,7 +51,9 @@ def table_is_printed():
 
 def frames_are_sent():
     """A run that loses its CHIP_ERASE sends the frames that WHY shows, waits at least that long, and has status 0."""
-    picture = re.search(r"^    AVRDUDE 7\.1 +avrstk\n\n((?:    .*\n)+)", (TOP / "docs/WHY.md").read_text(), re.M)[1].splitlines()
+    picture = re.search(r"^    AVRDUDE 7\.1 +avrstk\n\n((?:    .*\n)+)", (TOP / "docs/WHY.md").read_text(), re.M)[
+        1
+    ].splitlines()
     half = max(it.rfind("CHIP_ERASE ──") for it in picture) - 4
     firmware = ["-p", "m328p", "-U", "flash:w:blink.hex:i"]
     for tool, column, is_right in [
@@ -69,7 +71,13 @@ def frames_are_sent():
         room.put("served.bin", old)
         line = BadLine(room, {shown[0][0]: "lost command"})
         begun = time.monotonic()
-        how = {"stdin": subprocess.DEVNULL, "capture_output": True, "text": True, "cwd": room.folder, "timeout": PATIENCE}
+        how = {
+            "stdin": subprocess.DEVNULL,
+            "capture_output": True,
+            "text": True,
+            "cwd": room.folder,
+            "timeout": PATIENCE,
+        }
         ran = subprocess.run([*tool, *firmware, "-P", f"net:127.0.0.1:{line.port}"], **how)
         taken = time.monotonic() - begun
         sent = [(it[1], it[5]) for it in line.end() if it[5] not in MODES]
@@ -143,7 +151,12 @@ def no_answer():
 
 def closed_connection():
     """Checks what avrstk and AVRDUDE do once the other side has closed the connection, as README says."""
-    see("README's row", re.search(r"^\| a connection that .* never ends, .* `link ended` at once", (TOP / "README.md").read_text(), re.M))
+    see(
+        "README's row",
+        re.search(
+            r"^\| a connection that .* never ends, .* `link ended` at once", (TOP / "README.md").read_text(), re.M
+        ),
+    )
     quiet = {"stdin": subprocess.DEVNULL, "stdout": subprocess.DEVNULL, "stderr": subprocess.PIPE}
     with socket.create_server(("127.0.0.1", 0)) as door:
         port = ["-p", "m328p", "-P", f"net:127.0.0.1:{door.getsockname()[1]}"]

@@ -113,7 +113,7 @@ def item(rows, shown):
             blocks.append(it[6:])
             continue
         if blocks and it.strip():
-            yield from [*filled(inline(shown(" ".join(texts)))), *code(blocks), ".IP \"\" 2"]
+            yield from [*filled(inline(shown(" ".join(texts)))), *code(blocks), '.IP "" 2']
             texts, blocks = [], []
         texts += [it.strip()] if it.strip() else []
     yield from filled(inline(shown(" ".join(texts))))

@@ -148,7 +148,9 @@ def with_figures(page):
     made = rows.splitlines()[:2]
     for row in rows.splitlines()[2:]:
         sentence, named, *_ = row.strip("| ").split(" | ")
-        seen = [reached(root for name in re.findall("`([^`]*)`", it) for root in roots_of(name)) for it in named.split(";")]
+        seen = [
+            reached(root for name in re.findall("`([^`]*)`", it) for root in roots_of(name)) for it in named.split(";")
+        ]
         counts = ["; ".join(f"{count:,}" for count in counts) for counts in (map(len, seen), map(lines_of, seen))]
         made.append(f"| {sentence} | {named} | {counts[0]} | {counts[1]} |")
     return f"{head}{TABLE}" + "\n".join(made) + f"\n\n{behind}"
@@ -184,7 +186,9 @@ def unshown(page):
     """Yields what is wrong in the table of worlds. A lemma has to be there and to name the definition of its row; one that
     refuses a world ends in `→ ⊥`. The promise has to reach the definition."""
     head = re.compile(r"^(?:pub )?(\w+) :\s(.*?)\n(?=unfolding |\1 )", re.M | re.S)
-    rows = {f"Rows.{it.stem}": dict(head.findall(it.read_text())) for it in TOP.glob("crates/avr_laws/proofs/Rows/*.antt")}
+    rows = {
+        f"Rows.{it.stem}": dict(head.findall(it.read_text())) for it in TOP.glob("crates/avr_laws/proofs/Rows/*.antt")
+    }
     promise = reached(roots_of(PROMISE))
     for row in page.split(WORLDS)[1].split("\n\n")[0].splitlines()[2:]:
         named, met, refuses, *_ = re.findall("`([^`]*)`", row)
@@ -215,7 +219,12 @@ def unmet():
 def main(words):
     if words in (["--check"], ["--write"]):
         page = with_figures(PAGE.read_text())
-        sys.exit(kept({PAGE: page, README: with_lines(README.read_text(), page)}, [*lacking(), *unshown(LAWS.read_text()), *unmet()]))
+        sys.exit(
+            kept(
+                {PAGE: page, README: with_lines(README.read_text(), page)},
+                [*lacking(), *unshown(LAWS.read_text()), *unmet()],
+            )
+        )
     roots = [root for it in words if it != "-v" for root in roots_of(it)] or sys.exit(__doc__)
     seen = reached(roots)
     files = sorted({(crate, file) for crate, file, _ in seen})

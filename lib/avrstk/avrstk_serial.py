@@ -581,8 +581,6 @@ def detect(words):
     return sent
 
 
-
-
 def prepare(words):
     """Judges the command line, makes the log and the folder that it names, and prints what is understood otherwise."""
     if words.restore is not None:

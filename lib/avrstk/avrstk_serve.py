@@ -147,6 +147,7 @@ class Job:
         with contextlib.suppress(ImportError, AttributeError):
             # (PR_SET_CHILD_SUBREAPER: what has lost its parent becomes a child of this process)
             import ctypes
+
             ctypes.CDLL(None).prctl(36, 1, 0, 0, 0)
         command = [it.replace("{}", where) for it in command]
         self.ran = subprocess.Popen(command, env={**os.environ, "AVRSTK_PORT": where})
