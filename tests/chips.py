@@ -548,4 +548,4 @@ CASES = TRACED | named(
 
 
 if __name__ == "__main__":
-    sys.exit(run_cases(CASES, __doc__))
+    sys.exit(run_cases(CASES, __doc__, timed=["others_meanwhile", "whose_lock"]))
