@@ -687,13 +687,13 @@ def faults():
                 ("--seed 7 makes the same faults again" in told) == ("%" in options),
                 told,
             )
-    for words, status, lines in [
+    for words, status, count in [
         (["--lose", "1000"], 0, 1),
         (["--lose", "1000", "--strict"], 1, 1),
         (["--strict"], 0, 0),
     ]:
         found, told, _ = ran(["0", *M328P, "--log", "log", *words, "--", "true"])
-        same(f"{words}: it never struck", (found, told), (status, "avrstk-serve: --lose 1000 never struck\n" * lines))
+        same(f"{words}: it never struck", (found, told), (status, "avrstk-serve: --lose 1000 never struck\n" * count))
     if not clients[1]:
         leave_out("faults with AVRDUDE", "AVRDUDE 7.1 is not installed")
 
