@@ -196,15 +196,25 @@ def refused():
 
 
 def all_devices():
-    """-P all takes each serial device of USB that is there, and lists them first."""
+    """-P all takes each serial device of USB that is there, and lists them first, as typed in docs/USAGE."""
     patch = "import glob, runpy, sys\nsys.argv[:1] = []\nreal = glob.glob\n"
     patch += "glob.glob = lambda it: [f'{n}.tty' for n in 'ab'] if it == '/dev/ttyACM*' else real(it)\n"
     patch += "runpy.run_path(sys.argv[0], run_name='__main__')\n"
-    with Doubles(["a.tty", "b.tty"]):
-        ran = subprocess.run([sys.executable, "-c", patch, SCRIPT, *FLASH, "-P", "all"], cwd=room.folder, **HOW_TO_WAIT)
-    told = ran.stderr.decode().splitlines()
-    same("the list", (ran.returncode, told[0]), (0, "avrstk-serial: 2 boards: a.tty, b.tty"))
-    same("the chips", [chip_of("a.tty"), chip_of("b.tty")], [written()] * 2)
+    section = (TOP / "docs/USAGE.md").read_text().split("## Many boards")[1].split("\n## ")[0]
+    commands = re.findall(r"^    avrstk-serial (.*)$", section.replace("\\\n", ""), re.M)
+    room.put("macs.csv", b"mac\n0A0B\n0C0D\n")
+    same("docs/USAGE has two commands", len(commands), 2)
+    for typed in commands:
+        words = shlex.split(typed.replace("firmware.hex", "blink.hex"))
+        with Doubles(["a.tty", "b.tty"]):
+            command = [sys.executable, "-c", patch, SCRIPT, *words]
+            ran = subprocess.run(command, cwd=room.folder, **HOW_TO_WAIT)
+        told = ran.stderr.decode().splitlines()
+        same(f"{typed}: the list", (ran.returncode, told[0]), (0, "avrstk-serial: 2 boards: a.tty, b.tty"))
+    chips = [chip_of(it) for it in ("a.tty", "b.tty")]
+    same("the rows", sorted(it[EEPROM : EEPROM + 2] for it in chips), [b"\x0a\x0b", b"\x0c\x0d"])
+    firmware = [it[:EEPROM] + b"\xff\xff" + it[EEPROM + 2 :] for it in chips]
+    same("the numbers, and the firmware", sorted(firmware), [written(1000), written(1001)])
 
 
 HOW_TO_WAIT = {"stdin": subprocess.DEVNULL, "capture_output": True, "env": ENVIRONMENT, "timeout": PATIENCE}
@@ -283,8 +293,8 @@ cat "${image%:i}" >>"$NOTED"
 
 def numbers_given_once():
     """A thousand numbers of stations that are killed at random moments, two at a time, by two users if this is root:
-    none is given twice."""
-    count, draw = 1000, random.Random(os.environ.get("SEED", str(time.time())))
+    none is given twice. (A hundred, where samples are tried.)"""
+    count, draw = 100 if "SAMPLE" in os.environ else 1000, random.Random(os.environ.get("SEED", str(time.time())))
     with tempfile.TemporaryDirectory(dir="/tmp") as name:
         folder = Path(name)
         folder.chmod(0o777)
@@ -446,8 +456,8 @@ def ordinary_user():
 
 
 CASES = named(
-    *(twenty_doubles, one_command, refused, all_devices, into_images, retried),
-    *(numbers_given_once, signals, progress, ordinary_user),
+    *(twenty_doubles, refused, into_images, numbers_given_once, one_command, all_devices),
+    *(retried, signals, progress, ordinary_user),
 )
 
 if __name__ == "__main__":
