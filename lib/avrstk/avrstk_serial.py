@@ -5,6 +5,7 @@ from avrstk_common import heed_signals, is_frame, messages, parts, ready, refuse
 from avrstk_common import version, wait
 from avrstk_backup import asking, back_up, restored
 from avrstk_report import Report, write
+from avrstk_rows import try_rows
 from avrstk_hints import LEAVE, NO_CHIP, NO_SIGNATURES, ONE_IMAGE, SIGN_ON, hint, state_of
 from avrstk_version1 import SPEEDS, Bridge
 from avrstk_words import FORMATS, FUSES, UNOPENED, Words, long_name, parts_of
@@ -188,6 +189,14 @@ class Device:
                 fcntl.ioctl(self, request, given)
         if self.file is not None:
             os.close(self.file)
+
+
+def opened(words: Words):
+    """Opens the device for frames, and resets a board that has DTR for that."""
+    device, wait = Device(words.device, words.speeds[0], True), float(words.wait)
+    time.sleep(wait)
+    fcntl.ioctl(device, termios.TCFLSH, termios.TCIFLUSH)
+    return Bridge(device, words.speeds, words.is_bootloader, wait) if words.is_version1 else device
 
 
 def settings(old, baud):
@@ -428,6 +437,20 @@ def judge(words):
     refuse((why, f"--retry: the same command again may not repair this one: {why}"))
 
 
+def judge_rows(words: Words) -> None:
+    """Refuses what --try-rows doesn't take."""
+    own = {"--try-rows", "--yes", "--parts", "--wait", "-p", "-P", "-c", "-b", "-l", "-q", "-v", "-C", "-s", "-u"}
+    other, name = next((it for it in words.last if it not in own), None), f"--try-rows={words.rows}"
+    spare = "erases and writes the chip, and clears a bit of its lock: at a chip to spare give --yes, too"
+    refuse(
+        (words.rows is None and "--yes" in words.last, "--yes is for --try-rows=all"),
+        (words.rows not in (None, "safe", "all"), f"{name}: there is --try-rows, and --try-rows=all"),
+        (words.rows and other, f"--try-rows tries a programmer, and takes no {other}"),
+        (words.rows and words.has_port, f"--try-rows is for a serial device, not -P {words.device}"),
+        (words.rows == "all" and "--yes" not in words.last, f"{name} {spare}; {UNOPENED}"),
+    )
+
+
 def judge_files(words: Words) -> None:
     """Refuses an output that is another file of this command, and the device as an image, before a file is opened."""
     own = [(words.device and it.is_image and is_one(it.file, words.device), it.given) for it in words.updates]
@@ -591,6 +614,7 @@ def prepare(words):
     words.report.stage = "file"
     judge_files(words)
     words.report.stage = "arguments"
+    judge_rows(words)
     judge(words)
     if "-l" in words.last:
         messages.log = open(words.last["-l"], "wb", 0)
@@ -618,6 +642,10 @@ def reported(words):
 def serve(words):
     prepare(words)
     heed_signals()
+    if words.rows:
+        if words.part == "auto":
+            detect(words)
+        return try_rows(words, lambda: opened(words))
     return back_up(words, lambda: execute(words)) if words.backup is not None else execute(words)
 
 
