@@ -1,8 +1,10 @@
 #!/usr/bin/env python3
-"""Tests avrstk-serial --try-rows: over the emulated programmer behind avrstk-serve, with each of its faults; over wrong
-programmers, of which each fails its own row; over the bootloader of a Mega 2560 and boards of version 1 in simavr.
+"""Tests avrstk-serial --try-rows over the emulated programmer, over wrong ones, and over simulated boards.
 
 Not proved: No proof covers the script, and bootloaders and the simulator are programs of others.
+
+The emulated programmer is behind avrstk-serve, with each of its faults. Each wrong programmer fails its own row. The
+simulated boards are a Mega 2560 with its bootloader, and boards of version 1.
 
     tests/rows.py [CASE ..]    needs a built program (program.py); a Mega and boards of version 1 need what
                                mega.py and boards.py need, and are left out without it
@@ -11,11 +13,11 @@ Not proved: No proof covers the script, and bootloaders and the simulator are pr
 import contextlib
 import os
 import random
+import select
 import shutil
 import subprocess
 import sys
 import threading
-from pathlib import Path
 
 import boards
 import mega
@@ -25,10 +27,16 @@ from line import frames_of
 from program import SESSION, TOP, frame, xor
 from serial import room
 
+sys.path[:0] = [str(TOP / "lib/avrstk")]
+import avrstk_rows  # noqa: E402
+import avrstk_version1  # noqa: E402
+from avrstk_words import Words  # noqa: E402
+
 KEPT = ["SIGN_ON", "ENTER", "LEAVE", "damaged frame", "restart"]
 READING = [f"reads {it}" for it in ("signature", "calibration", "fuses", "lock", "flash", "EEPROM")]
 WRITING = ["erases", "writes flash", "writes fuses", "writes lock"]
 SAFE, ALL = ["--try-rows"], ["--try-rows=all", "--yes"]
+BY_A_GOOD_LINE = " while the line changes no byte (version 1 has no checksums)"
 FIRMWARE, COMPARED = "the promise of README", "what a run has compared after its last write is there"
 TINY, FLASH, EEPROM = ["--parts", "tiny.toml", "-p", "tiny"], 2_048, 64
 room.keep("tiny.toml", boards.TINY.encode())
@@ -42,40 +50,38 @@ class Plug:
     """A pseudo terminal. Each opening of it gets a connection that `call` makes, as a board's reset does."""
 
     def __init__(self, call):
-        self.call, self.ends = call, threading.Event()
+        self.call, self.ends, self.vanishes = call, threading.Event(), threading.Event()
         self.line, self.device = serial.terminal()
         self.thread = threading.Thread(target=self.live, daemon=True)
         self.thread.start()
 
     def live(self):
-        while not self.ends.wait(0.002):
+        while not self.ends.wait(0.002) and not self.vanishes.is_set():
             if serial.is_open(self.line):
-                with self.call() as programmer:
-                    back = threading.Thread(target=self.pass_back, args=(programmer,), daemon=True)
-                    back.start()
-                    with contextlib.suppress(OSError):
-                        while piece := os.read(self.line, 4_096):
-                            programmer.sendall(piece)
-                    with contextlib.suppress(OSError):
-                        programmer.shutdown(2)
-                    back.join()
+                with self.call() as programmer, contextlib.suppress(OSError):
+                    self.bring(programmer)
+        os.close(self.line)
 
-    def pass_back(self, programmer):
-        with contextlib.suppress(OSError):
-            while piece := programmer.recv(4_096):
-                os.write(self.line, piece)
+    def bring(self, programmer):
+        """Passes bytes on until the device is closed, and then waits until the programmer has ended."""
+        while serial.is_open(self.line) and not self.vanishes.is_set():
+            found, _, _ = select.select([self.line, programmer], [], [], 0.02)
+            if self.line in found:
+                programmer.sendall(os.read(self.line, 4_096))
+            if programmer in found:
+                os.write(self.line, programmer.recv(4_096))
+        programmer.shutdown(1)
+        while programmer.recv(4_096):
+            pass
 
     def end(self):
-        """Waits until the programmer has ended."""
         self.ends.set()
         self.thread.join(PATIENCE)
-        with contextlib.suppress(OSError):
-            os.close(self.line)
 
 
 class Wrong:
-    """An emulated programmer and chip of which something differs: `act` gets the body of each command, and what asks the
-    programmer, and returns the reply's body, or None. It may obey frames with a wrong checksum."""
+    """An emulated programmer and chip of which something differs. `act` gets the body of each command, and what asks
+    the programmer, and returns the reply's body, or None. It may obey frames with a wrong checksum."""
 
     def __init__(self, act, obeys_all=False, chip=CHIP):
         self.act, self.obeys_all = act, obeys_all
@@ -123,13 +129,17 @@ def tried(what, words, failing=(), left=(), promise=None, status=None):
     """Tries the rows. Checks which fail and which are left out, the status, and the promise that is left."""
     found_status, output, _, own = serial.run(words)
     found = rows_of(output)
-    named = lambda how: {name for name, (it, _) in found.items() if it == how}
-    same(f"{what}: rows that fail", named("FAILS"), set(failing))
-    same(f"{what}: rows that are left out", named("not tried"), set(left))
+    seen(what, found, own, found_status, failing, left, promise, status)
+    return found, own
+
+
+def seen(what, found, own, found_status, failing, left, promise, status=None):
+    """Checks what was printed."""
+    for how, wanted in ("FAILS", failing), ("not tried", left):
+        same(f"{what}: rows with {how}", {name for name, (it, _) in found.items() if it == how}, set(wanted))
     same(f"{what}: its status", found_status, int(bool(failing)) if status is None else status)
     if promise:
         see(f"{what}: the promise", f"what that leaves: {promise}" in own, str(own))
-    return found, own
 
 
 def served(words, options=(), chip=CHIP, part=TINY, failing=(), **more):
@@ -180,7 +190,7 @@ def faults_of_the_line():
     """With each fault of a frame all rows are met, and commands were repeated."""
     for options in LINE:
         _, own, told = served(SAFE, options.split(), left=WRITING, promise=COMPARED)
-        see(f"{options}: a command was repeated", not any("; 0 repeated" in it for it in own), str(own))
+        see(f"{options}: a command was repeated", not any("; 0 commands" in it for it in own), str(own))
         see(f"{options}: it struck", "never struck" not in told, told)
 
 
@@ -322,12 +332,11 @@ def ends_early():
                 if what == "Ctrl-C":
                     os.kill(pids[0], serial.signal.SIGINT)
                 elif what == "gone":
-                    os.close(plug.line)
+                    plug.vanishes.set()
             return reply
 
         plug = Plug(Wrong(act).call)
-        begun = lambda it: pids.append(it.pid)
-        status, output, _, own = serial.run([*TINY, "-P", plug.device, *words], begun=begun)
+        status, _, _, own = serial.run([*TINY, "-P", plug.device, *words], begun=lambda it: pids.append(it.pid))
         same(f"{what} at {row}: the status", status, 1)
         plug.end()
         if what == "Ctrl-C":
@@ -346,7 +355,7 @@ def refused():
     """What --try-rows doesn't take is refused before the device is opened."""
     at = "-P /dev/null -p m328p"
     cases = {
-        f"{at} --try-rows=all": "--try-rows=all erases and writes the chip, and clears a bit of its lock: at a chip to spare give --yes, too; ",
+        f"{at} --try-rows=all": "--try-rows=all erases and writes the chip, and clears a bit of its lock: at a chip ",
         f"{at} --try-rows=some": "--try-rows=some: there is --try-rows, and --try-rows=all",
         f"{at} --yes": "--yes is for --try-rows=all",
         f"{at} --try-rows -e": "--try-rows tries a programmer, and takes no -e",
@@ -390,9 +399,58 @@ def mega_2560():
         board.holds("a Mega", content)
 
 
+def over_version1(kind, programmer, words):
+    """Tries the rows over a simulated board in its own time. Returns the rows, what else is printed, the status, and
+    whether the flash is as before."""
+    old = random.Random(9).randbytes(boards.FLASH)
+    board = boards.Board(kind, old)
+    translator = avrstk_version1.Version1(board, [0], not board.is_sketch)
+
+    class Direct(avrstk_rows.Programmer):
+        """(Nothing is lost, and no time passes but the board's.)"""
+
+        def send(self, body, is_damaged=False):
+            return translator.reply(body)
+
+        def restart(self):
+            translator.is_in_step = False
+            board.reset() if not board.is_sketch else board.pause(0.5)
+
+    rows, own = [], []
+    avrstk_rows.Programmer, avrstk_rows.show, avrstk_rows.say = Direct, rows.append, own.append
+    os.chdir(room.folder)
+    given = Words([*TINY, "-c", programmer, "-P", "/dev/null", *words])
+    status = avrstk_rows.try_rows(given, lambda: open(os.devnull, "rb"))
+    is_kept = board.flash()[:FLASH] == old[:FLASH]
+    rest = bytes(board.rest()[0][:EEPROM]) + board.rest()[1] if board.is_sketch else b""
+    return "\n".join(rows).encode(), own, status, is_kept, rest
+
+
+def version1():
+    """A bootloader of version 1 meets what reads, and refuses the rest; its pages are erased before they are written.
+    Arduino as ISP meets all rows that can be tried."""
+    missing = boards.missing()
+    if missing:
+        return leave_out("boards of version 1", f"{missing} is not installed")
+    left = ["damaged frame", "writes EEPROM", "erases", "writes fuses", "writes lock"]
+    cases = [("optiboot-fast", "arduino", ALL, ["writes flash"], left)]
+    cases += [("ATmegaBOOT", "arduino", SAFE, [], [*left[:2], *WRITING])]
+    if boards.SKETCH:
+        cases.append(("ArduinoISP-fast", "arduino_as_isp", ALL, [], ["damaged frame"]))
+    else:
+        leave_out("ArduinoISP", "its sketch is not there")
+    for kind, programmer, words, wrong, left in cases:
+        boards.prepare(kind, 0)
+        output, own, status, is_kept, rest = boards.apart(lambda: over_version1(kind, programmer, words))
+        seen(kind, rows_of(output), own, status, wrong, left, COMPARED + BY_A_GOOD_LINE)
+        see(f"{kind}: the flash is as before", is_kept)
+        if kind.startswith("ArduinoISP"):
+            same(f"{kind}: EEPROM, fuses and lock", rest, b"\xff" * EEPROM + boards.FUSES)
+
+
 CASES = named(
     *(emulated, faults_of_the_line, faults_of_a_chip, wrong, unseen),
-    *(ends_early, refused, mega_2560),
+    *(ends_early, refused, mega_2560, version1),
 )
 
 

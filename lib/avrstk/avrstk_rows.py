@@ -1,7 +1,7 @@
-"""avrstk-serial --try-rows: tries the rows of docs/BOARDS at a programmer and its chip, and prints a line for each.
+"""avrstk-serial --try-rows: tries the rows of docs/BOARDS at a programmer and its chip.
 
-A row is met if its command was done, or not done at all. If its reply is good, it was done, and the data in the reply are
-the chip's. Each row is tried at some addresses: that is a test, and proves nothing."""
+A row is met if its command was done, or not done at all. If its reply is good, it was done, and the data in the reply
+are the chip's. Each row is tried at some addresses: that is a test, and proves nothing."""
 
 from avrstk_common import READ, Fault, Frames, came, is_frame, ready, refuse, say, show
 from avrstk_backup import FILES, command_again
@@ -77,7 +77,7 @@ class Programmer:
         return None
 
     def ask(self, *step: bytes) -> bytes:
-        """Sends a step as avrstk does, at most four times. Returns the last reply, or an earlier one that isn't good."""
+        """Sends a step at most four times, as avrstk does. Returns the last reply, or an earlier bad one."""
         for attempt in range(4):
             reply, self.repeated = None, self.repeated + (attempt > 0)
             for body in step:
@@ -242,7 +242,7 @@ class Rows:
         return {it: self.chip[it] for it in memories}
 
     def reads(self) -> None:
-        """Reads memories a second time, by blocks that begin elsewhere. (If all is well, `eeprom` reads it once more.)"""
+        """Reads memories again, by blocks that begin elsewhere. (If all is well, `eeprom` reads it once more.)"""
         for name in READING:
             here = {it: held for it, held in self.only(*MEMORIES[name]).items() if held is not None}
             fault = self.difference(here, BLOCK // 2)
@@ -428,9 +428,12 @@ class Rows:
         unread = [it for it in READING if f"reads {it}" in failed]
         if not self.chip or any(it in failed for it in KEPT) or len(unread) == len(READING):
             return "none"
-        if not failed and None not in self.results.values():
+        if not failed and None not in self.results.values() and not self.words.is_version1:
             return "the promise of README"
-        return "what a run has compared after its last write is there" + f" (not {', '.join(unread)})" * bool(unread)
+        limit = " while the line changes no byte (version 1 has no checksums)" * self.words.is_version1
+        return f"what a run has compared after its last write is there{limit}" + f" (not {', '.join(unread)})" * bool(
+            unread
+        )
 
 
 def try_rows(words: Any, opens: Callable[[], Any]) -> int:
@@ -448,7 +451,7 @@ def try_rows(words: Any, opens: Callable[[], Any]) -> int:
     if why:
         say(f"no further row is tried: {why}")
     say(
-        f"{sum(tried)} of {len(tried)} rows meet, tried at some addresses; {rows.programmer.repeated} repeated commands"
+        f"{sum(tried)} of {len(tried)} rows meet, tried at some addresses; {rows.programmer.repeated} commands repeated"
     )
     say(f"what that leaves: {rows.left() if not why else 'not known'}")
     refuse((rows.undo, f"the chip is changed. What restores it: {rows.undo}"))
