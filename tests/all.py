@@ -60,7 +60,7 @@ BOTH = ("runs", "lines")
 # counts of bench/run.py
 BENCH = ("calls", "count")
 # scripts that --all runs with the proved program (mutants builds one of its own); the longest first
-PROGRAM = ("faults", "mutants", "mega", "vendor proof", "package", "power", *BENCH, *QUICK)
+PROGRAM = ("faults", "mutants", "mega", "rows", "vendor proof", "package", "power", *BENCH, *QUICK)
 
 LANES = len(os.sched_getaffinity(0))
 # scripts that no proof waits for give way to rt ci (but not what `rt try` starts, in a session of its own)

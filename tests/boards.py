@@ -572,12 +572,17 @@ CASES = named(
 )
 
 
-def main():
+def missing():
+    """Returns what isn't installed of what all boards need, in words; none if all is."""
     needed = [CORE, Path("/usr/include/simavr/sim_avr.h"), Path("/usr/include/libelf.h")]
-    missing = [str(it) for it in needed if not it.exists()]
-    missing += [it for it in ("cc", "avr-gcc", "avr-g++", "avr-objcopy") if shutil.which(it) is None]
-    if missing:
-        leave_out("boards that speak version 1", f"{' and '.join(missing)} is not installed")
+    found = [str(it) for it in needed if not it.exists()]
+    found += [it for it in ("cc", "avr-gcc", "avr-g++", "avr-objcopy") if shutil.which(it) is None]
+    return " and ".join(found)
+
+
+def main():
+    if missing():
+        leave_out("boards that speak version 1", f"{missing()} is not installed")
         return run_cases({}, __doc__)
     if not SKETCH:
         leave_out("ArduinoISP", f"{' and '.join(map(str, SKETCHES))} is not there")

@@ -49,11 +49,16 @@ def back_up(words: Words, runs: Callable[[], int]) -> int:
                     os.unlink(f"{folder}/{it}")
                 os.rmdir(folder)
     if is_whole:
-        kept = [it for it in ("--parts", "-c", "-b", "--wait") if it in words.last]
-        given = [it for name in kept for it in (name, words.last[name])]
-        given += ["-p", words.part, "-P", words.device, f"--restore={folder}"]
-        show(" ".join(map(shlex.quote, ["avrstk-serial", *given])))
+        show(command_again(words, f"--restore={folder}"))
     return status
+
+
+def command_again(words: Words, *more: str) -> str:
+    """Returns a command for the same programmer and chip."""
+    kept = [it for it in ("--parts", "-c", "-b", "--wait") if it in words.last]
+    given = [it for name in kept for it in (name, words.last[name])]
+    given += ["-p", words.part, "-P", words.device, *more]
+    return " ".join(map(shlex.quote, ["avrstk-serial", *given]))
 
 
 def restored(words: Words) -> List[Update]:

@@ -6,6 +6,7 @@ from avrstk_common import version, wait
 from avrstk_backup import asking, back_up, restored
 from avrstk_each import Each
 from avrstk_report import Report, write
+from avrstk_rows import try_rows
 from avrstk_hints import LEAVE, NO_CHIP, NO_SIGNATURES, ONE_IMAGE, SIGN_ON, hint, state_of
 from avrstk_station import station
 from avrstk_version1 import SPEEDS, Bridge
@@ -191,6 +192,14 @@ class Device:
                 fcntl.ioctl(self, request, given)
         if self.file is not None:
             os.close(self.file)
+
+
+def opened(words: Words):
+    """Opens the device for frames, and resets a board that has DTR for that."""
+    device, wait = Device(words.device, words.speeds[0], True), float(words.wait)
+    time.sleep(wait)
+    fcntl.ioctl(device, termios.TCFLSH, termios.TCIFLUSH)
+    return Bridge(device, words.speeds, words.is_bootloader, wait) if words.is_version1 else device
 
 
 def settings(old, baud):
@@ -463,6 +472,21 @@ def check(words: Words) -> None:
         raise Fault(hint(types.SimpleNamespace(words=only, error=error, left_at_error=False, **nothing), None))
 
 
+def judge_rows(words: Words) -> None:
+    """Refuses what --try-rows doesn't take."""
+    own = {"--try-rows", "--yes", "--parts", "--wait", "-p", "-P", "-c", "-b", "-l", "-q", "-v", "-C", "-s", "-u"}
+    other, name = next((it for it in words.last if it not in own), None), f"--try-rows={words.tries}"
+    spare = "erases and writes the chip, and clears a bit of its lock: at a chip to spare give --yes, too"
+    refuse(
+        (words.tries is None and "--yes" in words.last, "--yes is for --try-rows=all"),
+        (words.tries not in (None, "safe", "all"), f"{name}: there is --try-rows, and --try-rows=all"),
+        (words.tries and other, f"--try-rows tries a programmer, and takes no {other}"),
+        (words.tries and words.is_station, "--try-rows is for one board"),
+        (words.tries and words.has_port, f"--try-rows is for a serial device, not -P {words.device}"),
+        (words.tries == "all" and "--yes" not in words.last, f"{name} {spare}; {UNOPENED}"),
+    )
+
+
 def judge_files(words: Words) -> None:
     """Refuses an output that is another file of this command, and the device as an image, before a file is opened."""
     own = [(any(is_one(it.file, device) for device in words.devices), it) for it in words.updates if it.is_image]
@@ -634,6 +658,7 @@ def prepare(words):
     words.each = Each(words) if words.each_given else None
     judge_files(words)
     words.report.stage = "arguments"
+    judge_rows(words)
     judge(words)
     if "-l" in words.last:
         messages.log = open(words.last["-l"], "wb", 0)
@@ -665,6 +690,10 @@ def serve(words):
 
 
 def perform(words):
+    if words.tries:
+        if words.part == "auto":
+            detect(words)
+        return try_rows(words, lambda: opened(words))
     return back_up(words, lambda: execute(words)) if words.backup is not None else execute(words)
 
 

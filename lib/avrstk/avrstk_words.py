@@ -39,8 +39,8 @@ PACKED = {
 
 # options of AVRDUDE and of avrstk
 SHORT = "p:c:P:U:b:C:l:B:E:i:x:T:Y:OtysueDVnFAqvh?"
-LONG = ["parts=", "serve=", "chip=", "wait=", "retry=", "backup=", "restore=", "json=", "version", "help"]
-LONG += ["each=", "from=", "rows=", "counter="]
+LONG = ["parts=", "serve=", "chip=", "wait=", "retry=", "backup=", "restore=", "json=", "try-rows=", "yes"]
+LONG += ["each=", "from=", "rows=", "counter=", "version", "help"]
 
 IGNORED = {"-C", "-s", "-u"}
 
@@ -79,7 +79,9 @@ class Words:
 
     def __init__(self, given):
         self.unproved = given[:1] == ["--unproved"]
-        options, others = getopt.gnu_getopt(given[self.unproved :], SHORT, LONG)
+        # (getopt knows no option whose value may be left out)
+        given = [{"--try-rows": "--try-rows=safe"}.get(it, it) for it in given[self.unproved :]]
+        options, others = getopt.gnu_getopt(given, SHORT, LONG)
         self.last = last = dict(options)
         update, other = last.get("-U"), others[0] if others else ""
         valued = [(name, value) for name, value in options if name in ("-p", "-P", "-b")]
@@ -92,7 +94,7 @@ class Words:
         self.part, self.device, self.parts_file = last.get("-p"), last.get("-P"), last.get("--parts")
         self.programmer, baud = last.get("-c", "stk500v2"), last.get("-b")
         self.wait, self.retry = last.get("--wait", "0.3"), last.get("--retry", "0")
-        self.backup, self.restore = last.get("--backup"), last.get("--restore")
+        self.backup, self.restore, self.tries = (last.get(it) for it in ("--backup", "--restore", "--try-rows"))
         # all devices of the command. A station has several boards, or all that are there
         self.devices = [value for name, value in options if name == "-P"]
         self.is_station = len(self.devices) > 1 or self.devices == ["all"]
@@ -162,13 +164,23 @@ class Words:
         """Returns the digits of the part's signature, as far as they are known here."""
         if self.parts_file is None:
             return parts().get((self.part or "").lower(), {}).get("signature", "")
+        return (self.of_file("signature") or "").upper()
+
+    def of_file(self, name: str) -> Optional[str]:
+        """Returns a field of the part in the part file of one's own."""
         if not os.path.isfile(self.parts_file):
-            return ""
+            return None
         part = rf'(?:\bparts\.)?"?{re.escape(self.part or "")}"?'
-        entry = rf'^\s*(?:\[{part}\]|{part}\s*=)[^\[}}]*?\bsignature\s*=\s*["\'](\w{{6}})["\']'
+        entry = rf'^\s*(?:\[{part}\]|{part}\s*=)[^\[}}]*?\b{name}\s*=\s*["\']?(\w+)'
         with open(self.parts_file, encoding="utf-8", errors="replace") as it:
             found = re.search(entry, it.read(65_536), re.M)
-        return found[1].upper() if found else ""
+        return found[1] if found else None
+
+    def of_part(self, name: str) -> Optional[str]:
+        """Returns a field of the part, wherever it is described."""
+        own = self.of_file(name) if self.parts_file is not None else None
+        is_here = self.parts_file is None or self.part in BUILT_IN
+        return own or (parts().get((self.part or "").lower(), {}).get(name) if is_here else None)
 
     def field(self, name):
         """Returns a number of the part, such as flash_size; None if it is not known here."""
