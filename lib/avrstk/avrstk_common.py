@@ -22,6 +22,8 @@ if sys.version_info < (3, 8):
     sys.exit("%s: Python 3.8 or later is needed, this is %d.%d" % (NAME, *sys.version_info[:2]))
 
 HELP = __main__.__doc__.strip()
+# what fits on a screen: -h
+BRIEF = HELP.partition("\n\nIn full:")[0]
 READ, WRITE = selectors.EVENT_READ, selectors.EVENT_WRITE
 
 # avrstk has these parts without a part file; the others are in one that comes with it

@@ -1,6 +1,20 @@
 """avrstk-serial: the command line, and runs of avrstk with a programmer on a serial device."""
 
-from avrstk_common import BUILT_IN, HELP, READ, WRITE, Fault, Frames, Way, asked, came, data_file, ended_by, first
+from avrstk_common import (
+    BRIEF,
+    BUILT_IN,
+    HELP,
+    READ,
+    WRITE,
+    Fault,
+    Frames,
+    Way,
+    asked,
+    came,
+    data_file,
+    ended_by,
+    first,
+)
 from avrstk_common import heed_signals, is_frame, messages, parts, ready, refuse, say, session_program, show, text_of
 from avrstk_common import version, wait
 from avrstk_backup import asking, back_up, restored
@@ -738,7 +752,8 @@ def execute(words):
 def main():
     words = Words(sys.argv[1:])
     shown = first(
-        ({"-h", "-?", "--help"} & set(words.last) or not sys.argv[1:], lambda: show(HELP)),
+        ("--help" in words.last, lambda: show(HELP)),
+        ({"-h", "-?"} & set(words.last) or not sys.argv[1:], lambda: show(BRIEF)),
         ("--version" in words.last, lambda: show(version())),
         (words.device == "?", list_devices),
         (words.part == "?", list_parts),

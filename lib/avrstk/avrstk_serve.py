@@ -1,6 +1,6 @@
 """avrstk-serve: the clients at a port or a terminal, and the runs of avrstk_session for them."""
 
-from avrstk_common import ENDING, HELP, READ, Fault, Way, built, came, ended_by, heed_signals, noted, part_words
+from avrstk_common import BRIEF, ENDING, HELP, READ, Fault, Way, built, came, ended_by, heed_signals, noted, part_words
 from avrstk_common import readable, ready, refuse, say, session_program, show, version, wait
 from avrstk_faults import FAULTS, REFUSED, Traffic, seconds
 
@@ -360,7 +360,7 @@ def main():
     given, places = getopt.gnu_getopt(sys.argv[1:at], "p:h", LONG)
     options = dict(given)
     if {"-h", "--help", "--version"} & set(options) or not sys.argv[1:]:
-        return show(version() if "--version" in options else HELP)
+        return show(version() if "--version" in options else HELP if "--help" in options else BRIEF)
     idle, limit = (seconds(it, options[it]) if it in options else None for it in ("--idle", "--timeout"))
     door, chip, parts = door_of(places, options, idle, client), options.get("--chip"), options.get("--parts")
     traffic = Traffic(given) if {"--log", *FAULTS, *REFUSED} & set(options) else None
