@@ -88,6 +88,7 @@ complete -c avrstk-serve -l timeout -x -d 'time of the command'
 complete -c avrstk-serve -l listen -x -d 'address to listen at'
 complete -c avrstk-serve -l pty -r -F -d 'link to a terminal'
 complete -c avrstk-serve -l log -r -F -d 'file of commands'
+complete -c avrstk-serve -l json -r -F -d 'file of a report'
 complete -c avrstk-serve -l log-limit -x -d 'limit of the log'
 for fault in lose lose-reply corrupt corrupt-reply late drop
     complete -c avrstk-serve -l $fault -x -d 'fault of a frame: a command, number or share'

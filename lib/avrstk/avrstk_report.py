@@ -101,14 +101,11 @@ class Report:
 
     def made(self, status: int, number: Optional[int]) -> dict:
         """Returns the report."""
-        words, rows = self.words, version().splitlines()
+        words, built = self.words, build()
         signature = next((it[19:] for it in self.lines if it.startswith("device signature = ")), None)
         return {
-            "report": 1,
-            "program": NAME,
-            "version": rows[0].partition(" ")[2],
-            "commit": next((it.partition(": ")[2] for it in rows if it.startswith("commit: ")), None),
-            "proved": rows[1:2] == ["proved"] and not words.is_version1,
+            **built,
+            "proved": built["proved"] and not words.is_version1,
             "device": words.device,
             "programmer": words.programmer,
             "part": words.part,
@@ -119,6 +116,18 @@ class Report:
             "retries": max(0, words.tries - 1),
             **self.outcome(status, number),
         }
+
+
+def build() -> dict:
+    """Returns the fields of a report about avrstk itself."""
+    rows = version().splitlines()
+    return {
+        "report": 1,
+        "program": NAME,
+        "version": rows[0].partition(" ")[2],
+        "commit": next((it.partition(": ")[2] for it in rows if it.startswith("commit: ")), None),
+        "proved": rows[1:2] == ["proved"],
+    }
 
 
 def write(place: str, held: dict) -> None:

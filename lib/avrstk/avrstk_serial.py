@@ -501,10 +501,11 @@ def judge_rows(words: Words) -> None:
     )
 
 
-def judge_files(words: Words) -> None:
-    """Refuses an output that is another file of this command, and the device as an image, before a file is opened."""
+def judge_files(words: Words, begin: str = "") -> None:
+    """Refuses an output that is another file of this command, and the device as an image, before a file is opened. With
+    `begin` only the outputs of options that begin so are judged."""
     own = [(any(is_one(it.file, device) for device in words.devices), it) for it in words.updates if it.is_image]
-    refuse(*((is_device, f"-U {it.given}: that file is the device: {UNOPENED}") for is_device, it in own))
+    refuse(*((is_device, f"-U {it.given}: that file is the device: {UNOPENED}") for is_device, it in own if not begin))
     ports = [it.partition("emu:")[2] for it in words.devices]
     chips = [f"{port}{end}" for port in ports for end in ("", ".avrstk-new", ".avrstk-lock") if port]
     inputs = {it.file: "an image" for it in words.updates if it.is_image}
@@ -514,15 +515,17 @@ def judge_files(words: Words) -> None:
     inputs.update({words.last["--rows"]: "the table"} if "--rows" in words.last else {})
     # (without a part file)
     inputs.pop(os.devnull, None)
-    outputs = [(f"-U {it.given}", it.file) for it in words.updates if it.operation == "r" and it.file != "-"]
-    names = [it for it in ("-l", "--backup", "--counter") if it in words.last]
+    outputs = [(f"-U {it.given}", it.file) for it in words.updates if it.operation == "r"]
+    names = [it for it in ("-l", "--backup", "--counter", "--json") if it in words.last]
     outputs += [(f"{it} {words.last[it]}", words.last[it]) for it in names]
+    outputs = [it for it in outputs if it[1] != "-"]
     for number, (word, file) in enumerate(outputs):
         taken = next((what for it, what in inputs.items() if it and is_one(file, it)), None)
         # (a stream takes several outputs)
         is_file = os.path.isfile(file) or not os.path.exists(file)
         other = next((it for it, before in outputs[:number] if is_file and is_one(file, before)), None)
-        refuse((taken or other, f"{word}: that file is {taken or f'also the one of {other}'}: {UNOPENED}"))
+        is_wrong = word.startswith(begin) and (taken or other)
+        refuse((is_wrong, f"{word}: that file is {taken or f'also the one of {other}'}: {UNOPENED}"))
 
 
 def is_one(one: str, other: str) -> bool:
@@ -759,5 +762,8 @@ def main():
         (words.part == "?", list_parts),
         (words.programmer == "?", lambda: show("\n".join(SPEAKING))),
     )
-    several = lambda: station(words, DEVICES, prepare, live)
-    return (shown or (several if words.is_station else lambda: reported(words)))()
+    if shown:
+        return shown()
+    # (a refused command has a report, too, but not in place of its own files)
+    judge_files(words, "--json ")
+    return station(words, DEVICES, prepare, live) if words.is_station else reported(words)

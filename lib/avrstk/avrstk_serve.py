@@ -1,8 +1,9 @@
 """avrstk-serve: the clients at a port or a terminal, and the runs of avrstk_session for them."""
 
 from avrstk_common import BRIEF, ENDING, HELP, READ, Fault, Way, built, came, ended_by, heed_signals, noted, part_words
-from avrstk_common import readable, ready, refuse, say, session_program, show, version, wait
+from avrstk_common import readable, ready, refuse, say, session_program, show, text_of, version, wait
 from avrstk_faults import FAULTS, REFUSED, Traffic, seconds
+from avrstk_report import build, write
 
 import atexit
 import contextlib
@@ -31,7 +32,7 @@ PATIENCE = 8
 GRACE = 10
 
 LONG = ["parts=", "chip=", "idle=", "listen=", "pty=", "timeout=", "log=", "log-limit=", "seed=", "locked"]
-LONG += ["strict", "version", "help"]
+LONG += ["strict", "json=", "version", "help"]
 LONG += [it[2:] + "=" for it in FAULTS] + [it[2:] for it in REFUSED]
 
 
@@ -198,6 +199,8 @@ class Server:
 
     def __init__(self, door, program, idle, traffic):
         self.door, self.program, self.idle, self.traffic, self.has_failed = door, program, idle, traffic, False
+        # what --json has of each session
+        self.sessions: List[dict] = []
 
     def serve_all(self, command, limit):
         """Serves while this command runs, for at most `limit` seconds, or until a signal comes. Returns the status."""
@@ -241,8 +244,24 @@ class Server:
             until = None if is_well else until or grace and time.monotonic() + grace
 
     def serve(self, client):
+        """Serves one client, and notes the session for a report. Returns whether the client ended it, and its chip was
+        saved."""
+        begun, before = time.monotonic(), self.traffic and (self.traffic.count, self.traffic.struck.copy())
+        is_well = is_saved = False
+        try:
+            is_well, is_saved = self.run_for(client)
+        finally:
+            if before:
+                struck = {it: self.traffic.struck[it] - before[1][it] for it in self.traffic.given}
+                faults = [{"fault": it, "struck": count} for it, count in struck.items() if count]
+                kept = {"commands": self.traffic.count - before[0], "faults": faults}
+                kept["seconds"] = round(time.monotonic() - begun, 3)
+                self.sessions.append({**kept, "idle": is_saved and not is_well, "saved": is_saved})
+        return is_well and is_saved
+
+    def run_for(self, client):
         """Serves one client by a run of its own. On return the run has ended and saved the chip. Returns whether the
-        client ended the session, and its chip was saved."""
+        client was not idle, and whether its chip was saved."""
         line, other = socket.socketpair()
         with line:
             with other:
@@ -260,7 +279,7 @@ class Server:
             how = f"status {run.returncode}" if run.returncode > 0 else f"ended by signal {-run.returncode}"
             self.has_failed = True
             say(f"a session failed ({how}): its changes may not be in the chip file")
-        return is_well and not run.returncode
+        return is_well, not run.returncode
 
     def pass_on(self, client, line):
         """Passes bytes between a client and its run until either has gone, the client is idle, or a signal comes.
@@ -361,9 +380,29 @@ def main():
     options = dict(given)
     if {"-h", "--help", "--version"} & set(options) or not sys.argv[1:]:
         return show(version() if "--version" in options else HELP if "--help" in options else BRIEF)
+    if "--json" not in options:
+        return serve(given, places, client)
+    own = {name: options[name] for name in ("--chip", "--parts", "--log") if name in options}
+    same = [name for name, it in own.items() if os.path.realpath(it) == os.path.realpath(options["--json"])]
+    refuse((same, f"--json {options['--json']}: this is the file of {' and '.join(same)}"))
+    held = {"status": 1, "error": None, "part": options.get("-p"), "chip": options.get("--chip")}
+    held.update({"command": client or None, "seed": None, "seconds": 0.0, "faults": [], "sessions": []})
+    try:
+        return serve(given, places, client, held)
+    except (Fault, OSError) as fault:
+        held["error"] = text_of(fault)
+        raise
+    finally:
+        write(options["--json"], {**build(), **held})
+
+
+def serve(given, places, client, held=None):
+    """Serves by these options until a signal or the client's end. `held` gets the report's fields, if one is asked
+    for. Returns the status."""
+    options, begun = dict(given), time.monotonic()
     idle, limit = (seconds(it, options[it]) if it in options else None for it in ("--idle", "--timeout"))
     door, chip, parts = door_of(places, options, idle, client), options.get("--chip"), options.get("--parts")
-    traffic = Traffic(given) if {"--log", *FAULTS, *REFUSED} & set(options) else None
+    traffic = Traffic(given) if {"--log", "--json", *FAULTS, *REFUSED} & set(options) else None
     refuse(
         (chip is None, "no chip file given (--chip)"),
         (re.search(r"[\udc80-\udcff]", chip or ""), f"--chip {chip}: the name is not UTF-8"),
@@ -381,8 +420,14 @@ def main():
     if "--locked" in options and fails(built(None), *words, "-q", "-q", "-U", "lock:w:0xFC:m"):
         return 1
     heed_signals()
+    server, status = Server(door, command, idle, traffic), 1
     try:
-        return Server(door, command, idle, traffic).serve_all(client, limit)
+        status = server.serve_all(client, limit)
+        return status
     finally:
         # (while Python ends, another signal would end it by that signal)
         ignore_signals()
+        if held is not None:
+            faults = [{"fault": it, "struck": traffic.struck[it]} for it in traffic.given]
+            held.update({"status": status, "seed": traffic.seed, "faults": faults, "sessions": server.sessions})
+            held["seconds"] = round(time.monotonic() - begun, 3)
