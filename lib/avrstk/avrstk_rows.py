@@ -99,7 +99,7 @@ class Rows:
         self.words, self.part, self.is_all = (
             words,
             {it: int(value, 0) for it, value in fields.items()},
-            words.tries == "all",
+            words.trial == "all",
         )
         self.sizes = {"signature": 3, "calibration": 1, "lfuse": 1, "hfuse": 1, "efuse": 1, "lock": 1}
         self.sizes.update({it: self.part[f"{it}_size"] for it in ("flash", "eeprom")})

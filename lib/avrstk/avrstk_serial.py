@@ -489,15 +489,15 @@ def check(words: Words) -> None:
 def judge_rows(words: Words) -> None:
     """Refuses what --try-rows doesn't take."""
     own = {"--try-rows", "--yes", "--parts", "--wait", "-p", "-P", "-c", "-b", "-l", "-q", "-v", "-C", "-s", "-u"}
-    other, name = next((it for it in words.last if it not in own), None), f"--try-rows={words.tries}"
+    other, name = next((it for it in words.last if it not in own), None), f"--try-rows={words.trial}"
     spare = "erases and writes the chip, and clears a bit of its lock: at a chip to spare give --yes, too"
     refuse(
-        (words.tries is None and "--yes" in words.last, "--yes is for --try-rows=all"),
-        (words.tries not in (None, "safe", "all"), f"{name}: there is --try-rows, and --try-rows=all"),
-        (words.tries and other, f"--try-rows tries a programmer, and takes no {other}"),
-        (words.tries and words.is_station, "--try-rows is for one board"),
-        (words.tries and words.has_port, f"--try-rows is for a serial device, not -P {words.device}"),
-        (words.tries == "all" and "--yes" not in words.last, f"{name} {spare}; {UNOPENED}"),
+        (words.trial is None and "--yes" in words.last, "--yes is for --try-rows=all"),
+        (words.trial not in (None, "safe", "all"), f"{name}: there is --try-rows, and --try-rows=all"),
+        (words.trial and other, f"--try-rows tries a programmer, and takes no {other}"),
+        (words.trial and words.is_station, "--try-rows is for one board"),
+        (words.trial and words.has_port, f"--try-rows is for a serial device, not -P {words.device}"),
+        (words.trial == "all" and "--yes" not in words.last, f"{name} {spare}; {UNOPENED}"),
     )
 
 
@@ -707,7 +707,7 @@ def serve(words):
 
 
 def perform(words):
-    if words.tries:
+    if words.trial:
         if words.part == "auto":
             detect(words)
         return try_rows(words, lambda: opened(words))

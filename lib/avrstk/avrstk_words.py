@@ -94,7 +94,7 @@ class Words:
         self.part, self.device, self.parts_file = last.get("-p"), last.get("-P"), last.get("--parts")
         self.programmer, baud = last.get("-c", "stk500v2"), last.get("-b")
         self.wait, self.retry = last.get("--wait", "0.3"), last.get("--retry", "0")
-        self.backup, self.restore, self.tries = (last.get(it) for it in ("--backup", "--restore", "--try-rows"))
+        self.backup, self.restore, self.trial = (last.get(it) for it in ("--backup", "--restore", "--try-rows"))
         # all devices of the command. A station has several boards, or all that are there
         self.devices = [value for name, value in options if name == "-P"]
         self.is_station = len(self.devices) > 1 or self.devices == ["all"]
