@@ -576,17 +576,22 @@ def lost_byte_of_a_page():
     AVRDUDE 7.1 hasn't ended after 80 seconds (with FULL=1; else 20)."""
     image, old = random.Random(5).randbytes(700), random.Random(9).randbytes(FLASH)
     room.put("image.hex", hex_of([(0, image)]))
-    words = "-p m328p -c arduino -b 115200 -D -U flash:w:image.hex:i -P"
-    at = Terminal("optiboot", old)
-    at.board.up = LosesInPage()
-    status, _ = run_script([*words.split(), at.device])
-    board = at.end()
-    same("a lost byte: avrstk-serial", (status, board.up.has_lost, board.flash()[:700] == image), (0, True, True))
+    (firmware("optiboot"), library(), silence())
+
+    def ours():
+        board = Board("optiboot", old, LosesInPage())
+        status, _ = over(board, "-p m328p -D -U flash:w:image.hex:i".split())
+        return status, board.up.has_lost, board.flash()[:700] == image, round(board.ended - board.begun)
+
+    found = apart(ours)
+    same("a lost byte: avrstk-serial", found[:3], (0, True, True))
+    see("a lost byte: its seconds", found[3] in (5, 6, 7), found)
     if not has_avrdude():
         return leave_out("a lost byte: AVRDUDE", "AVRDUDE 7.1 is not installed")
     at = Terminal("optiboot", old)
     at.board.up, has_ended = LosesInPage(), True
-    with room.start([*words.split(), at.device], program=["avrdude"]) as tool:
+    words = ["-p", "m328p", "-c", "arduino", "-b", "115200", "-D", "-U", "flash:w:image.hex:i", "-P", at.device]
+    with room.start(words, program=["avrdude"]) as tool:
         try:
             tool.communicate(timeout=80 if os.environ.get("FULL") == "1" else 20)
         except subprocess.TimeoutExpired:

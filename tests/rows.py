@@ -64,12 +64,13 @@ class Plug:
 
     def bring(self, programmer):
         """Passes bytes on until the device is closed, and then waits until the programmer has ended."""
-        while serial.is_open(self.line) and not self.vanishes.is_set():
-            found, _, _ = select.select([self.line, programmer], [], [], 0.02)
-            if self.line in found:
-                programmer.sendall(os.read(self.line, 4_096))
-            if programmer in found:
-                os.write(self.line, programmer.recv(4_096))
+        with contextlib.suppress(OSError):
+            while serial.is_open(self.line) and not self.vanishes.is_set():
+                found, _, _ = select.select([self.line, programmer], [], [], 0.02)
+                if self.line in found:
+                    programmer.sendall(os.read(self.line, 4_096))
+                if programmer in found:
+                    os.write(self.line, programmer.recv(4_096))
         programmer.shutdown(1)
         while programmer.recv(4_096):
             pass
