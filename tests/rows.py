@@ -64,12 +64,13 @@ class Plug:
 
     def bring(self, programmer):
         """Passes bytes on until the device is closed, and then waits until the programmer has ended."""
-        while serial.is_open(self.line) and not self.vanishes.is_set():
-            found, _, _ = select.select([self.line, programmer], [], [], 0.02)
-            if self.line in found:
-                programmer.sendall(os.read(self.line, 4_096))
-            if programmer in found:
-                os.write(self.line, programmer.recv(4_096))
+        with contextlib.suppress(OSError):
+            while serial.is_open(self.line) and not self.vanishes.is_set():
+                found, _, _ = select.select([self.line, programmer], [], [], 0.02)
+                if self.line in found:
+                    programmer.sendall(os.read(self.line, 4_096))
+                if programmer in found:
+                    os.write(self.line, programmer.recv(4_096))
         programmer.shutdown(1)
         while programmer.recv(4_096):
             pass
@@ -294,7 +295,8 @@ WRONG = [
 def wrong():
     """Each wrong programmer fails its row, and that row alone. The promise is the one that the others leave."""
     for number, (row, act) in enumerate(WRONG):
-        rows, what, left = row.split(", "), f"wrong {number}, {row}", ["writes EEPROM"] * (row == "reads EEPROM")
+        rows, what = row.split(", "), f"wrong {number}, {row}"
+        left = ["damaged frame", "writes EEPROM"] if row == "reads EEPROM" else []
         plug = Plug(Wrong(act).call)
         words = [*TINY, "-P", plug.device, *(ALL if row in WRITING else SAFE)]
         unread = f" (not {row[6:]})" if row in READING else ""
@@ -305,6 +307,7 @@ def wrong():
     plug = Plug(Wrong(lambda body, ask: ask(body), obeys_all=True).call)
     tried("damaged frames are obeyed", [*TINY, "-P", plug.device, *SAFE], ["damaged frame"], WRITING, "none")
     plug.end()
+    same("damaged frames are obeyed: the chip", room.read("wrong.bin"), CHIP)
 
 
 def unseen():
@@ -362,7 +365,7 @@ def refused():
         f"{at} --try-rows -U lfuse:r:-:h": "--try-rows tries a programmer, and takes no -U",
         f"{at} --try-rows --json report": "--try-rows tries a programmer, and takes no --json",
         "-P emu:chip.bin -p m328p --try-rows": "--try-rows is for a serial device, not -P emu:chip.bin",
-        "-P /dev/null -p nosuch --try-rows": "the sizes of nosuch are not known",
+        "-P /dev/null -p nosuch --try-rows": "the sizes of nosuch are not known here: nothing was sent, and the device was",
     }
     for words, why in cases.items():
         status, output, _, own = serial.run(words.split())

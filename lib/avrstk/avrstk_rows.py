@@ -7,13 +7,15 @@ from avrstk_common import READ, Fault, Frames, came, is_frame, ready, refuse, sa
 from avrstk_backup import FILES, command_again
 from avrstk_elf import hex_rows
 from avrstk_faults import framed, spoiled, xor
+from avrstk_words import UNOPENED
 
 import contextlib
 import os
 import random
+import re
 import tempfile
 import time
-from typing import Any, Callable, Dict, List, Optional, Tuple
+from typing import Any, Callable, Dict, List, Optional, Sequence, Tuple
 
 # what a chip's memories hold; None is a memory that can't be read
 Chip = Dict[str, Optional[bytes]]
@@ -94,19 +96,16 @@ class Rows:
 
     def __init__(self, words: Any, opens: Callable[[], Any]) -> None:
         names = ("flash_size", "flash_page", "eeprom_size", "eeprom_page", "eesave_bit")
-        fields = {it: words.of_part(it) for it in names}
-        refuse((None in fields.values(), f"the sizes of {words.part} are not known"))
-        self.words, self.part, self.is_all = (
-            words,
-            {it: int(value, 0) for it, value in fields.items()},
-            words.trial == "all",
-        )
-        self.sizes = {"signature": 3, "calibration": 1, "lfuse": 1, "hfuse": 1, "efuse": 1, "lock": 1}
-        self.sizes.update({it: self.part[f"{it}_size"] for it in ("flash", "eeprom")})
-        # the pages that are written. (Of the EEPROM of -c wiring only the first 256 bytes can be restored by a command)
-        within = min(self.sizes["eeprom"], 256 if words.is_wiring else 1 << 16)
-        self.cell = within // 2 // self.part["eeprom_page"] * self.part["eeprom_page"]
-        self.page = min(10, self.sizes["flash"] // self.part["flash_page"] // 2) * self.part["flash_page"]
+        found = {it: words.of_part(it) or "" for it in names}
+        is_known = all(re.fullmatch("[1-9][0-9_]*|0", it) for it in found.values())
+        refuse((not is_known, f"the sizes of {words.part} are not known here: {UNOPENED}"))
+        self.part = part = {it: int(value) for it, value in found.items()}
+        self.words, self.is_all, self.sizes = words, words.trial == "all", {"signature": 3, "calibration": 1}
+        self.sizes.update({it: 1 for it in (*FUSES, "lock")}, flash=part["flash_size"], eeprom=part["eeprom_size"])
+        # the pages that are written. (With -c wiring a command restores only the first 256 bytes of EEPROM)
+        half = min(part["eeprom_size"], 256 if words.is_wiring else 1 << 16) // 2
+        self.cell = half // part["eeprom_page"] * part["eeprom_page"]
+        self.page = min(10, part["flash_size"] // part["flash_page"] // 2) * part["flash_page"]
         self.results: Dict[str, Optional[bool]] = {}
         self.chip: Chip = {}
         self.saved: Chip = {}
@@ -121,6 +120,10 @@ class Rows:
     def leave_out(self, name: str, why: str) -> None:
         self.results[name] = None
         show(f"row {name:19} not tried {why}")
+
+    def leave_out_all(self, why: str) -> None:
+        for name in WRITING:
+            self.leave_out(name, why)
 
     def addressed(self, memory: str, at: int) -> List[bytes]:
         """Returns the LOAD_ADDRESS of a command, if it has one."""
@@ -149,18 +152,13 @@ class Rows:
     def blocks(self, memory: str, shift: int = 0) -> List[Tuple[int, int]]:
         """Returns place and length of the blocks of a memory. With `shift` they begin elsewhere, and a few more are
         drawn."""
-        size = self.sizes[memory]
+        size, step = self.sizes[memory], 2 if memory == "flash" else 1
         if memory not in ("flash", "eeprom"):
             return [(it, 1) for it in range(size)]
-        shift = min(shift, size // 4 * 2)
-        ends = [*range(shift, size, BLOCK)][not shift :] + [size]
-        found, even = (
-            list(zip([0, *ends], (it - at for at, it in zip([0, *ends], ends)))),
-            2 if memory == "flash" else 1,
-        )
-        for _ in range(4 if shift else 0):
-            at = random.randrange(0, size - even, even)
-            found.append((at, random.randrange(even, min(BLOCK, size - at) + 1, even)))
+        begins = [0, *range(min(shift, size // 4 * 2) or BLOCK, size, BLOCK)]
+        found = [(at, end - at) for at, end in zip(begins, [*begins[1:], size])]
+        for at in [random.randrange(0, size - step, step) for _ in range(4 if shift else 0)]:
+            found.append((at, random.randrange(step, min(BLOCK, size - at) + 1, step)))
         return found
 
     def whole(self) -> Chip:
@@ -204,6 +202,9 @@ class Rows:
         self.chip = self.whole() if fault else done
         return fault and f"{hexed(*step)} was answered {hexed(reply)}; {fault}", f"{hexed(reply)}: {seen}"
 
+    def write(self, memory: str, at: int, data: bytes, enters: bool = False) -> Tuple[Optional[str], str]:
+        return self.attempt(self.written(memory, at, data), *self.writing(memory, at, data), enters=enters)
+
     def enter(self) -> None:
         reply = self.programmer.ask(ENTER)
         if reply != ENTER[:1] + b"\0":
@@ -214,8 +215,8 @@ class Rows:
         self.programmer.ask(SIGN_ON)
         self.enter()
         signature, lock = [self.read("signature", it, 1) or b"" for it in range(3)], self.read("lock", 0, 1)
-        found, own = b"".join(signature), bytes.fromhex(self.words.of_part("signature") or "")
-        if found and found != own:
+        found = b"".join(signature)
+        if found and found.hex() != (self.words.of_part("signature") or "").lower():
             raise Ended(f"the chip's signature is {hexed(found)}: is -p right?")
         if lock and lock[0] & 3 != 3:
             raise Ended(f"the chip is locked ({hexed(lock)}), so nothing is tried")
@@ -234,9 +235,12 @@ class Rows:
             with open(f"{self.folder}/{name}", "w", encoding="ascii") as file:
                 file.write(values if name.endswith("txt") else "".join(hex_rows([(begin, held[begin:])])))
 
-    def restores(self, *more: str) -> None:
-        """Notes the options that restore the chip from now on."""
-        self.undo = command_again(self.words, *more) if more else ""
+    def begin_to_change(self) -> None:
+        """Notes the command that restores the chip from now on."""
+        page = ("-U", f"eeprom:w:{self.folder}/page.hex:i") if self.saved["eeprom"] else ()
+        front = ("-D", "-U", f"flash:w:{self.folder}/front.hex:i", *page)
+        all_of_it = front if self.words.is_bootloader else (f"--restore={self.folder}",)
+        self.undo = command_again(self.words, *(all_of_it if self.is_all else page))
 
     def only(self, *memories: str) -> Chip:
         return {it: self.chip[it] for it in memories}
@@ -245,7 +249,7 @@ class Rows:
         """Reads memories again, by blocks that begin elsewhere. (If all is well, `eeprom` reads it once more.)"""
         for name in READING:
             here = {it: held for it, held in self.only(*MEMORIES[name]).items() if held is not None}
-            fault = self.difference(here, BLOCK // 2)
+            fault = self.difference({**here}, BLOCK // 2)
             seen = ", ".join(hexed(it) if len(it) < 4 else f"{len(it):,} bytes" for it in here.values())
             if not here:
                 self.read(MEMORIES[name][0], 0, 1)
@@ -265,15 +269,12 @@ class Rows:
             self.row(name, fault and f"{hexed(body)} was answered {hexed(reply)}; {fault}", hexed(reply))
             self.chip = self.whole() if fault else self.chip
 
-    def damaged(self) -> None:
+    def damaged(self, write: bytes) -> None:
         """A frame with a wrong checksum is not obeyed."""
-        held, bodies = self.chip["eeprom"], [ERASE] * self.is_all
         if self.words.is_version1:
             return self.leave_out("damaged frame", "version 1 has no checksums")
-        if held is not None:
-            load, write = self.writing("eeprom", self.cell, bytes([held[self.cell] ^ 0xA5]))
-            self.programmer.ask(load)
-            bodies.insert(0, write)
+        self.programmer.ask(*self.addressed("eeprom", self.cell))
+        bodies = [write, *[ERASE] * self.is_all]
         replies = [self.programmer.send(it, True) for it in bodies]
         obeyed = [hexed(it) for it, reply in zip(bodies, replies) if reply and reply[1:2] == b"\0"]
         fault = f"{' and '.join(obeyed)} was obeyed" if obeyed else self.difference(self.chip)
@@ -282,29 +283,28 @@ class Rows:
 
     def eeprom(self) -> None:
         """Inverts bits of all but one byte of a page, and puts them back twice. Both ways of reading see the same."""
-        held, fault = self.chip["eeprom"], None
+        held, fault, seen, unlike = self.chip["eeprom"], None, "", None
         if held is None or "reads EEPROM" in self.results:
+            self.leave_out("damaged frame", "EEPROM can't be read")
             return self.leave_out("writes EEPROM", "EEPROM can't be read")
-        old, seen, unlike = held[self.cell : self.cell + self.part["eeprom_page"]], "", None
-        self.restores("-U", f"eeprom:w:{self.folder}/page.hex:i")
+        old = held[self.cell : self.cell + self.part["eeprom_page"]]
+        self.begin_to_change()
+        self.damaged(self.writing("eeprom", self.cell, bytes(it ^ 0x5A for it in old))[-1])
         for data in bytes(it ^ 0xA5 for it in old[:-1] or old), old, old:
-            wrong, told = self.attempt(
-                self.written("eeprom", self.cell, data), *self.writing("eeprom", self.cell, data)
-            )
+            wrong, told = self.write("eeprom", self.cell, data)
             fault, seen = fault or wrong, seen or told
             if not unlike:
                 unlike = self.difference(self.only("eeprom"), BLOCK // 2)
                 unlike = unlike and f"{self.asked}; {unlike}"
-        self.is_restored("eeprom")
+        self.is_put_back()
         self.row("reads EEPROM", unlike, f"{len(held):,} bytes")
         if unlike:
-            self.leave_out("writes EEPROM", "what is written can't be read")
-        else:
-            self.row("writes EEPROM", fault, seen)
+            return self.leave_out("writes EEPROM", "what is written can't be read")
+        self.row("writes EEPROM", fault, seen)
 
-    def is_restored(self, memory: str) -> None:
-        if self.chip[memory] == self.saved[memory]:
-            self.restores()
+    def is_put_back(self) -> None:
+        if self.chip["eeprom"] == self.saved["eeprom"] and not self.is_all:
+            self.undo = ""
 
     def restart(self) -> None:
         """After a restart each row before the next ENTER is refused, or does what it says."""
@@ -319,12 +319,11 @@ class Rows:
         held = self.chip["eeprom"] if self.results["reads EEPROM"] else None
         if held is not None:
             old = held[self.cell : self.cell + self.part["eeprom_page"]]
-            self.restores("-U", f"eeprom:w:{self.folder}/page.hex:i")
-            for enters, data in (True, bytes(it ^ 0x5A for it in old)), (False, old):
-                step = self.writing("eeprom", self.cell, data)
-                wrong, _ = self.attempt(self.written("eeprom", self.cell, data), *step, enters=enters)
-                fault = fault or (wrong and f"before ENTER {wrong}")
-            self.is_restored("eeprom")
+            self.begin_to_change()
+            wrong, _ = self.write("eeprom", self.cell, bytes(it ^ 0x5A for it in old), enters=True)
+            again, _ = self.write("eeprom", self.cell, old)
+            fault = fault or (wrong and f"before ENTER {wrong}") or again
+            self.is_put_back()
         self.enter()
         changed, refused = self.difference(self.chip), found.count(None)
         fault, self.chip = fault or changed, self.whole() if changed else self.chip
@@ -337,45 +336,39 @@ class Rows:
             self.leave_out("erases", "not all memories can be restored")
             return False
         takes = hfuse[0] >> self.part["eesave_bit"] & 1
-        done = {**self.chip, "flash": b"\xff" * len(flash), "eeprom": b"\xff" * len(eeprom) if takes else eeprom}
-        done["lock"] = b"\xff"
+        done: Chip = {**self.chip, "flash": b"\xff" * len(flash), "lock": b"\xff"}
+        done["eeprom"] = b"\xff" * len(eeprom) if takes else eeprom
         fault, seen = self.attempt(done, ERASE)
         self.row("erases", fault, seen)
         return self.chip is done
 
     def changes(self) -> None:
         """Erases, and writes flash, fuses and the lock."""
-        page, is_loader = self.part["flash_page"], self.words.is_bootloader
         if self.chip["flash"] is None:
-            for name in WRITING:
-                self.leave_out(name, "flash can't be read")
-            return
-        front = ("-D", "-U", f"flash:w:{self.folder}/front.hex:i")
-        self.restores(*(front if is_loader else (f"--restore={self.folder}",)))
+            return self.leave_out_all("flash can't be read")
+        self.begin_to_change()
         is_erased = self.erase()
-        one, other = os.urandom(page), os.urandom(page)
-        self.write("writes flash", [("flash", it) for it in (one, one, other)], "twice, and another page over it")
-        self.write("writes fuses", [(it, self.chip[it]) for it in FUSES], "each with its own byte")
+        one, other = os.urandom(self.part["flash_page"]), os.urandom(self.part["flash_page"])
+        self.writes("writes flash", [("flash", it) for it in (one, one, other)], "twice, and another page over it")
+        # (a part of which nothing is known may have no extended fuse)
+        fuses = FUSES if self.words.parts_file is None or self.words.bits() else FUSES[:2]
+        self.writes("writes fuses", [(it, self.chip[it]) for it in fuses], "each with its own byte")
         # (a bit of the lock is cleared only if an erase has set it, or a bootloader can't clear it)
-        values = [b"\xff", b"\xfe"] if is_erased or is_loader else [b"\xff"]
-        lock = self.chip["lock"] and values
-        self.write("writes lock", [("lock", it) for it in lock or [None]], f"with {hexed(*values)}")
+        values = [b"\xff", b"\xfe"] if is_erased or self.words.is_bootloader else [b"\xff"]
+        lock = [("lock", it if self.chip["lock"] else None) for it in values]
+        self.writes("writes lock", lock, f"with {hexed(*values)}")
         self.restore(is_erased)
 
-    def write(self, name: str, given: List[Tuple[str, Optional[bytes]]], what: str) -> None:
+    def writes(self, name: str, given: Sequence[Tuple[str, Optional[bytes]]], what: str) -> None:
         """Writes these bytes, one after another, up to the first fault."""
         fault, seen = None, ""
-        for memory, data in given if all(data for _, data in given) else []:
+        for memory, data in given:
+            if data is None:
+                return self.leave_out(name, "what is written can't be read")
             if not fault:
-                at = self.page if memory == "flash" else 0
-                fault, told = self.attempt(
-                    self.written(memory, at, data or b""), *self.writing(memory, at, data or b"")
-                )
+                fault, told = self.write(memory, self.page if memory == "flash" else 0, data)
                 seen = seen or f"{told}; {what}"
-        if seen:
-            self.row(name, fault, seen)
-        else:
-            self.leave_out(name, "what is written can't be read")
+        self.row(name, fault, seen)
 
     def restore(self, is_erased: bool) -> None:
         """Writes what was saved, in two rounds if needed."""
@@ -395,31 +388,30 @@ class Rows:
                     self.programmer.ask(*self.writing(memory, at, saved[at : at + page]))
             self.chip = self.whole()
             if self.chip == self.saved:
-                self.restores()
-                return say("the chip is as it was before")
+                self.undo = ""
+                say("the chip is as it was before")
+                break
 
     def try_all(self) -> None:
         self.begin()
         self.reads()
         self.keeps()
-        self.damaged()
         self.eeprom()
         self.restart()
         if self.is_all:
             self.changes()
         else:
-            for name in WRITING:
-                self.leave_out(name, "--try-rows=all tries it, at a chip to spare")
+            self.leave_out_all("--try-rows=all tries it, at a chip to spare")
         self.programmer.ask(LEAVE)
 
     def put_back(self) -> None:
         """After an early end, writes a page of EEPROM back if the programmer still replies."""
         self.programmer.heeds = False
-        if self.undo.endswith("page.hex:i"):
-            old = (self.saved["eeprom"] or b"")[self.cell : self.cell + self.part["eeprom_page"]]
-            reply = self.programmer.ask(*self.writing("eeprom", self.cell, old))
-            self.chip = {**self.chip, "eeprom": self.saved["eeprom"]} if reply[1:2] == b"\0" else self.chip
-            self.is_restored("eeprom")
+        old = self.saved.get("eeprom")
+        if self.undo and old and not self.is_all:
+            place = self.cell, old[self.cell : self.cell + self.part["eeprom_page"]]
+            if self.programmer.ask(*self.writing("eeprom", *place))[1:2] == b"\0":
+                self.undo = ""
         self.programmer.ask(LEAVE)
 
     def left(self) -> str:
@@ -431,9 +423,8 @@ class Rows:
         if not failed and None not in self.results.values() and not self.words.is_version1:
             return "the promise of README"
         limit = " while the line changes no byte (version 1 has no checksums)" * self.words.is_version1
-        return f"what a run has compared after its last write is there{limit}" + f" (not {', '.join(unread)})" * bool(
-            unread
-        )
+        limit += f" (not {', '.join(unread)})" if unread else ""
+        return f"what a run has compared after its last write is there{limit}"
 
 
 def try_rows(words: Any, opens: Callable[[], Any]) -> int:
@@ -447,12 +438,13 @@ def try_rows(words: Any, opens: Callable[[], Any]) -> int:
             rows.put_back()
     finally:
         rows.programmer.file.close()
-    tried = [it for it in rows.results.values() if it is not None]
+    tried, again = [it for it in rows.results.values() if it is not None], rows.programmer.repeated
     if why:
         say(f"no further row is tried: {why}")
-    say(
-        f"{sum(tried)} of {len(tried)} rows meet, tried at some addresses; {rows.programmer.repeated} commands repeated"
-    )
-    say(f"what that leaves: {rows.left() if not why else 'not known'}")
-    refuse((rows.undo, f"the chip is changed. What restores it: {rows.undo}"))
-    return int(bool(why) or not all(tried))
+    say(f"{sum(tried)} of {len(tried)} rows meet, tried at some addresses; {again} commands repeated")
+    say(f"what that leaves: {'not known' if why else rows.left()}")
+    if rows.undo:
+        say(f"the chip is changed. What restores it: {rows.undo}")
+    elif rows.chip != rows.saved:
+        say(f"the chip is changed. What it held is in {rows.folder}")
+    return 0 if all(tried) and not why else 1

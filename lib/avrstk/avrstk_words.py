@@ -88,6 +88,7 @@ class Words:
         refuse(
             *((value[:1] == "-", f"{name} has no value before {value}") for name, value in valued),
             (others and update in MEMORIES, f"an update is one word: give -U {':'.join([update or '', *others[:3]])}"),
+            (re.match("-.", other), f"{other} is after --, which ends the options: leave out --"),
             (re.match(r"[a-z]+:[rwv]:", other), f"{other} has no option before it: give -U {other}"),
             (others, f"{other} has no option before it: a file is given as -U flash:w:{other}"),
         )
