@@ -95,7 +95,7 @@ for fault in lose lose-reply corrupt corrupt-reply late drop
 end
 complete -c avrstk-serve -l seed -x -d 'repeat faults'
 complete -c avrstk-serve -l strict -d 'fail if a fault never struck'
-for flag in bootloader locked no-chip
+for flag in bootloader mega locked no-chip
     complete -c avrstk-serve -l $flag -d 'a programmer or chip that refuses'
 end
 complete -c avrstk-serve -l version -d 'print the version'

@@ -729,6 +729,24 @@ def reports():
     same("the chip stays", room.read("chip.bin"), b"no chip")
 
 
+def mega():
+    """With --mega the lock and the EEPROM stay when pages are erased, and only boot lock bits can be written. A corrupt
+    frame gets no reply. (tests/mega.py has the replies.)"""
+    flash, eeprom, rest = bytes(range(256)) * 1024, bytes(range(255, -1, -1)) * 16, b"\x62\xd9\xfd\xfc"
+    room.put("chip.bin", flash + eeprom + rest)
+    room.put("new.bin", bytes(1_000))
+    double, client = ["0", "-p", "m2560", "--chip", "chip.bin", "--mega"], [str(PROGRAM), "-p", "m2560", "-P", "net:{}"]
+    found, *_ = ran([*double, "--corrupt", "READ_LOCK", "--", *client, "-q", "-U", "lock:r:/dev/null:h"])
+    same("a corrupt frame", found, 1)
+    found, *_ = ran([*double, "--log", "log", "--corrupt", "SIGN_ON#1", "--", *client, "-q"])
+    same("and one", (found, marks()[0]), (0, "1, 1: SIGN_ON 01: corrupted, no reply"))
+    found, *_ = ran([*double, "--", *client, "-q", "-D", "-U", "flash:w:new.bin:r"])
+    wanted = bytes(1_000) + b"\xff" * 24 + flash[1_024:]
+    same("a locked chip is written", (found, room.read("chip.bin") == wanted + eeprom + rest), (0, True))
+    found, *_ = ran([*double, "--", *client, "-q", "-D", "-V", "-U", "lock:w:0x00:m"])
+    same("the lock", (found, room.read("chip.bin")[-1:].hex()), (0, "c0"))
+
+
 def report():
     """Returns the report, which has to fit its schema."""
     held = json.loads(room.read("report.json"))
@@ -745,7 +763,7 @@ CASES = named(
     *(listens, clients_that_send_nothing, one_after_another, half_closed, clients_that_reset, a_chip_in_use),
     *(idle_clients, ends_at_a_signal, refused, installed, status_of_sessions, a_command),
     *(no_inner_port, errors_end_one_session, signals_that_are_ignored, other_addresses, devices, logged),
-    *(avrdudes_in_a_row, faults, a_job_ends, at_a_terminal, logs_that_take_no_more, reports),
+    *(avrdudes_in_a_row, faults, a_job_ends, at_a_terminal, logs_that_take_no_more, reports, mega),
 )
 
 # an idle time, or AVRDUDE's own timeouts

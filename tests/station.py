@@ -229,7 +229,7 @@ IMAGES = {
     "cut.hex": (hex_of([(0x100, b"uncut")])[: -len(":00000001FF\n") - 1], None),
     "count.srec": (b"S1060000414243" b"33\nS5030001FB\nS9030000FC\n", None),
     "raw.bin": (bytes(range(1, 41)), {at: at + 1 for at in range(40)}),
-    "long.bin": (b"\x55" * 0x7F80, dict.fromkeys(range(0x7F80), 0x55)),
+    "long.bin": (b"\x95" * 0x7F80, dict.fromkeys(range(0x7F80), 0x95)),
     "small.elf": (elf_with(b"\x0c\x94\x34\x00"), dict(enumerate(b"\x0c\x94\x34\x00"))),
 }
 

@@ -96,7 +96,7 @@ class Traffic:
     def __init__(self, options):
         """Takes the options in their order, each with its value."""
         self.last = last = dict(options)
-        self.is_bootloader = "--bootloader" in last
+        self.is_bootloader, self.is_mega = "--bootloader" in last, "--mega" in last
         self.refused = set().union(*(codes for it, codes in REFUSED.items() if it in last))
         self.client = self.count = 0
         # how many commands of each name there were, and how many commands the fault of each option has struck
@@ -168,6 +168,10 @@ class Traffic:
         if "--lose" in faults:
             self.note(line, ["lost"])
             return b""
+        if self.is_mega and (xor(frame) or "--corrupt" in faults):
+            # (the Mega's bootloader gives no reply to a corrupt frame)
+            self.note(line, [FAULTS[it] for it in faults if it == "--corrupt"] + ["no reply"])
+            return spoiled(frame)
         before, frame = (b"", frame) if xor(frame) else self.refusing(frame[1], body)
         self.waiting.append((line, faults))
         return before + (spoiled(frame) if "--corrupt" in faults else frame)

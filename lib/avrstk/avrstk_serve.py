@@ -3,6 +3,7 @@
 from avrstk_common import BRIEF, ENDING, HELP, READ, Fault, Way, built, came, ended_by, heed_signals, noted, part_words
 from avrstk_common import readable, ready, refuse, say, session_program, show, text_of, version, wait
 from avrstk_faults import FAULTS, REFUSED, Traffic, seconds
+from avrstk_mega import Mega
 from avrstk_report import build, write
 
 import atexit
@@ -25,14 +26,15 @@ from typing import List, Optional
 # the most clients kept that have sent nothing; beyond that the oldest is hung up on. (So few open files are enough)
 MOST_SILENT = 8
 
-# the most seconds that a run has to save its chip once its client is gone, and a command to end after SIGTERM
-PATIENCE = 8
+# the most seconds that a run has to save its chip once its client is gone, and a command to end after SIGTERM. With
+# --mega a whole chip may be written then
+PATIENCE, PATIENCE_OF_MEGA = 8, 40
 
 # the seconds that a command has to end, or to begin a session that ends well, after one that did not
 GRACE = 10
 
 LONG = ["parts=", "chip=", "idle=", "listen=", "pty=", "timeout=", "log=", "log-limit=", "seed=", "locked"]
-LONG += ["strict", "json=", "version", "help"]
+LONG += ["strict", "json=", "mega", "version", "help"]
 LONG += [it[2:] + "=" for it in FAULTS] + [it[2:] for it in REFUSED]
 
 
@@ -197,7 +199,8 @@ def started() -> List[int]:
 class Server:
     """The clients at a door, and the runs of a program for them."""
 
-    def __init__(self, door, program, idle, traffic):
+    def __init__(self, door, program, idle, traffic, is_mega=False):
+        self.is_mega = is_mega
         self.door, self.program, self.idle, self.traffic, self.has_failed = door, program, idle, traffic, False
         # what --json has of each session
         self.sessions: List[dict] = []
@@ -264,15 +267,12 @@ class Server:
         client was not idle, and whether its chip was saved."""
         line, other = socket.socketpair()
         with line:
-            with other:
-                # (it saves its chip even if all processes of a service are sent a signal)
-                how = {"stdin": other, "stdout": other, "start_new_session": True, "preexec_fn": ignore_signals}
-                run = subprocess.Popen(self.program, **how)
+            run = self.start(other)
             try:
                 line.setblocking(False)
                 is_well = self.pass_on(client, line)
             finally:
-                hang_up(line, run)
+                hang_up(line, run, PATIENCE_OF_MEGA if self.is_mega else PATIENCE)
                 if self.traffic:
                     self.traffic.end()
         if run.returncode:
@@ -280,6 +280,17 @@ class Server:
             self.has_failed = True
             say(f"a session failed ({how}): its changes may not be in the chip file")
         return is_well, not run.returncode
+
+    def start(self, other):
+        """Starts a run with this end of a connection, or with --mega a bootloader there, and its run."""
+        programmer, own = socket.socketpair() if self.is_mega else (None, other)
+        with own:
+            # (it saves its chip even if all processes of a service are sent a signal)
+            how = {"stdin": own, "stdout": own, "start_new_session": True, "preexec_fn": ignore_signals}
+            run = subprocess.Popen(self.program, **how)
+        if self.is_mega:
+            threading.Thread(target=Mega(other, programmer).live, daemon=True).start()
+        return run
 
     def pass_on(self, client, line):
         """Passes bytes between a client and its run until either has gone, the client is idle, or a signal comes.
@@ -305,9 +316,9 @@ class Server:
         return True
 
 
-def hang_up(line, run):
+def hang_up(line, run, patience):
     """Ends what a run receives, and returns once it has saved the chip and ended, or was killed after too long."""
-    until = time.monotonic() + PATIENCE
+    until = time.monotonic() + patience
     # (if the run has ended, that is an error)
     with contextlib.suppress(OSError):
         line.shutdown(socket.SHUT_WR)
@@ -403,7 +414,11 @@ def serve(given, places, client, held=None):
     idle, limit = (seconds(it, options[it]) if it in options else None for it in ("--idle", "--timeout"))
     door, chip, parts = door_of(places, options, idle, client), options.get("--chip"), options.get("--parts")
     traffic = Traffic(given) if {"--log", "--json", *FAULTS, *REFUSED} & set(options) else None
+    is_mega, others = "--mega" in options, [it for it in REFUSED if it in options]
+    is_2560 = parts is None and options.get("-p", "").lower() in ("m2560", "atmega2560")
     refuse(
+        (is_mega and not is_2560, "--mega is the bootloader of an ATmega2560: give -p m2560"),
+        (is_mega and others, f"--mega and {' and '.join(others)}: give one of them"),
         (chip is None, "no chip file given (--chip)"),
         (re.search(r"[\udc80-\udcff]", chip or ""), f"--chip {chip}: the name is not UTF-8"),
         (parts is not None and not os.path.isfile(parts), f"--parts {parts}: not a file that each client can read"),
@@ -420,7 +435,7 @@ def serve(given, places, client, held=None):
     if "--locked" in options and fails(built(None), *words, "-q", "-q", "-U", "lock:w:0xFC:m"):
         return 1
     heed_signals()
-    server, status = Server(door, command, idle, traffic), 1
+    server, status = Server(door, command, idle, traffic, is_mega), 1
     try:
         status = server.serve_all(client, limit)
         return status
