@@ -2,7 +2,6 @@
 browser's commands as JSON over HTTP (WebDriver)."""
 
 import json
-import re
 import shutil
 import socket
 import subprocess
@@ -26,8 +25,6 @@ BINARY = shutil.which("chromium-headless-shell") or shutil.which("chromium")
 SHAPES = ((WIDE, "light"), (NARROW, "dark"), (NARROW, "light"), (WIDE, "dark"))
 # the pages of the code, which are long and alike: one shape is enough
 CODE = ("docs/api/", "docs/definitions/", "crates/")
-# a copy of a file of the repository, which has no lines of its own
-COPY = re.compile(r"\.(?:py|rt|antt|h)\.html$")
 
 # the width of the page's contents, the smallest letters of its pictures, and the brightness of its ground and text
 MEASURED = """
@@ -124,7 +121,7 @@ def looked_at(folder):
     if not BINARY or not shutil.which("chromedriver"):
         print("left out: the site in a browser: chromium and chromedriver are not installed")
         return 0, []
-    pages = [it for it in sorted(folder.rglob("*.html")) if not COPY.search(it.name)]
+    pages = sorted(folder.rglob("*.html"))
     wrong = []
     with tempfile.TemporaryDirectory() as own:
         browser = Browser(own)

@@ -26,7 +26,9 @@ BEGUN, ENDED = "<!-- made: the theorem -->\n", "<!-- end -->\n"
 MINUTES = re.compile(r"^ {0,3}\d+\.\d ")
 VERDICT = re.compile(r"logic=(?P<verdict>\S+) functions=(?P<functions>\d+)(?: axioms=(?P<axioms>\d+))?")
 EMPTY = re.compile(r"empty contracts: (\d+) found; tried (\d+) of (\d+) functions")
-AXIOMS = re.compile(r"axioms (\w+): (.*) \((\d+) of the (\d+) declared\)")
+# the counts of contracts of C functions that a check takes as written, and with --list-axioms each of these functions
+AXIOMS = re.compile(r"axioms (\w+): (?:.* \()?(\d+) (?:reached )?of the (\d+) declared\)?")
+REACHED = re.compile(r"\s*(?:axiom )?((\w+)::\S+?):? .*\breached$")
 STATEMENTS = re.compile(r"statements (\w+):")
 CRATE = re.compile(r"== (\w+)$")
 REFUSED = re.compile(r"(?:rt: )?must-fail (\w+)/(\w+)\.edit: refused, as it must be(?:: )?(.*)")
@@ -180,10 +182,13 @@ def page(log):
 
 
 def trusted():
-    """Returns the crates whose statements the page lists, and the number of axioms for each crate of C functions."""
+    """Returns the crates whose statements the page lists; and the sum of axioms, and each number of them with its
+    crate."""
     text = PAGE.read_text()
     listed = re.search(r"^## Trusted statements\n\n.*\n\n(.*)\.$", text, re.M)[1]
-    return set(re.findall(r"`(\w+)`", listed)), re.findall(r"^- \*(\w+)\*, (\d+) of", text, re.M)
+    found = re.findall(r"^- \*(\w+)\*, (\d+) of", text, re.M)
+    each = [it for of, number in found if number != "0" for it in (number, of)]
+    return set(re.findall(r"`(\w+)`", listed)), (str(sum(int(it) for it in each[::2])), *each)
 
 
 if __name__ == "__main__":
