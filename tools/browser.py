@@ -2,7 +2,6 @@
 browser's commands as JSON over HTTP (WebDriver)."""
 
 import json
-import re
 import shutil
 import socket
 import subprocess
@@ -21,11 +20,11 @@ SOUGHT = {
     "ReceivedSentFrames": "docs/definitions/avr_laws.html",
 }
 WIDE, NARROW = 1280, 390
+# (the shell is the same browser without its windows, and takes half of the time)
+BINARY = shutil.which("chromium-headless-shell") or shutil.which("chromium")
 SHAPES = ((WIDE, "light"), (NARROW, "dark"), (NARROW, "light"), (WIDE, "dark"))
-# the long pages of the code, for which the first two shapes are enough
-CODE = ("docs/api/", "docs/definitions/")
-# a copy of a file of the repository, which has no lines of its own
-COPY = re.compile(r"\.(?:py|rt|antt|h)\.html$")
+# the pages of the code, which are long and alike: one shape is enough
+CODE = ("docs/api/", "docs/definitions/", "crates/")
 
 # the width of the page's contents, the smallest letters of its pictures, and the brightness of its ground and text
 MEASURED = """
@@ -94,7 +93,7 @@ class Browser:
 def faults_of(browser, page, name):
     """Yields what is wrong with a page, at each width and in light and dark."""
     browser.ask("/url", {"url": page.as_uri()})
-    for width, theme in SHAPES[:2] if str(name).startswith(CODE) else SHAPES:
+    for width, theme in SHAPES[1:2] if str(name).startswith(CODE) else SHAPES:
         browser.shape(width, theme)
         wide, letters, ground, text = browser.value(MEASURED)
         if wide > width:
@@ -119,10 +118,10 @@ def found_first(browser, folder, sought):
 
 def looked_at(folder):
     """Opens the pages of a site and searches it. Returns how much was right, and what is wrong."""
-    if names := [it for it in ("chromium", "chromedriver") if not shutil.which(it)]:
-        print(f"left out: the site in a browser: not installed: {', '.join(names)}")
+    if not BINARY or not shutil.which("chromedriver"):
+        print("left out: the site in a browser: chromium and chromedriver are not installed")
         return 0, []
-    pages = [it for it in sorted(folder.rglob("*.html")) if not COPY.search(it.name)]
+    pages = sorted(folder.rglob("*.html"))
     wrong = []
     with tempfile.TemporaryDirectory() as own:
         browser = Browser(own)

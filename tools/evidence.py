@@ -10,8 +10,10 @@ trusted, mutants, the summary and sums. The theorem is taken from the sources.""
 import os
 import platform
 import re
+import shutil
 import subprocess
 import sys
+from collections import defaultdict
 from datetime import datetime, timezone
 from pathlib import Path
 
@@ -26,10 +28,14 @@ BEGUN, ENDED = "<!-- made: the theorem -->\n", "<!-- end -->\n"
 MINUTES = re.compile(r"^ {0,3}\d+\.\d ")
 VERDICT = re.compile(r"logic=(?P<verdict>\S+) functions=(?P<functions>\d+)(?: axioms=(?P<axioms>\d+))?")
 EMPTY = re.compile(r"empty contracts: (\d+) found; tried (\d+) of (\d+) functions")
-AXIOMS = re.compile(r"axioms (\w+): (.*) \((\d+) of the (\d+) declared\)")
+# the counts of contracts of C functions that a check takes as written, and with --list-axioms each of these functions
+AXIOMS = re.compile(r"axioms (\w+): (?:.*\()?(\d+) of the (\d+) declared")
+REACHED = re.compile(r"\W*((\w+)::[\w:]+\w)\b.*\breached$")
 STATEMENTS = re.compile(r"statements (\w+):")
 CRATE = re.compile(r"== (\w+)$")
 REFUSED = re.compile(r"(?:rt: )?must-fail (\w+)/(\w+)\.edit: refused, as it must be(?:: )?(.*)")
+# a refusal that says less of the contract, with the reason
+LESS = re.compile(r" ?\((only [^,:]*).*?\): (.*)")
 PLACE = re.compile(r"(?:note: )?(\S+?:\d+):\d+: (.*)")
 
 KEY = """| In the block | Meaning |
@@ -40,7 +46,7 @@ KEY = """| In the block | Meaning |
 | `takes avrstk words` | the words are an accepted command line, and not a request for help |
 | `settings_from_arguments words` | the settings that the words ask for, among them the port |
 | `KeepsPlan settings old new` | the settings, and the files that the run opened, ask for a plan that was kept |
-| `IsKept plan passed old new` | by what passed over the link, the chip and the files read into hold what the plan asks for |
+| `IsKept plan passed old new` | by what passed over the link, chip and read files hold what the plan asks for |
 | `IsKeptInFile file plan old new` | the same of the chip in the chip file, without a link |
 | `At address (Some link)` | over the one connection to this address passed what `link` has |
 | `Unit {0}` | nothing is stated of a service (`--serve`) |"""
@@ -65,6 +71,37 @@ def theorem():
 def with_theorem(text):
     begin, end = text.index(BEGUN), text.index(ENDED) + len(ENDED)
     return text[:begin] + theorem() + text[end:]
+
+
+def below(name, crates):
+    """Returns the crates that a crate stands on, the lowest first."""
+    found = []
+    for it in crates.get(name, []):
+        found += [x for x in (*below(it, crates), it) if x not in found]
+    return found
+
+
+def axioms():
+    """Returns the C functions whose contracts the program's check takes as written, by crate. It checks the program
+    once more, over the libraries that the gate has built."""
+    lines = [re.sub("#.*", "", it).split() for it in (TOP / "crates.txt").read_text().splitlines()]
+    crates = {it[0].rstrip(":"): it[1:] for it in lines if it}
+    kit = Path(os.path.realpath(shutil.which("rattle"))).parent.parent
+    names = below(PROGRAM, crates)
+    built = {it: f"crates/{it}/out/rlib/{it}.rlib" for it in names if it in crates}
+    if not all((TOP / it).exists() for it in built.values()):
+        return {}
+    built |= {it: kit / f"rlibs/{it}.rlib" for it in [*names, "std", "core"] if it not in crates}
+    words = ["rattle", "check", "--crate-name", PROGRAM, "src/main.rt", "--list-axioms"]
+    for name, place in built.items():
+        words += ["--extern", f"{name}={TOP / place}"]
+    words += ["-L", f"dependency={kit}/rlibs", "--antt-project", kit / "rattle/logic/antt-project.json"]
+    words += ["--logic-built", kit / "logic_built"]
+    ran = subprocess.run(words, cwd=TOP / "crates" / PROGRAM, capture_output=True, text=True)
+    found = defaultdict(list)
+    for name, of in filter(None, (REACHED.match(it) and REACHED.match(it).groups() for it in ran.stdout.splitlines())):
+        found[of].append(f"`{name}`")
+    return found
 
 
 class Crate:
@@ -126,64 +163,100 @@ def verdicts(crates):
 def refusals(mutants):
     yield from ["| Mutant | Refused at | What the prover said |", "| --- | --- | --- |"]
     for crate, name, said in mutants:
-        found = PLACE.match(said.split(": ", 1)[1] if said.startswith("(") or said.startswith(" (") else said)
-        place, words = found.groups() if found else ("", said)
-        yield f"| {crate}: {name.replace('_', ' ')} | `{place}` | {words.replace('|', chr(92) + '|')} |"
+        only = LESS.match(said)
+        found = PLACE.match(only[2] if only else said)
+        place, words = (f"`{found[1]}`", found[2]) if found else ("", said)
+        words = "; ".join(filter(None, [only and only[1], words.replace("|", "\\|")]))
+        yield f"| {crate}: {name.replace('_', ' ')} | {place} | {words} |"
+
+
+TEMPLATE = """# Evidence
+
+This page is what the gate, `./test --all`, printed for one commit. `tools/evidence.py LOG` makes the page from the
+gate's log, so that the outcome can be seen without the kit. [CHECK](CHECK.md) explains each word, and how to run the
+gate.
+
+{about}
+
+## The theorem
+
+This is law `a_program_with_status_0_kept_its_plan` of avr_laws, as the sources have it: its main clause, and the two
+definitions that the clause names. [CHECK](CHECK.md#the-claim) explains the law line by line, and has
+[a key to the notation](CHECK.md#read-a-contract).
+
+{theorem}
+## Verdicts
+
+The prover's verdict on each crate. A contract is empty if no arguments meet its premises.
+
+{verdicts}
+
+The whole line of `{program}` is:
+
+    {line}
+
+## Axioms
+
+The check of `{program}` takes the contracts of these C functions as written. The kit has their text.
+
+{axioms}
+
+## Trusted statements
+
+The check of `{program}` uses the statements of these crates of the kit without checking them again:
+
+{trusted}.
+
+## Mutants
+
+Mutants are wrong edits of the code, which the prover has to refuse. [CHECK](CHECK.md#break-it) explains one of them.
+
+{mutants}
+
+## Sums
+
+{sums}
+
+## The gate's summary
+
+{summary}
+"""
+
+
+def as_code(rows, absent):
+    """Returns lines as a block of code, or what to say if there are none."""
+    return "\n".join(f"    {it}"[:120].rstrip() for it in rows) if rows else absent
 
 
 def page(log):
     """Returns the page."""
     crates, mutants, machine, summary = read(log)
-    program = crates.get(PROGRAM, Crate())
+    program, named = crates.get(PROGRAM, Crate()), axioms()
     stamp = TOP / "out/proved.stamp"
-    sums = stamp.read_text().splitlines() if stamp.exists() else ["the program of this log has no stamp"]
-    rows = [
-        "# Evidence",
-        "",
-        "This page is what the gate, `./test --all`, printed for one commit. `tools/evidence.py LOG`",
-    ]
-    rows += [
-        "makes the page from the gate's log, so whoever has no kit can look at the outcome. [CHECK](CHECK.md) explains"
-    ]
-    rows += ["each word, and how to run the gate.", "", *about(log, machine), "", "## The theorem", ""]
-    rows += [
-        "This is the law `a_program_with_status_0_kept_its_plan` of avr_laws, as the sources have it: its main clause,"
-    ]
-    rows += [
-        "and the two definitions that the clause names. [CHECK](CHECK.md#the-claim) explains the law line by line, and"
-    ]
-    rows += ["has [a key to the notation](CHECK.md#read-a-contract).", "", theorem(), "## Verdicts", ""]
-    rows += ["The prover's last line for each crate. No contract is empty if some arguments meet its premises.", ""]
-    rows += [*verdicts(crates), "", f"The whole line of `{PROGRAM}` is:", ""]
-    rows += [f"    {program.verdict.string if program.verdict else ''}", "", "## Axioms", ""]
-    rows += [f"The check of `{PROGRAM}` takes these contracts of C functions as written; the kit has their text.", ""]
-    for of, (names, some, declared) in program.axioms.items():
-        rows += [f"- *{of}*, {some} of {declared} declared: {', '.join(f'`{it}`' for it in names.split(', '))}"]
-    rows += ["", "## Trusted statements", ""]
-    others = [it for it in program.trusted if not (TOP / "crates" / it).is_dir()]
-    rows += [
-        f"The check of `{PROGRAM}` uses the statements of these crates of the kit without checking them again:",
-        "",
-    ]
-    rows += [", ".join(f"`{it}`" for it in others) + ".", "", "## Mutants", ""]
-    rows += [
-        f"Each of {len(mutants)} wrong edits of the code was refused. [CHECK](CHECK.md#break-it) explains one of them.",
-        "",
-    ]
-    rows += [*refusals(mutants), "", "## Sums", "", *(f"    {it}" for it in sums), ""]
-    rows += [
-        "## The gate's summary",
-        "",
-        *(f"    {it}"[:120].rstrip() for it in summary or ["(the log has no summary)"]),
-    ]
-    return "\n".join(rows) + "\n"
+    taken = [f"- *{of}*, {some} of {declared} declared" for of, (some, declared) in program.axioms.items()]
+    taken = [": ".join([it, *([", ".join(named[of])] if of in named else [])]) for it, of in zip(taken, program.axioms)]
+    return TEMPLATE.format(
+        program=PROGRAM,
+        about="\n".join(about(log, machine)),
+        theorem=theorem(),
+        verdicts="\n".join(verdicts(crates)),
+        line=program.verdict.string if program.verdict else "",
+        axioms="\n".join(taken),
+        trusted=", ".join(f"`{it}`" for it in program.trusted if not (TOP / "crates" / it).is_dir()),
+        mutants="\n".join(refusals(mutants)) if mutants else "This log tried no mutants.",
+        sums=as_code(stamp.read_text().splitlines() if stamp.exists() else [], "The program of this log has no stamp."),
+        summary=as_code(summary, "This log has no summary."),
+    )
 
 
 def trusted():
-    """Returns the crates whose statements the page lists, and the number of axioms for each crate of C functions."""
+    """Returns the crates whose statements the page lists; and the sum of axioms, and each number of them with its
+    crate."""
     text = PAGE.read_text()
     listed = re.search(r"^## Trusted statements\n\n.*\n\n(.*)\.$", text, re.M)[1]
-    return set(re.findall(r"`(\w+)`", listed)), re.findall(r"^- \*(\w+)\*, (\d+) of", text, re.M)
+    found = re.findall(r"^- \*(\w+)\*, (\d+) of", text, re.M)
+    each = [it for of, number in found if number != "0" for it in (number, of)]
+    return set(re.findall(r"`(\w+)`", listed)), (str(sum(int(it) for it in each[::2])), *each)
 
 
 if __name__ == "__main__":

@@ -151,7 +151,7 @@ def linked(name, text, pages):
         if not (TOP / path).is_file():
             return shown
         copied.add(path)
-        return f"[{shown}]({target}.md)"
+        return f'<a href="{target}.txt">{shown}</a>'
 
     # (a link in code is none)
     parts = re.split(r"(^ {0,3}```.*?^ {0,3}```|^(?: {4}).*?$|`[^`]*`)", text, flags=re.M | re.S)
@@ -159,7 +159,7 @@ def linked(name, text, pages):
 
 
 def write_sources(folder):
-    """Writes what Sphinx reads."""
+    """Writes what Sphinx reads, and returns the files of the repository that it links to."""
     pages, copied = sources(), set()
     pages["index"] = pages.pop("README")
     for caption, listed in GROUPS.items():
@@ -168,13 +168,11 @@ def write_sources(folder):
     for name, text in list(pages.items()):
         pages[name], files = linked(name, text, pages)
         copied |= files
-    for name in copied:
-        text = (TOP / name).read_text()
-        pages[name] = f"---\norphan: true\nnosearch: true\n---\n# {Path(name).name}\n\n``````text\n{text}``````\n"
     for name, text in pages.items():
         place = folder / f"{name}.md"
         place.parent.mkdir(parents=True, exist_ok=True)
         place.write_text(text)
+    return copied
 
 
 def titled(listed):
@@ -185,11 +183,15 @@ def titled(listed):
 def write(folder):
     """Writes the site, and returns Sphinx's warnings."""
     with tempfile.TemporaryDirectory() as made:
-        write_sources(Path(made, "pages"))
+        copied = write_sources(Path(made, "pages"))
         words = ["sphinx-build", "-q", "-b", "html", "-j", "auto", "-c", SITE, "-d", f"{made}/trees", f"{made}/pages"]
         ran = subprocess.run([*words, folder], stderr=subprocess.PIPE, text=True)
     for it in (".buildinfo", "objects.inv"):
         Path(folder, it).unlink(missing_ok=True)
+    for name in copied:
+        place = Path(folder, f"{name}.txt")
+        place.parent.mkdir(parents=True, exist_ok=True)
+        shutil.copyfile(TOP / name, place)
     return ran.stderr.splitlines() or [f"sphinx-build ends with status {ran.returncode}"] * bool(ran.returncode)
 
 
