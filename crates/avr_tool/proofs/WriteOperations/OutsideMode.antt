@@ -215,6 +215,11 @@ module _ (part : Part) (sound : IsPart part) where
       as_written _ commands e (one_idles part (read_signature place) (signature_read_fails place))
   idles commands (ReadsCalibration e) = as_written _ commands e (one_idles part read_calibration calibration_read_fails)
 
+  -- no attempt at a step goes on after a restart
+  pub step_ends : (commands : List Command) (m n : Memories) → IsStep part commands
+      → Unbroken device (λ p. Settled part m p ⊎ Settled part n p) commands
+  step_ends commands m n is = (idles commands is).unbroken m n
+
   -- a step that brings its data began in programming mode
   pub in_mode_by_data : (commands : List Command) (p : Programmer) (bytes : List ℕ) → IsStep part commands
       → joined_reply device commands [] p ≡ Data bytes → p.mode ≡ true
@@ -248,7 +253,7 @@ module _ (part : Part) (sound : IsPart part) where
         (settled_ready part m p (in_mode_by_data commands p bytes is has) s)));
     restart_keeps = λ p s. restart_is_settled part m p s;
     restart_keeps_after = λ p s. restart_is_settled part (memories_after_step part commands m) p s;
-    unbroken = (idles commands is).unbroken m (memories_after_step part commands m);
+    unbroken = step_ends commands m (memories_after_step part commands m) is;
   }
     where
       ready : IsRepeatable steady commands (Ready part m) (Ready part (memories_after_step part commands m))
