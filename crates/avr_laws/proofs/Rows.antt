@@ -14,3 +14,4 @@ pub mod Begun
 pub mod OtherChips
 pub mod EachSecond
 pub mod PageCounter
+pub mod WrongRows
