@@ -2,11 +2,11 @@
 """Measures the tool on large images, beside avr-objcopy and srec_cat if they are installed.
 
     (cd crates/avrstk && rt run < stdin > /dev/null)    builds crates/avrstk/out/avrstk
-    bench/run.py [RUNS]                                 the best of RUNS runs of each command (default 5), in milliseconds
-    bench/run.py --count                                instructions, the same on every machine (needs valgrind); fails if a
-                                                        figure is more than 2 % above the one in bench/figures.json
-    bench/run.py --count --write                        also writes these figures into the file
-    bench/run.py --calls                                system calls per frame, on both sides of a link (needs strace)
+    bench/run.py [RUNS]             the best of RUNS runs of each command (default 5), in milliseconds
+    bench/run.py --count            instructions, the same on every machine (needs valgrind); fails if a figure is more
+                                    than 2 % above the one in bench/figures.json
+    bench/run.py --count --write    also writes these figures into the file
+    bench/run.py --calls            system calls per frame, on both sides of a link (needs strace)
 
 Every figure is for a whole process. The images are the same in each run of this script.
 """
@@ -18,7 +18,6 @@ import re
 import shutil
 import subprocess
 import sys
-import tempfile
 import time
 from pathlib import Path
 
@@ -119,7 +118,9 @@ def peak(command, room):
     if not shutil.which("time"):
         return ""
     room.clear()
-    ran = subprocess.run(["time", "-q", "-f", "%M", *command], cwd=room.folder, stdin=subprocess.DEVNULL, capture_output=True, text=True)
+    ran = subprocess.run(
+        ["time", "-q", "-f", "%M", *command], cwd=room.folder, stdin=subprocess.DEVNULL, capture_output=True, text=True
+    )
     return f"{int(ran.stderr.split()[-1]):6} kB"
 
 
@@ -172,7 +173,7 @@ def time_line(room, runs):
     subprocess.run(["cc", "-O2", "-o", str(client), str(TOP / "bench/least_client.c")], check=True)
     room.given |= {"frames", "least_client"}
     least = best_over_line(room, runs, lambda port: [str(client), str(port), "frames"])
-    print(f"{least:9.1f} ms  {'':9}  the smallest client with the same frames (the tool takes {taken / least:.2f} times this)")
+    print(f"{least:9.1f} ms  {'':9}  the smallest client, same frames (the tool takes {taken / least:.2f} times this)")
 
 
 # ---- counts
@@ -205,8 +206,12 @@ def count_all(room):
 def calls_of_installed_help(room):
     """Returns the system calls of `avrstk --help` as install.sh installs it."""
     prefix, traced = room.folder / "installed", room.folder / "help.trace"
-    subprocess.run([TOP / "install.sh", prefix], env=os.environ | {"AVRSTK": str(PROGRAM)}, check=True, stdout=subprocess.DEVNULL)
-    subprocess.run(["strace", "-f", "-o", traced, prefix / "bin/avrstk", "--help"], check=True, stdout=subprocess.DEVNULL)
+    subprocess.run(
+        [TOP / "install.sh", prefix], env=os.environ | {"AVRSTK": str(PROGRAM)}, check=True, stdout=subprocess.DEVNULL
+    )
+    subprocess.run(
+        ["strace", "-f", "-o", traced, prefix / "bin/avrstk", "--help"], check=True, stdout=subprocess.DEVNULL
+    )
     shutil.rmtree(prefix)
     return len(re.findall(r"^\d+ +\w+\(", traced.read_text(), re.M))
 
@@ -218,7 +223,9 @@ def figures(room, counts):
     with Server(room, "chip.bin", part="m2560") as served:
         yield f"{whole}, over a link: instructions", instructions(session_over(served.port, "m2560", 256), room, 0)
     more = counts["256 kB of Intel HEX read"] - instructions(reads("128.hex"), room, 1)
-    yield "Intel HEX read: instructions for each more byte of text", more / (len(room.read("256.hex")) - len(room.read("128.hex")))
+    yield "Intel HEX read: instructions for each more byte of text", more / (
+        len(room.read("256.hex")) - len(room.read("128.hex"))
+    )
     if shutil.which("strace"):
         yield "avrstk --help, installed: system calls", calls_of_installed_help(room)
     else:

@@ -38,7 +38,16 @@ PROGRAMS = {it.parent.parent.name: it.parent.parent / "out" for it in TOP.glob("
 # scripts of tools/, which only read
 CHECKED = ("measure --check", "reach --check", "site --check", "man_pages", "promises", "tests_page")
 # scripts that run no program of this project, or compile it themselves; the longest first
-SOURCES = ("rattle tests", "build", "rattle examples", "rattle refused", "vendor", "rattle names", "documents", *CHECKED)
+SOURCES = (
+    "rattle tests",
+    "build",
+    "rattle examples",
+    "rattle refused",
+    "vendor",
+    "rattle names",
+    "documents",
+    *CHECKED,
+)
 # scripts over the library for C, which takes minutes to prove and build, so that only --all runs them
 LIBRARY = ("from_c",)
 # scripts that take seconds
@@ -159,7 +168,10 @@ def script(name, kind="", before=(), **environment):
     path = TOP / f"{'tools' if name in CHECKED else 'tests'}/{file}.py"
     command = [TOP / "bench/run.py", f"--{file}"] if file in BENCH else [path, *words]
     command = [*before, *command]
-    once = lambda more=(), again="": run(f"{kind}{name}{again}", [*command, *more], PYTHONUNBUFFERED="1", **environment)
+
+    def once(more=(), again=""):
+        return run(f"{kind}{name}{again}", [*command, *more], PYTHONUNBUFFERED="1", **environment)
+
     done = once()
     late = next(filter(None, map(LATE_CASES.fullmatch, done.lines)), None)
     done.again = late and (lambda: once(late[1].split(" | "), f": {late[1]}{AGAIN}"))
@@ -338,7 +350,9 @@ def chosen(names):
     """Runs the scripts of these names, with the built program."""
     known = list(dict.fromkeys([*SOURCES, *LIBRARY, *PROGRAM]))
     steps = [it for it in known if it in names or it.split()[0] in set(names) - set(known)]
-    current = os.environ.get("AVRSTK") or not subprocess.run(["./avrstk", "--which"], cwd=TOP, capture_output=True).returncode
+    current = (
+        os.environ.get("AVRSTK") or not subprocess.run(["./avrstk", "--which"], cwd=TOP, capture_output=True).returncode
+    )
     built = [] if current else [build()]
     with ThreadPoolExecutor(LANES) as lanes:
         done = built + list(lanes.map(script, steps))
@@ -347,18 +361,25 @@ def chosen(names):
 
 def machine():
     """Returns what the times depend on."""
-    says = lambda word: subprocess.run(["rt", word], capture_output=True, text=True)
-    kit, told = says("version").stdout.strip(), says("help")
+    kit, told = (subprocess.run(["rt", word], capture_output=True, text=True) for word in ("version", "help"))
     # (a kit whose rt ci takes names remembers what passed)
-    keeps = "keeps what passed" if re.search(r"rt ci \[?NAME", told.stdout + told.stderr) else "proves everything anew in each rt ci"
-    return f"{LANES} processors, {free_memory() / 1e6:.0f} GB free; {kit}, which {keeps}"
+    keeps = (
+        "keeps what passed"
+        if re.search(r"rt ci \[?NAME", told.stdout + told.stderr)
+        else "proves everything anew in each rt ci"
+    )
+    return f"{LANES} processors, {free_memory() / 1e6:.0f} GB free; {kit.stdout.strip()}, which {keeps}"
 
 
 def costs(done, checks):
     """Returns the table of processor seconds, and the whole in first checks of one crate."""
     whole, (measure, _) = sum(it.processor for it in done), checks.of(MEASURE)
     two = f"reckoned for two processors: {whole / 2 / 60:.0f} minutes"
-    ratio = f"{whole / measure:.0f} times {MEASURE}'s first check of {measure:.0f} s" if measure else f"{MEASURE} was not proved anew"
+    ratio = (
+        f"{whole / measure:.0f} times {MEASURE}'s first check of {measure:.0f} s"
+        if measure
+        else f"{MEASURE} was not proved anew"
+    )
     over = f"; more than {MOST}" if measure and whole / measure > MOST else ""
     return [*checks.table(), f"the whole: {whole:.0f} s of a processor, {ratio}{over}; {two}"]
 
@@ -380,7 +401,8 @@ def summary(done, checks=None):
     again = [it.what for it in done if it.what.endswith(AGAIN)]
     print(f"scripts that were run again, at most {MOST_AGAIN}: {', '.join(again) or 'none'}")
     wrong = sum(it.status != 0 for it in done)
-    took = f"{(time.monotonic() - BEGUN) / 60:.0f} minutes on {LANES} processors, {sum(it.processor for it in done):.0f} s of one"
+    processor = sum(it.processor for it in done)
+    took = f"{(time.monotonic() - BEGUN) / 60:.0f} minutes on {LANES} processors, {processor:.0f} s of one"
     print(f"{len(done)} steps in {took}; {wrong} of them failed")
     passed, failed = (sum(counts) for counts in zip(*(it.counts() for it in done)))
     print(f"{passed} passed, {failed} failed")

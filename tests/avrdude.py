@@ -88,7 +88,9 @@ class Beside:
 
     def by_this(self, words):
         """Makes the same request over `emu:`."""
-        status, _, messages = self.room.run([*self.front, "-c", "stk500v2", "-p", self.name, "-P", "emu:own.bin", "-qq", *words])
+        status, _, messages = self.room.run(
+            [*self.front, "-c", "stk500v2", "-p", self.name, "-P", "emu:own.bin", "-qq", *words]
+        )
         return status, messages
 
     def chips_are_alike(self, what):

@@ -26,6 +26,7 @@ from dataclasses import dataclass
 
 from cases import named, run_cases, same, sampled, see
 from line import BadLine, Link, frame_size, frames_of
+from model import trimmed
 from program import CHIP_FILE, Room, Server, xor
 
 AT_ONCE = 24
@@ -204,14 +205,20 @@ def runs_over(name, kind):
     plans = [Plan(it, kind.has_flash) for it in range(1 if "losses" in name else 10)]
     with ThreadPoolExecutor(AT_ONCE) as pool:
         draws = [random.Random(f"{name} {it}") for it in range(kind.count)]
-        links = [(plans[it % len(plans)], f"{name} {it}", draw.choice(kind.pieces), kind.fates(draw)) for it, draw in enumerate(draws)]
+        links = [
+            (plans[it % len(plans)], f"{name} {it}", draw.choice(kind.pieces), kind.fates(draw))
+            for it, draw in enumerate(draws)
+        ]
         found = list(pool.map(lambda it: run(*it), links))
     for (plan, label, *_), outcome in zip(links, found):
         holds(label, plan, *outcome)
     good, forged = (sum(it) for it in zip(*((it[0] == 0, it[2]) for it in found)))
     SUCCEEDED[name] = good
     see(f"{name}: the chips of most runs are judged", forged <= (kind.count // 4 if "losses" in name else 0), forged)
-    print(f"{name}: {good} of {kind.count} runs succeeded; in {forged} runs changed bytes became a valid frame", flush=True)
+    print(
+        f"{name}: {good} of {kind.count} runs succeeded; in {forged} runs changed bytes became a valid frame",
+        flush=True,
+    )
 
 
 # a part so small that few frames read all of it
@@ -228,22 +235,20 @@ MEMORIES = {"flash": slice(0, 256), "eeprom": slice(256, 272), "lfuse": slice(27
 ERASED = 272
 
 
-def words_of(flash):
-    """Returns flash without the words of FF at its end."""
-    held = bytes(flash).rstrip(b"\xff")
-    return held + b"\xff" * (len(held) % 2)
-
-
 class SmallPlan:
-    """A plan that is drawn for the small part: it writes, compares and reads memories. `given` has its files, `read` the
-    files that it reads, and `chip` and `left` the chip before and after it."""
+    """A plan that is drawn for the small part: it writes, compares and reads memories. `given` has its files, `read`
+    the files that it reads, and `chip` and `left` the chip before and after it."""
 
     def __init__(self, seed):
         draw = random.Random(f"small plan {seed}")
         switch = draw.choice([[], [], [], ["-V"], ["-n"], ["-e"]])
         drawn = [(draw.choice([*MEMORIES]), draw.choice("wwvr")) for _ in range(draw.randint(1, 4))]
         self.chip, self.given, self.read = draw.randbytes(ERASED) + b"\x62\xd9\xff\xff", {"small.toml": SMALL}, {}
-        self.words, left, is_dry = ["-p", "small", "--parts", "small.toml", *switch], bytearray(self.chip), "-n" in switch
+        self.words, left, is_dry = (
+            ["-p", "small", "--parts", "small.toml", *switch],
+            bytearray(self.chip),
+            "-n" in switch,
+        )
         if not is_dry and ("-e" in switch or ("flash", "w") in drawn):
             left[:ERASED] = b"\xff" * ERASED
         for number, (memory, operation) in enumerate(drawn):
@@ -252,7 +257,7 @@ class SmallPlan:
                 # (flash that was written takes no other bytes without an erase)
                 operation = "v"
             if operation == "r":
-                self.read[name] = words_of(left[place]) if memory == "flash" else bytes(left[place])
+                self.read[name] = trimmed(bytes(left[place])) if memory == "flash" else bytes(left[place])
             else:
                 size = draw.randint(1, place.stop - place.start)
                 # no image ends with FF, because FF at the end of a flash image is cut off
@@ -264,15 +269,21 @@ class SmallPlan:
         self.left = bytes(left)
 
     def run(self, fates):
-        """Makes a run over a link with these fates. Returns its status and lines, the chip and the files that it read, and
-        the number of frames."""
+        """Makes a run over a link with these fates. Returns its status and lines, the chip and the files that it read,
+        and the number of frames."""
         room = Room()
         for name, content in (self.given | {"served.bin": self.chip}).items():
             room.put(name, content)
         link = BadLine(room, fates, "small", ["--parts", "small.toml"])
         status, _, messages = room.run([*self.words, "-P", f"net:127.0.0.1:{link.port}"])
         sent = link.end()
-        return status, messages.splitlines(), room.read("served.bin"), {it: room.read(it) for it in self.read}, len(sent)
+        return (
+            status,
+            messages.splitlines(),
+            room.read("served.bin"),
+            {it: room.read(it) for it in self.read},
+            len(sent),
+        )
 
 
 def restarts():
@@ -309,7 +320,9 @@ def as_many_succeed():
 
 
 SUCCEEDED = {}
-CASES = {name: lambda it=(name, kind): runs_over(*it) for name, kind in KINDS.items()} | named(restarts, as_many_succeed)
+CASES = {name: lambda it=(name, kind): runs_over(*it) for name, kind in KINDS.items()} | named(
+    restarts, as_many_succeed
+)
 
 if __name__ == "__main__":
     sys.exit(run_cases(CASES, __doc__, timed=["as_many_succeed"]))

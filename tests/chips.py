@@ -105,7 +105,11 @@ def is_safe(what, old, status, calls):
     new, found = with_fuse(old, 0x62), room.read("chip.bin")
     seen, last, replayed = power_cuts(calls, old)
     see(f"{what}: the chip is replayed right", replayed == found)
-    see(f"{what}: each power cut leaves the old chip or the new one", seen <= {old, new}, [len(it or b"") for it in seen])
+    see(
+        f"{what}: each power cut leaves the old chip or the new one",
+        seen <= {old, new},
+        [len(it or b"") for it in seen],
+    )
     see(f"{what}: status 0 if the new chip is on the disk, else 1", status == 1 or (status, last) == (0, {new}), status)
 
 
@@ -121,7 +125,10 @@ def each_power_cut():
         new_or_chip = os.path.join(FOLDER, "chip.bin" if old else NEW_FILE.name)
         same(f"{what}: what is synced", synced, [os.path.join(FOLDER, NEW_FILE.name), FOLDER, new_or_chip])
         is_safe(what, old, status, calls)
-        see("without the file's sync a chip may be torn", power_cuts(calls, old, os.path.join(FOLDER, NEW_FILE.name))[0] - {old, new})
+        see(
+            "without the file's sync a chip may be torn",
+            power_cuts(calls, old, os.path.join(FOLDER, NEW_FILE.name))[0] - {old, new},
+        )
         see("without the folder's sync the new chip may be lost", old in power_cuts(calls, old, FOLDER)[1])
         # (the last three are those of a file system without hard links, which does without)
         errors = [it for it in itertools.product(calls, ["EIO", "ENOENT", "EMFILE"])]
@@ -143,7 +150,11 @@ def ended_anywhere():
         left = set()
         for call in traced(prepare, writes_fuse(0x62))[2]:
             what = f"chip {bool(old)}: ended at {call.name} {call.number}"
-            same(what, traced(prepare, writes_fuse(0x62), f"{call.name}:signal=KILL:when={call.number}")[0], -signal.SIGKILL)
+            same(
+                what,
+                traced(prepare, writes_fuse(0x62), f"{call.name}:signal=KILL:when={call.number}")[0],
+                -signal.SIGKILL,
+            )
             left.add(room.read("chip.bin"))
             same(f"{what}: permissions", mode_of(CHIP), 0o640) if old else None
             is_good(f"{what}: the next run", room.run(writes_fuse(0x63)), with_fuse(old, 0x63))
@@ -189,7 +200,10 @@ def reads_on_the_disk():
         found = traced(fresh_room, [*EMULATED, "-U", "eeprom:r:out.bin:r"], f"fsync:{how}")
         same(f"{how}: the run", found[:2], wanted)
         see(f"{how}: what was read is there", room.read("out.bin") == OLD[EEPROM:LFUSE])
-        see(f"{how}: the file is synced first", re.search(rb"^fsync\(\d+<([^>]*)>", room.read("calls"), re.M)[1].endswith(b"/out.bin"))
+        see(
+            f"{how}: the file is synced first",
+            re.search(rb"^fsync\(\d+<([^>]*)>", room.read("calls"), re.M)[1].endswith(b"/out.bin"),
+        )
 
 
 def forgiven():
@@ -234,8 +248,12 @@ def whose_lock():
         room.put("victim", b"mine")
         NEW_FILE.symlink_to("victim")
 
-    good = lambda started: is_good("a run meanwhile", room.run(writes_fuse(0x22)), with_fuse(OLD, 0x22))
-    refused = lambda started: same("a run meanwhile", room.run(writes_fuse(0x22)), (1, b"", IN_USE))
+    def good(_):
+        is_good("a run meanwhile", room.run(writes_fuse(0x22)), with_fuse(OLD, 0x22))
+
+    def refused(_):
+        same("a run meanwhile", room.run(writes_fuse(0x22)), (1, b"", IN_USE))
+
     words, in_use, unwritable = writes_fuse(0x11), (1, IN_USE), (1, UNWRITABLE)
     opening = number_of(stale, words, "openat", "O_RDWR|O_NOCTTY|O_CLOEXEC")
     for what, prepare, call, when, act, wanted in [
@@ -295,8 +313,8 @@ def held_by_a_session():
 
 
 def without_a_lock():
-    """If a waiting run's lock file is removed, a second run can start; then only the first of the two to save ends well.
-    The other one fails: what a run with status 0 saved isn't lost."""
+    """If a waiting run's lock file is removed, a second run can start; then only the first of the two to save ends
+    well. The other one fails: what a run with status 0 saved isn't lost."""
     for prepare, old in STARTS:
         prepare()
         with waiting(["-U", "lfuse:w:0x11:m"], last=(1, UNWRITABLE)):
@@ -362,7 +380,9 @@ def read_into_the_chip():
     with tempfile.TemporaryDirectory() as other:
         fresh_room()
         (room.folder / "odd.bin").symlink_to(f"{other}/caf\udce9.bin")
-        is_good("into other files", room.run([*EMULATED, "-U", f"eeprom:r:{other}/chip.bin:r", "-U", "eeprom:r:odd.bin:r"]))
+        is_good(
+            "into other files", room.run([*EMULATED, "-U", f"eeprom:r:{other}/chip.bin:r", "-U", "eeprom:r:odd.bin:r"])
+        )
         same("what was read", [it.read_bytes() for it in Path(other).iterdir()], [OLD[EEPROM:LFUSE]] * 2)
 
 
@@ -450,7 +470,11 @@ def what_stays():
             own = (CHIP.stat().st_uid, CHIP.stat().st_gid, mode_of(CHIP))
             wanted = (NOBODY, group or NOBODY, kept) if kept else (NOBODY, group, mode)
             same(f"{what}: what stays", own, wanted if IS_ROOT else (*own[:2], kept or mode))
-            same(f"{what}: links", (link.is_symlink(), room.read("victim"), beside() if kept else []), (True, b"mine", []))
+            same(
+                f"{what}: links",
+                (link.is_symlink(), room.read("victim"), beside() if kept else []),
+                (True, b"mine", []),
+            )
     room.clear()
     is_good("a new chip of a long name", room.run(writes_fuse(0x62, "c" * 243)))
     same("its mode", mode_of(room.folder / ("c" * 243)), 0o666 & ~UMASK)
@@ -528,4 +552,4 @@ CASES = TRACED | named(
 
 
 if __name__ == "__main__":
-    sys.exit(run_cases(CASES, __doc__))
+    sys.exit(run_cases(CASES, __doc__, timed=["others_meanwhile", "whose_lock"]))

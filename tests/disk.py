@@ -17,7 +17,11 @@ def calls_in(record, folder):
     counts, calls = Counter(), []
     for name, words, result, made in re.findall(r"^(\w+)\((.*)\) += (-?\d+)(.*)", record, re.M):
         counts[name] += 1
-        is_there = re.match(rf"\d+<{folder}[/>]", words) if words[0].isdigit() else "chip.bin" in words or made == f"<{folder}>"
+        is_there = (
+            re.match(rf"\d+<{folder}[/>]", words)
+            if words[0].isdigit()
+            else "chip.bin" in words or made == f"<{folder}>"
+        )
         if name != "execve" and is_there:
             calls.append(Call(name, counts[name], words, int(result)))
     return calls
@@ -32,7 +36,11 @@ class File:
     def left(self):
         """Returns what a power cut may leave: what was synced, what is there now, or parts of them and zeros."""
         now, old, half = self.content, self.synced, len(self.content) // 2
-        return {now} if now == old else {now, old, b"", now[:half], now[:half] + old[half:], now[:half] + bytes(len(now) - half)}
+        return (
+            {now}
+            if now == old
+            else {now, old, b"", now[:half], now[:half] + old[half:], now[:half] + bytes(len(now) - half)}
+        )
 
 
 def named(names, changes):

@@ -25,6 +25,11 @@ def text(name):
     return (TOP / name).read_text()
 
 
+def words(text):
+    """Returns a text with single blanks between its words."""
+    return " ".join(text.split())
+
+
 def what_check_quotes():
     """docs/CHECK quotes a law, mutants, files and lines of code as they are, and its command has the mutant's crate."""
     page = text("docs/CHECK.md")
@@ -36,20 +41,34 @@ def what_check_quotes():
         see(f"there is {file}", (TOP / file).exists())
     tried = re.search(r"^    \$ rt must-fail (\w+)$", page, re.M)[1]
     see("the mutant is of that crate", f"crates/{tried}/must-fail/any_sequence.edit" in files, files)
-    words = lambda it: " ".join(it.split())
     quoted = [it for it in page.splitlines() if it.startswith("    ") and not it.startswith(("    $", "    fn "))]
     # (the drawing quotes nothing)
     drawn = page[page.index("    the chip holds your images") : page.index("    your board")] + "    your board"
     quoted = [it for it in quoted if it not in drawn.splitlines()]
-    crates = [it for name in ("stk_host", "avr_image") for it in (TOP / "crates" / name).rglob("*") if it.suffix in (".rt", ".antt", ".edit")]
+    crates = [
+        it
+        for name in ("stk_host", "avr_image")
+        for it in (TOP / "crates" / name).rglob("*")
+        if it.suffix in (".rt", ".antt", ".edit")
+    ]
     known = {words(row) for it in crates for row in it.read_text().splitlines()} | {words(PROVED)}
     for row in quoted:
         see(f"is in the sources: {row.strip()}", words(row) in known)
     # what the tables of the claim read out, but for what `..` stands for
-    laws = [it for name in ("avr_laws", "avr_tool") for it in (TOP / "crates" / name).glob("s*/*") if it.suffix in (".rt", ".antt")]
+    laws = [
+        it
+        for name in ("avr_laws", "avr_tool")
+        for it in (TOP / "crates" / name).glob("s*/*")
+        if it.suffix in (".rt", ".antt")
+    ]
     stated = words(" ".join(it.read_text() for it in laws))
     claim = page[page.index("\n## The claim") : page.index("\n## Prove it")]
-    cells = [it for row in re.findall(r"^\| (.*?) \| ", claim, re.M) for it in re.findall("`([^`]*)`", row) if not it.endswith(":")]
+    cells = [
+        it
+        for row in re.findall(r"^\| (.*?) \| ", claim, re.M)
+        for it in re.findall("`([^`]*)`", row)
+        if not it.endswith(":")
+    ]
     for part in (part for it in cells for part in it.split("..")):
         see(f"is in the sources: {part}", words(part) in stated)
     see("quotes something", len(quoted) > 8 and len(cells) > 20, (quoted, cells))
@@ -57,7 +76,7 @@ def what_check_quotes():
 
 def the_first_change():
     """CONTRIBUTING's first change can be made: the text is once in the script, and once in the test's table."""
-    begun = re.search(r"replace `([^`]*)`\s+by", " ".join(text("CONTRIBUTING.md").split()))[1]
+    begun = re.search(r"replace `([^`]*)`\s+by", words(text("CONTRIBUTING.md")))[1]
     for file in ("lib/avrstk/avrstk_hints.py", "tests/tables/refused.txt"):
         same(f"{file}: {begun}", text(file).count(begun), 1)
 
@@ -71,17 +90,24 @@ def the_hint():
 
 # the conditions of the promise, as docs/PROOFS has them
 CONDITIONS = (
-    "every valid frame that arrives was sent by the other side in this run", "no command arrives twice or out of order",
-    "no reply comes 256 or more frames late", "of the part that `-p` names", "the programmer may restart",
+    "every valid frame that arrives was sent by the other side in this run",
+    "no command arrives twice or out of order",
+    "no reply comes 256 or more frames late",
+    "of the part that `-p` names",
+    "the programmer may restart",
 )
 
 
 def the_conditions():
     """Each document that states the promise states all of its conditions, and what needs none, in the same words."""
     for page in sorted([TOP / "README.md", *TOP.glob("docs/*.md"), *TOP.glob("crates/*/README.md")]):
-        words = " ".join(page.read_text().split()).lower()
-        if CONDITIONS[0] in words or page.name in ("PROOFS.md", "TROUBLESHOOTING.md", "WHY.md") or page == TOP / "README.md":
-            same(f"{page.name} has all conditions", [it for it in CONDITIONS if it.lower() not in words], [])
+        held = words(page.read_text()).lower()
+        if (
+            CONDITIONS[0] in held
+            or page.name in ("PROOFS.md", "TROUBLESHOOTING.md", "WHY.md")
+            or page == TOP / "README.md"
+        ):
+            same(f"{page.name} has all conditions", [it for it in CONDITIONS if it.lower() not in held], [])
 
 
 def files_of_recipes():
@@ -92,7 +118,10 @@ def files_of_recipes():
     for word in re.findall(r"[\w/.]*\w", rows):
         crate = word if word in crates else crate
         if word.startswith("src/"):
-            see(f"{crate}/{word}", crate and (TOP / "crates" / crate / word).is_file() or word in ("src/messages.rt", "src/lib.rt"))
+            see(
+                f"{crate}/{word}",
+                crate and (TOP / "crates" / crate / word).is_file() or word in ("src/messages.rt", "src/lib.rt"),
+            )
         elif word.startswith("specs/") and word != "specs/Lines":
             see(f"{crate}/{word}", crate and (TOP / "crates" / crate / f"{word}.antt").is_file())
         elif word.startswith(("tests/", "tools/", "parts/")):

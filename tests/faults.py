@@ -24,6 +24,7 @@ import subprocess
 import sys
 import time
 from collections import Counter
+from functools import partial
 from pathlib import Path
 
 from cases import leave_out, run_cases, same, see
@@ -40,7 +41,10 @@ RUNS = {
     "a fuse written and read": ([*EMULATED, "-U", "lfuse:w:0xE2:m", "-U", "lfuse:r:-:h"], b""),
     "the whole EEPROM": ([*EMULATED, "-V", "-U", "eeprom:w:whole.bin:r"], b""),
     "a firmware, and read back": ([*EMULATED, "-U", "flash:w:blink.hex", "-U", "flash:r:out.hex:i"], b""),
-    "a firmware of 256 kB, and read back": (["-p", "m2560", "-P", "emu:chip.bin", "-U", "flash:w:large.bin:r", "-U", "flash:r:out.hex:i"], b""),
+    "a firmware of 256 kB, and read back": (
+        ["-p", "m2560", "-P", "emu:chip.bin", "-U", "flash:w:large.bin:r", "-U", "flash:r:out.hex:i"],
+        b"",
+    ),
     "an image on standard input": ([*EMULATED, "-U", "flash:w:-:r"], bytes(range(1, 251)) * 20),
     "a part file": ([*EMULATED, "--parts", "parts.toml"], b""),
     "a request for help": (["--help"], b""),
@@ -54,7 +58,13 @@ CREATED = "out.hex: cannot be created"
 # The lines that may report a refused call of each kind; the file is the one that the call was for. (A device that can't
 # allocate fails like any other.)
 LINES = {
-    "growth": ["out of memory", "link cannot be written", "link cannot be read", "chip.bin: cannot be written", CREATED],
+    "growth": [
+        "out of memory",
+        "link cannot be written",
+        "link cannot be read",
+        "chip.bin: cannot be written",
+        CREATED,
+    ],
     "read": ["link cannot be read", "{file}: cannot be read"],
     "write": ["link cannot be written", "{file}: cannot be written"],
     "open": ["{file}: cannot be opened", "{file}: cannot be created", "{file}: cannot be written", CREATED],
@@ -172,7 +182,10 @@ def is_front_and_line(said, sound, line, may_stop):
     `may_stop`."""
     if may_stop and sound.startswith(said):
         return True
-    return any(sound.startswith(said[:end]) and is_front_of_error(said[end:], line.encode(), may_stop) for end in range(len(said) + 1))
+    return any(
+        sound.startswith(said[:end]) and is_front_of_error(said[end:], line.encode(), may_stop)
+        for end in range(len(said) + 1)
+    )
 
 
 def is_front_of_error(said, line, may_stop):
@@ -189,7 +202,13 @@ class OverNet(Sweep):
         peer = BadLine(self.room, {255: "late answer"})
         self.words = ["-p", "m328p", "-P", f"net:127.0.0.1:{peer.port}", "-V", "-U", "eeprom:w:whole.bin:r"]
         status, _, messages = self.room.run(self.words, self.given, self.refusing(refused))
-        return status, b"".join(peer.end()), messages.replace(str(peer.port).encode(), b"PORT"), self.room.read("served.bin"), None
+        return (
+            status,
+            b"".join(peer.end()),
+            messages.replace(str(peer.port).encode(), b"PORT"),
+            self.room.read("served.bin"),
+            None,
+        )
 
     def is_told(self, kind, how, status, output, messages, chip, read_file):
         return super().is_told(kind, how, status, output, messages, None, None) and len(chip or b"") == CHIP_FILE
@@ -247,8 +266,8 @@ def cases_of(room, shim):
 
 def main():
     if not shutil.which("cc"):
-        left_out = lambda name: leave_out(name, "there is no C compiler")
-        return run_cases({name: lambda name=name: left_out(name) for name in cases_of(None, None)}, __doc__)
+        cases = {name: partial(leave_out, name, "there is no C compiler") for name in cases_of(None, None)}
+        return run_cases(cases, __doc__)
     return run_cases(cases_of(*prepared()), __doc__)
 
 

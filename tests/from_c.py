@@ -145,7 +145,9 @@ def typed_as_shown(library):
     same("C's", (printed[0], image_of(printed[1])), (b"", image))
     same("Python's", printed[2].decode().splitlines(), shown(image))
     without = os.environ | {"AVR_RECORDS_LIBRARY": "/nowhere"}
-    ran = subprocess.run(["sh", "-c", commands[2].partition(" ")[2]], cwd=TOP, capture_output=True, text=True, env=without)
+    ran = subprocess.run(
+        ["sh", "-c", commands[2].partition(" ")[2]], cwd=TOP, capture_output=True, text=True, env=without
+    )
     told = ran.stderr.endswith(": examples/c/build.sh builds the library, and ./install.sh --with-c installs it\n")
     same("without a library", (ran.returncode, ran.stderr.count("\n"), told), (1, 1, True))
 
@@ -250,7 +252,9 @@ def versions_agree(library):
     """The header, the library, pkg-config's file and the Python program have the version in VERSION."""
     major, minor, patch = map(int, VERSION.split("."))
     number = 10_000 * major + 100 * minor + patch
-    told = subprocess.run([library.compiled(TOP / "tests/versions.c")], capture_output=True, check=True, text=True).stdout
+    told = subprocess.run(
+        [library.compiled(TOP / "tests/versions.c")], capture_output=True, check=True, text=True
+    ).stdout
     same("the header and the archive", told, f"{VERSION} {VERSION} {number} {number}\n")
     records, loaded = library.in_python()
     same("Python and the shared library", (records.VERSION, loaded.avr_records_version()), (number, number))
@@ -324,7 +328,15 @@ def other_programs(library):
 
 LOOKS = named(
     *(typed_as_shown, files_come_back, images_come_back, pieces_join, lengths_are_told, time_is_linear),
-    *(cursors_are_judged, faults_are_told, sizes_are_judged, texts_are_put, versions_agree, other_names_are_free, only_its_calls_are_seen),
+    *(
+        cursors_are_judged,
+        faults_are_told,
+        sizes_are_judged,
+        texts_are_put,
+        versions_agree,
+        other_names_are_free,
+        only_its_calls_are_seen,
+    ),
     other_programs,
 )
 

@@ -121,7 +121,9 @@ def images_are_taken():
     run("rubbish after an end record", [*EMULATED, "-U", f"flash:w:{rubbish}"], nothing, 0)
     open_ended = room.keep("open.hex", b":0400000001020304F2\n")
     told = [*ERASED, "flash: 4 bytes written", "flash: 4 bytes verified", DONE]
-    run("no end record", [*EMULATED, "-U", f"flash:w:{open_ended}"], [f"warning: {open_ended}: no end record", *told], 0)
+    run(
+        "no end record", [*EMULATED, "-U", f"flash:w:{open_ended}"], [f"warning: {open_ended}: no end record", *told], 0
+    )
 
 
 def part_files():
@@ -303,7 +305,15 @@ def pattern(line):
 
 CASES = named(
     *(settings_are_refused, help_is_printed, words_are_refused, images_are_refused, no_update_is_begun),
-    *(images_are_taken, part_files, chip_files, nothing_is_written, replies_are_bad, the_named_host_is_called, nobody_else_is_called),
+    *(
+        images_are_taken,
+        part_files,
+        chip_files,
+        nothing_is_written,
+        replies_are_bad,
+        the_named_host_is_called,
+        nobody_else_is_called,
+    ),
     *(ports_are_refused, long_lines, a_line_is_one_write, runs_share_a_log, each_line_was_met),
 )
 

@@ -105,7 +105,13 @@ def a_verified_run_is_wrong():
     is written to flash that isn't erased and so can't take the byte; a file is read."""
     for name, first, read, words, told in [
         ("compared", 0xAA, 7, ["-U", "flash:v:image.hex:i"], ["flash: 1 bytes verified"]),
-        ("written", 0x50, 9, ["-D", "-U", "flash:w:image.hex:i"], ["flash: 1 bytes written", "flash: 1 bytes verified"]),
+        (
+            "written",
+            0x50,
+            9,
+            ["-D", "-U", "flash:w:image.hex:i"],
+            ["flash: 1 bytes written", "flash: 1 bytes verified"],
+        ),
         ("read", 0xAA, 7, ["-A", "-U", "flash:r:out.bin:r"], [f"flash: {FLASH} bytes read"]),
     ]:
         line = Line(chip_of(made_contents(first, read)), pauses=reply_to_read(read))
@@ -201,7 +207,9 @@ def a_part_with_too_much_flash():
     words = ["--parts", "part.toml", "-p", "t85", "-P", f"net:127.0.0.1:{server.port}", "-U", "flash:w:image.bin:r"]
     status, _, messages = room.run(words)
     server.end()
-    told = lines(SIGNATURE, "chip erased", f"flash: {2 * FLASH} bytes written", f"flash: {2 * FLASH} bytes verified", "done")
+    told = lines(
+        SIGNATURE, "chip erased", f"flash: {2 * FLASH} bytes written", f"flash: {2 * FLASH} bytes verified", "done"
+    )
     see("twice the flash: status 0 and `verified`", (status, messages) == (0, told), (status, messages))
     see("and the chip has half of the image", (room.read("chip.bin") or b"")[:FLASH] == flash)
 

@@ -83,7 +83,9 @@ class LosingLine(Link):
     """A link to the board that loses one byte: the nth, from 0, on the way up to it or down from it."""
 
     def __init__(self, board, way, place):
-        self.there, self.back = ((lambda *ends, it=it: self.pass_on(*ends, place if it == way else -1)) for it in ("up", "down"))
+        self.there, self.back = (
+            (lambda *ends, it=it: self.pass_on(*ends, place if it == way else -1)) for it in ("up", "down")
+        )
         self.lost = None
         super().__init__(board)
 

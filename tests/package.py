@@ -43,7 +43,10 @@ esac
 DOCUMENTS = ["BOARDS", "EMULATOR", "FORMATS", "PART", "PARTS", "PROTOCOL", "README", "TROUBLESHOOTING", "USAGE", "WHY"]
 UNPROVED = "UNPROVED: this build was compiled without its proofs"
 PROVED = "Its behaviour is proved"
-PROGRAMS_PROVED = "The behaviour of avrstk and avrstk_session is proved. The scripts avrstk-serial and avrstk-serve are tested. Proved"
+PROGRAMS_PROVED = (
+    "The behaviour of avrstk and avrstk_session is proved. "
+    "The scripts avrstk-serial and avrstk-serve are tested. Proved"
+)
 DEVELOPMENT = [f"usr/{it}" for it, in table("library") if "NUMBER" not in it]
 
 
@@ -152,7 +155,9 @@ def packages_say_what_they_are():
         same(f"{name} states whether it is unproved", "unproved" in flat.lower(), bool(mark))
         see(f"{name} has the commit", f"Commit {made()[0].commit()}" in flat, told)
     depends = field(package("avrstk"), "Depends")
-    see("avrstk depends on libc6 and Python", re.match(r"libc6 \(>= 2\.\d+\).*, python3 \(>= 3\.8\)$", depends), depends)
+    see(
+        "avrstk depends on libc6 and Python", re.match(r"libc6 \(>= 2\.\d+\).*, python3 \(>= 3\.8\)$", depends), depends
+    )
     see("the library depends on libc6", field(package(f"libavr-records{NUMBER}"), "Depends").startswith("libc6"))
     needed = f"libavr-records{NUMBER} (= {VERSION})"
     same("who develops needs the library", field(package("libavr-records-dev"), "Depends"), needed)
@@ -184,7 +189,11 @@ def a_proved_program_is_not_marked():
     status, told = ended(clone.start(AVRSTK=str(program)))
     (found,) = clone.made.glob("avrstk_*~unproved_*.deb")
     description = " ".join(field(found, "Description").split())
-    see("the unproved program in the proved one's place is marked", UNPROVED in description and PROGRAMS_PROVED not in description, told)
+    see(
+        "the unproved program in the proved one's place is marked",
+        UNPROVED in description and PROGRAMS_PROVED not in description,
+        told,
+    )
 
 
 def unpacked(name, folder):
@@ -199,8 +208,8 @@ def packages_hold_what_is_installed():
         environment = os.environ | {"AVRSTK": str(PROGRAM)}
         subprocess.run([TOP / "install.sh", prefix], env=environment, check=True, stdout=subprocess.DEVNULL)
         (prefix / "share/avrstk/manifest").unlink()
-        placed = lambda it: it.replace("zsh/site-functions", "zsh/vendor-completions") + ".gz" * it.endswith((".1", ".7"))
-        wanted = [f"usr/{placed(it)}" for it in files(prefix)]
+        placed = [it.replace("zsh/site-functions", "zsh/vendor-completions") for it in files(prefix)]
+        wanted = [f"usr/{it}{'.gz' if it.endswith(('.1', '.7')) else ''}" for it in placed]
         docs = ["built-from", "changelog.gz", "copyright"]
         own = [*docs, "examples/blink.hex", *(f"{it}.md" for it in DOCUMENTS)]
         found = unpacked("avrstk", Path(folder, "avrstk"))
@@ -218,7 +227,9 @@ def packages_hold_what_is_installed():
         programs = {it for it, mode in modes.items() if mode == "0o755"}
         wanted = {it for it in found if it.startswith(("usr/bin/", "usr/lib/")) and not it.endswith((".py", ".stamp"))}
         same("programs alone can be run", programs, wanted)
-        first = {(Path(folder, "avrstk/usr/bin") / it).read_text().split("\n")[0] for it in ["avrstk-serial", "avrstk-serve"]}
+        first = {
+            (Path(folder, "avrstk/usr/bin") / it).read_text().split("\n")[0] for it in ["avrstk-serial", "avrstk-serve"]
+        }
         same("the scripts name Debian's Python", first, {"#!/usr/bin/python3"})
         same("all others can be read by everybody", {modes[it] for it in found if it not in programs}, {"0o644"})
 
@@ -236,6 +247,11 @@ def runs(prefix, folder):
     see("avrstk-serial finds the part file", "ATmega32U4" in ran.stdout, ran)
 
 
+def slug(heading):
+    """Returns what a link to a heading has after its #."""
+    return re.sub(r"[^\w -]", "", heading.lower()).replace(" ", "-")
+
+
 def documents_are_the_packages_own():
     """The package's README has about twenty lines, and its commands work outside a clone. Every link leads to a
     document of the package, and to a heading there."""
@@ -243,8 +259,7 @@ def documents_are_the_packages_own():
     with tempfile.TemporaryDirectory() as folder:
         unpacked("avrstk", Path(folder, "root"))
         docs = Path(folder, "root/usr/share/doc/avrstk")
-        slug = lambda it: re.sub(r"[^\w -]", "", it.lower()).replace(" ", "-")
-        headings = {it.name: {slug(head) for head in re.findall(r"^#+ (.*)$", it.read_text(), re.M)} for it in docs.glob("*.md")}
+        headings = {it.name: set(map(slug, re.findall(r"^#+ (.*)$", it.read_text(), re.M))) for it in docs.glob("*.md")}
         for name in headings:
             for target in re.findall(r"\]\(([^)]*)\)", (docs / name).read_text()):
                 file, _, heading = target.partition("#")
@@ -277,7 +292,9 @@ def package_is_installed_and_removed():
         how = {"capture_output": True, "text": True}
         ran = subprocess.run([*dpkg, "-i", *(package(it) for it in ["avrstk", f"libavr-records{NUMBER}"])], **how)
         same("the status of dpkg -i", ran.returncode, 0) or print(ran.stderr)
-        listed = subprocess.run(["dpkg-query", f"--admindir={root}/var/lib/dpkg", "-W", "-f", "${Status} ", "avrstk"], **how)
+        listed = subprocess.run(
+            ["dpkg-query", f"--admindir={root}/var/lib/dpkg", "-W", "-f", "${Status} ", "avrstk"], **how
+        )
         same("dpkg has it", listed.stdout, "install ok installed ")
         runs(root / "usr", folder)
         ran = subprocess.run([*dpkg, "-P", "avrstk", f"libavr-records{NUMBER}"], **how)
@@ -317,7 +334,12 @@ def refusals():
     same("no program", (status, "avrstk: error: not built yet" in told), (1, True))
 
 
-FROM_BOTH = [packages_are_the_same, packages_say_what_they_are, packages_hold_what_is_installed, documents_are_the_packages_own]
+FROM_BOTH = [
+    packages_are_the_same,
+    packages_say_what_they_are,
+    packages_hold_what_is_installed,
+    documents_are_the_packages_own,
+]
 RUN = [package_is_installed_and_removed, archive_runs_anywhere, lintian_finds_no_error]
 # (the last change the clones)
 CASES = named(*FROM_BOTH, *RUN, a_proved_program_is_not_marked, refusals)

@@ -42,8 +42,8 @@ HEAD = """\
 
 HEAD_OF_BITS = """\
 # The bits that the fuses and the lock of the parts in classic.toml have: lfuse, hfuse, efuse, lock. Made by
-# tests/parts.py --write of the write instructions in the configuration of AVRDUDE 7.1. A part reads its other bits as 1.
-# A dash stands for a memory whose other bits are read as 0.
+# tests/parts.py --write of the write instructions in the configuration of AVRDUDE 7.1. A part reads its other bits
+# as 1. A dash stands for a memory whose other bits are read as 0.
 """
 HEAD_OF_UNSUPPORTED = """\
 # Parts that classic.toml doesn't have, with the reason. Made by tests/parts.py --write of docs/PARTS.
@@ -51,6 +51,7 @@ HEAD_OF_UNSUPPORTED = """\
 
 # the first bytes of the instructions that the program sends, by AVRDUDE's names for memories and operations
 SENT = {(memory, operation): bytes.fromhex(sent) for memory, operation, sent in table("instructions")}
+
 
 def configured():
     """Returns the ISP parts of AVRDUDE's configuration: name, properties, memories, operations."""
@@ -147,7 +148,10 @@ def by_headers(name):
     if ran.returncode:
         return None
     defined = dict(re.findall(r"^#define (\w+) +(.*)$", ran.stdout, re.M))
-    value = lambda it: int(re.sub(r"[()UuLl]", "", defined[it].split("/*")[0]).strip(), 0)
+
+    def value(name):
+        return int(re.sub(r"[()UuLl]", "", defined[name].split("/*")[0]).strip(), 0)
+
     included = re.findall(r'^# \d+ "[^"]*/avr/(io[^"/]+\.h)"', ran.stdout, re.M)
     device = next((it for it in included if it != "io.h"), None)
     try:

@@ -4,8 +4,8 @@ Each ends with status 0, none starts a build, and git sees no file that they mad
 
 Not proved: No proof covers documents and the shell.
 
-    tests/recipes.py [CASE ..]      needs a built program (program.py), used as the clone's unproved program; commands with
-                                    AVRDUDE are left out without AVRDUDE 7.1, and those with srec_cmp without srecord
+    tests/recipes.py [CASE ..]    needs a built program (program.py), used as the clone's unproved program; commands
+                                  with AVRDUDE are left out without AVRDUDE 7.1, those with srec_cmp without srecord
 
 Only the user's own things differ: the port, the home folder, the firmware, and the board. The board is a pseudo
 terminal with the emulated programmer behind it."""
@@ -151,7 +151,12 @@ def uploads(local):
     """Returns the upload command of the Arduino IDE, with the text of a platform.local.txt."""
     rules = dict(it.split("=", 1) for it in f"{PLATFORM.read_text()}\n{local}".splitlines() if re.match(r"[\w.]+=", it))
     tool = {name[len("tools.avrdude.") :]: it for name, it in rules.items() if name.startswith("tools.avrdude.")}
-    given = {"build.mcu": "atmega2560", "upload.protocol": "wiring", "upload.speed": "115200", "serial.port": "/dev/ttyACM0"}
+    given = {
+        "build.mcu": "atmega2560",
+        "upload.protocol": "wiring",
+        "upload.speed": "115200",
+        "serial.port": "/dev/ttyACM0",
+    }
     given |= {"build.path": "examples", "build.project_name": "blink", "upload.verbose": "-v", "upload.verify": ""}
     command = tool["upload.pattern"]
     while found := re.search(r"\{([\w.]+)\}", command):
@@ -162,13 +167,19 @@ def uploads(local):
 def in_place_of_avrdude(clone):
     """docs/USAGE's recipes for the Arduino IDE, PlatformIO and a link named avrdude upload to an emulated board."""
     text = (TOP / "docs/USAGE.md").read_text().split("## In place of AVRDUDE")[1].split("\n## ")[0]
-    local, project, link = ["\n".join(it.strip() for it in found.splitlines()) for found in re.findall(r"(?:^    .*\n)+", text, re.M)]
+    local, project, link = [
+        "\n".join(it.strip() for it in found.splitlines()) for found in re.findall(r"(?:^    .*\n)+", text, re.M)
+    ]
     clone.types(["./install.sh ~/.local"])
-    installed = lambda it: it.replace("/usr/bin/", f"{clone.folder}/home/.local/bin/")
+
+    def installed(text):
+        return text.replace("/usr/bin/", f"{clone.folder}/home/.local/bin/")
+
     settings = dict(re.findall(r"^(\w+) = (.*)$", project, re.M))
     variables = {"$UPLOAD_PORT": settings["upload_port"], "$SOURCE": "examples/blink.hex"}
     commands = [re.sub(r"\$\w+", lambda it: variables[it[0]], settings["upload_command"])]
-    commands.append(f"cd ~ && {installed(link)} && cd - && ~/avrdude -patmega2560 -cwiring -P/dev/ttyACM0 -D -Uflash:w:examples/blink.hex:i")
+    upload = "~/avrdude -patmega2560 -cwiring -P/dev/ttyACM0 -D -Uflash:w:examples/blink.hex:i"
+    commands.append(f"cd ~ && {installed(link)} && cd - && {upload}")
     if PLATFORM.exists():
         commands.append(uploads(installed(local)))
     else:
@@ -185,7 +196,9 @@ def jobs(clone):
     """Runs the steps with avrstk of docs/EMULATOR's recipes for GitLab and GitHub, and those for pytest."""
     clone.types(["./install.sh ~/.local"])
     text = (TOP / "docs/EMULATOR.md").read_text().split("### Recipes for jobs")[1]
-    gitlab, github, fixture = [textwrap.dedent(it) for it in re.findall(r"(?:^(?:    (?!\$ ).*)?\n)+", text, re.M) if it.strip()]
+    gitlab, github, fixture = [
+        textwrap.dedent(it) for it in re.findall(r"(?:^(?:    (?!\$ ).*)?\n)+", text, re.M) if it.strip()
+    ]
     steps = re.findall("^ +- (avrstk.*)", gitlab, re.M), re.findall("^ +(avrstk.*)", github, re.M)
     shutil.copy(clone.top / "examples/blink.hex", clone.folder / "firmware.hex")
     (clone.folder / "test_flash.py").write_text(fixture)

@@ -6,7 +6,9 @@ import random
 def hex_of(runs, most=16):
     """Returns an Intel HEX file with these bytes at these addresses, in rows of at most `most` bytes."""
     rows, high = [], 0
-    for at, held in [(at + place, held[place : place + most]) for at, held in runs for place in range(0, len(held), most)]:
+    for at, held in [
+        (at + place, held[place : place + most]) for at, held in runs for place in range(0, len(held), most)
+    ]:
         if at >> 16 != high:
             high = at >> 16
             rows.append(bytes([2, 0, 0, 4, *high.to_bytes(2, "big")]))
@@ -60,7 +62,9 @@ def drawn(seed):
     size = draw.choice([1, 7, 8, 9, 64, 512, 4096, 32_768, 65_537, 131_072, 262_144, (1 << 24) + 4096])
     image = {}
     for _ in range(draw.randint(1, 12)):
-        start = draw.choice([draw.randrange(size), 0, size - 1, max(min(size, 65_536) - draw.randint(1, 40), 0), max(size - 100, 0)])
+        start = draw.choice(
+            [draw.randrange(size), 0, size - 1, max(min(size, 65_536) - draw.randint(1, 40), 0), max(size - 100, 0)]
+        )
         for at in range(start, min(size, start + draw.choice([1, 2, 31, 32, 33, 64, 200, 700]))):
             image[at] = draw.randrange(256)
     return image, size, hex_of(runs_of(image, draw), 255)

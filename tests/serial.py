@@ -68,7 +68,11 @@ def elf_with(code, name=b".text", address=0):
     """Returns an ELF file with one section of bytes, of this name and address."""
     names = b"\0" + name + b"\0.shstrtab\0"
     begin = struct.pack("<16s2H5I6H", b"\x7fELF\1\1\1", 2, 83, 1, 0, 0, 52 + len(code + names), 0, 52, 32, 0, 40, 3, 2)
-    sections = [(0,) * 10, (1, 1, 6, address, 52, len(code), 0, 0, 1, 0), (len(name) + 2, 3, 0, 0, 52 + len(code), len(names), 0, 0, 1, 0)]
+    sections = [
+        (0,) * 10,
+        (1, 1, 6, address, 52, len(code), 0, 0, 1, 0),
+        (len(name) + 2, 3, 0, 0, 52 + len(code), len(names), 0, 0, 1, 0),
+    ]
     return begin + code + names + b"".join(struct.pack("<10I", *it) for it in sections)
 
 
@@ -214,7 +218,7 @@ def speed(line):
 
 
 def over(words, board=None, **more):
-    """Runs these options over a board. Returns what `run` does, and the chip. The run's report has to fit its schema."""
+    """Runs these options over a board. Returns what `run` does, and the chip. The run's report must fit its schema."""
     it, name = Board(**(board or {})), f"report{next(boards)}.json"
     found = *run([*words, "-P", it.device, "--json", name], **more), it.end()
     if it.opened:
@@ -242,7 +246,9 @@ def run_as_anyone(words, program):
         os.chmod(folder, 0o755)
         shutil.copytree(SHARED, f"{folder}/lib")
         how = ANYONE | {"stdin": subprocess.DEVNULL, "capture_output": True, "cwd": "/", "timeout": PATIENCE}
-        return subprocess.run([PYTHON, shutil.copy(SCRIPT, folder), *words], env=os.environ | {"AVRSTK": str(program)}, **how)
+        return subprocess.run(
+            [PYTHON, shutil.copy(SCRIPT, folder), *words], env=os.environ | {"AVRSTK": str(program)}, **how
+        )
 
 
 def terminal():
@@ -326,7 +332,11 @@ def parts():
     see("attiny85", (status, own, chip == wanted) == (0, [], True), own)
     same("m32u4", over(["-p", "m32u4", "-e"], board_of("part m32u4"))[::3][:2], (0, []))
     status, _, told, own, _ = over(["--parts", "parts.toml", "-p", "atmega32u4", "-e"])
-    see("a given part file counts alone", (status, b"no part atmega32u4" in told, own[0][-len(UNOPENED) :]) == (1, True, UNOPENED), told)
+    see(
+        "a given part file counts alone",
+        (status, b"no part atmega32u4" in told, own[0][-len(UNOPENED) :]) == (1, True, UNOPENED),
+        told,
+    )
     status, output, told, own = run(["-p", "?"])
     rows = output.decode().splitlines()
     see("-p ? lists the parts", (status, told, own, len(rows)) == (0, b"", [], 74), (status, rows))
@@ -355,11 +365,12 @@ TEXTS = {
     "japanese": "\u30a8\u30e9\u30fc\n".encode(),
 }
 
-def archive(opened, text=b"firmware"):
-    """Returns the bytes of a tar or zip archive with a file of this text."""
+
+def archive(opened):
+    """Returns the bytes of a tar or zip archive with a file."""
     held = io.BytesIO()
     with opened(held) as it:
-        it.writestr("main.hex", text) if isinstance(it, zipfile.ZipFile) else it.addfile(tarfile.TarInfo("main.hex"))
+        it.writestr("main.hex", "") if isinstance(it, zipfile.ZipFile) else it.addfile(tarfile.TarInfo("main.hex"))
     return held.getvalue()
 
 
@@ -375,7 +386,12 @@ PACKED = {
     "html": ("<html>\n<p>Größe</p>\n".encode(), "an HTML page"),
     "page.php": ("\n <!doctype HTML>\n<p>\u30a8\u30e9\u30fc</p>\n".encode(), "an HTML page"),
 }
-EMPTY = {"end.hex": b":00000001FF\n", "end.srec": b"S0030000FC\nS5030000FC\nS9030000FC\n", "empty.hex": b"", "empty.bin": b""}
+EMPTY = {
+    "end.hex": b":00000001FF\n",
+    "end.srec": b"S0030000FC\nS5030000FC\nS9030000FC\n",
+    "empty.hex": b"",
+    "empty.bin": b"",
+}
 
 
 def refused():
@@ -417,11 +433,17 @@ def piped(words, content, **more):
 
 
 def no_firmware():
-    """A text without records, an archive, a page and an image without a byte are refused, also from a pipe; a text as raw
-    bytes (:r) is not."""
-    why = {**dict.fromkeys(TEXTS, "is text without records: name its format"), **dict.fromkeys(EMPTY, "is empty (did its build fail?)")}
+    """A text without records, an archive, a page and an image without a byte are refused, also from a pipe; a text as
+    raw bytes (:r) is not."""
+    why = {
+        **dict.fromkeys(TEXTS, "is text without records: name its format"),
+        **dict.fromkeys(EMPTY, "is empty (did its build fail?)"),
+    }
     why.update({name: f"is {what}, not firmware" for name, (_, what) in PACKED.items()})
-    why.update({"lib.elf": "is an ar archive, not firmware"}, **dict.fromkeys(["note.ELF", "a.out"], "is not ELF, as its name says"))
+    why.update(
+        {"lib.elf": "is an ar archive, not firmware"},
+        **dict.fromkeys(["note.ELF", "a.out"], "is not ELF, as its name says"),
+    )
     others = {"lib.elf": PACKED["lib.a"][0], "note.ELF": room.read("blink.hex"), "a.out": b"\x0c\x94\0\0"}
     contents = {**TEXTS, **EMPTY, **others, **{name: held for name, (held, _) in PACKED.items()}}
     for name, content in contents.items():
@@ -432,12 +454,16 @@ def no_firmware():
     # (a pipe has no name that could say what it has)
     ways = zip(itertools.cycle(["-", "/dev/stdin", "-:a", "/dev/fd/0"]), set(why) - set(others))
     cases += [(["-U", f"flash:w:{way}"], contents[name], way.split(":")[0], name) for way, name in ways]
-    for (words, given, shown, name), found in zip(cases, side_by_side(lambda it: piped([*NO_CHIP, *it[0]], it[1]), cases)):
+    for (words, given, shown, name), found in zip(
+        cases, side_by_side(lambda it: piped([*NO_CHIP, *it[0]], it[1]), cases)
+    ):
         same(f"{words} {name}", found, (1, b"", b"", [f"{shown} {why[name]}: {UNOPENED}"]))
     status, *_ = run([*NO_CHIP, "-U", "eeprom:w:m.c:r"])
     same("a text as raw bytes", (status, room.read("no.bin")[32_768:][: len(TEXTS["m.c"])]), (0, TEXTS["m.c"]))
     # (vectors, and strings right behind them)
-    tiny = bytes.fromhex("0EC028C027C026C025C024C023C022C021C020C01FC01EC01DC01CC01BC0") + b"Temperature too high\r\n" * 60
+    tiny = (
+        bytes.fromhex("0EC028C027C026C025C024C023C022C021C020C01FC01EC01DC01CC01BC0") + b"Temperature too high\r\n" * 60
+    )
     for name, raw in [("tiny.bin", tiny), ("jumps.bin", bytes.fromhex("0C945C00") * 26 + tiny[30:])]:
         found = piped([*NO_CHIP, "-U", "flash:w:-"], raw)
         see(f"{name} is firmware", (found[0], room.read("no.bin")[: len(raw)]) == (0, raw), found)
@@ -553,7 +579,10 @@ def speeds_that_a_device_has_not():
     """A device that keeps another speed, here 9600, is refused. One that is a little off is not."""
     slow = "    found = do(device, request, *given)\n"
     slow += "    return found[:40] + (9600).to_bytes(4, sys.byteorder) if request == 0x802C542A else found"
-    for baud, end in [("115200", "avrstk-serial: {}: cannot be set to 115200 baud: it takes 9600"), ("9500", "avrstk: done")]:
+    for baud, end in [
+        ("115200", "avrstk-serial: {}: cannot be set to 115200 baud: it takes 9600"),
+        ("9500", "avrstk: done"),
+    ]:
         it = Board()
         found = patched(slow, ["-p", "m328p", "-P", it.device, "-b", baud])
         same(f"{baud} at 9600", found, (int(baud != "9500"), "", end.format(it.device)))
@@ -566,7 +595,12 @@ def lines_of_a_board():
     noted += "        print(request == termios.TIOCMBIS, given[0][0], time.monotonic(), flush=True)\n"
     noted += "        raise OSError({fault}, '')\n    return do(device, request, *given)"
     both = termios.TIOCM_DTR | termios.TIOCM_RTS
-    for words, fault, wanted in [(["-c", "wiring"], 25, 2), (["-cWiring"], 22, 2), ([], 25, 0), (["-c", "stk500"], 25, 0)]:
+    for words, fault, wanted in [
+        (["-c", "wiring"], 25, 2),
+        (["-cWiring"], 22, 2),
+        ([], 25, 0),
+        (["-c", "stk500"], 25, 0),
+    ]:
         it = Board()
         status, output, _ = patched(noted.format(fault=fault), ["-p", "m328p", "-P", it.device, *words])
         it.end()
@@ -601,11 +635,15 @@ def lists():
 
 
 class Boards:
-    """One chip behind one device, named `device` in the room: a board for each time that it is opened. Each has a pseudo
-    terminal of its own, so that it sees the end of its run even if the next one opens the device at once."""
+    """One chip behind one device, named `device` in the room: a board for each time that it is opened. Each has a
+    pseudo terminal of its own, so that it sees the end of its run even if the next one opens the device at once."""
 
     def __init__(self, *each, chip=None):
-        self.chip, self.each, self.device = chip or f"served{next(boards)}.bin", each, room.folder / f"device{next(boards)}"
+        self.chip, self.each, self.device = (
+            chip or f"served{next(boards)}.bin",
+            each,
+            room.folder / f"device{next(boards)}",
+        )
         self.over = threading.Event()
         self.renew()
         self.thread = threading.Thread(target=self.live, daemon=True)
@@ -691,7 +729,10 @@ def the_part_of_the_chip():
     words = ["-p", "auto", "-U", "flash:w:blink.hex:i", "-U", "lock:w:0x3F:m"]
     it = Boards(silent(0x1B), {}, {})
     status, _, told, own = run([*words, "--retry", "1", "-P", str(it.device)])
-    note, again = "lock of m328p has no bits 6, 7; given as 1: lock:w:0xFF:m", "no answer: the same command again, 1 of 1"
+    note, again = (
+        "lock of m328p has no bits 6, 7; given as 1: lock:w:0xFF:m",
+        "no answer: the same command again, 1 of 1",
+    )
     same("its lines", (status, own), (0, [again, "the chip is m328p (1E 95 0F)", note]))
     see("the run's own lines alone", told.startswith(lines(SIGNATURE, "chip erased")), told)
     same("the chip", it.end(), wanted)
@@ -748,15 +789,19 @@ def progress():
     count = frames_in(heard)
     same("the lines that stay", (status, screen(got)), (0, [*rows, ""]))
     # (six frames come before the first page, and two are for each)
-    for text, sent in [("writing flash: 128 bytes", 8), ("writing flash: 256 bytes", 10), ("reading flash: 256 bytes", 12)]:
+    for text, sent in [
+        ("writing flash: 128 bytes", 8),
+        ("writing flash: 256 bytes", 10),
+        ("reading flash: 256 bytes", 12),
+    ]:
         see(text, f"\ravrstk-serial: {text}, {100 * sent // count} %" in got, (count, got))
     left = re.search(r"\ravrstk-serial: reading flash: 1,\d+ bytes, \d+ %, (\d+) s left", got)
     see("the time that is left", left and int(left[1]) > 5, got)
-    names = lambda: re.findall(r"\ravrstk-serial: (\w+ \w+)", got)
     updates = ["flash:r:back.hex:i", "eeprom:w:whole.bin:r", "flash:w:blink.hex", "eeprom:r:back.bin"]
     got, status, _ = on_a_terminal(["-p", "m328p", *(word for it in updates for word in ("-U", it))])
     wanted = ["reading flash", "writing eeprom", "reading eeprom", "reading flash", "writing flash"]
-    same("each has its name", (status, set(names())), (0, set(wanted)))
+    names = set(re.findall(r"\ravrstk-serial: (\w+ \w+)", got))
+    same("each has its name", (status, names), (0, set(wanted)))
     got, status, _ = on_a_terminal([*FLASH, "-q"])
     same("-q", (status, got), (0, ""))
 
@@ -764,11 +809,28 @@ def progress():
 def few_lines():
     """-q twice leaves values that the script changes or warns of. -l keeps all lines in a file, also over `emu:`."""
     flashed()
-    quiet = ["-C", "x.conf", "-q", "-q", "-p", "auto", "--retry", "1", "-U", "blink.hex", "-U", "efuse:w:5:m", "-U", "lfuse:w:0:m"]
+    quiet = [
+        "-C",
+        "x.conf",
+        "-q",
+        "-q",
+        "-p",
+        "auto",
+        "--retry",
+        "1",
+        "-U",
+        "blink.hex",
+        "-U",
+        "efuse:w:5:m",
+        "-U",
+        "lfuse:w:0:m",
+    ]
     it = Boards({}, silent(0x13), {})
     status, _, _, own = run([*quiet, "-P", str(it.device)])
     shown = ["efuse of m328p has no bits 3, 4, 5, 6, 7; given as 1: efuse:w:0xFD:m"]
-    shown.append("warning: lfuse:w:0:m selects an external clock: the chip only works while a clock drives its pin XTAL1")
+    shown.append(
+        "warning: lfuse:w:0:m selects an external clock: the chip only works while a clock drives its pin XTAL1"
+    )
     same("-q twice", (status, own), (0, shown))
     see("the chip", it.end()[:228] == flashed()[:228])
     it = Board()
@@ -782,14 +844,23 @@ def few_lines():
 def backups():
     """--backup reads all memories, and --restore writes and compares them, whatever the chip's EEPROM and lock are. A
     folder of a run that fails doesn't stay."""
-    old = bytes(it % 241 for it in range(700)).ljust(32_768, b"\xff") + bytes(it % 239 for it in range(200)).ljust(1024, b"\xff")
-    told = lambda words, board: over(["-p", "m328p", *words], board)[::3]
+    old = bytes(it % 241 for it in range(700)).ljust(32_768, b"\xff") + bytes(it % 239 for it in range(200)).ljust(
+        1024, b"\xff"
+    )
+
+    def told(words, board):
+        return over(["-p", "m328p", *words], board)[::3]
+
     for fuses, name in [("E2D1FDFF", "a backup"), ("62D907FE", "-x")]:
         room.put("old.bin", old + bytes.fromhex(fuses))
         status, output, _, own, _ = over(["-p", "m328p", "--wait", "0.4", "--backup", name], {"chip": "old.bin"})
         words = shlex.split(output.decode())
         see(f"{name}: its command", words[:5] == ["avrstk-serial", "--wait", "0.4", "-p", "m328p"], output)
-        same(f"{name}: there is none yet", told(["--backup", name], {}), (1, [f"--backup {name}: File exists: {UNOPENED}"]))
+        same(
+            f"{name}: there is none yet",
+            told(["--backup", name], {}),
+            (1, [f"--backup {name}: File exists: {UNOPENED}"]),
+        )
         # (this high fuse keeps EEPROM at an erase. This lock forbids all but an erase)
         for chip in [b"\xe1\xd7\xfa\xfc", b"\xff" * 4]:
             room.put("new.bin", bytes(33_792) + chip)
@@ -800,14 +871,24 @@ def backups():
     for words in [["--backup", "none"], ["--restore", "none"]]:
         same("an erased chip", run(["-p", "m328p", "-P", "emu:old.bin", *words])[0], 0)
     loader = "a bootloader can't write fuses and the lock, or read the calibration: use a programmer"
-    written = lambda answer: see("no write", answer[5] not in (0x12, 0x13, 0x15, 0x17, 0x19)) and answer
-    refused = lambda answer: frame(answer[1], b"\x1c\xc0") if answer[5] == 0x1C else written(answer)
+
+    def written(answer):
+        see("no write", answer[5] not in (0x12, 0x13, 0x15, 0x17, 0x19))
+        return answer
+
+    def refused(answer):
+        return frame(answer[1], b"\x1c\xc0") if answer[5] == 0x1C else written(answer)
+
     fails = [
         ({"answer": refused}, ["--backup", "gone"], loader),
         ({"answer": refused}, ["--restore", "a backup"], loader),
         ({"talk": b"x"}, ["--backup", "gone", "-b", "x"], "-b x: not a speed"),
         (silent(0x16), ["--backup", "gone"], "the programmer stopped replying"),
-        (board_of("part t85"), ["-p", "t85", "--restore", "a backup"], f"a backup is of a chip 1E950F, and t85 is 1E930B: {UNOPENED}"),
+        (
+            board_of("part t85"),
+            ["-p", "t85", "--restore", "a backup"],
+            f"a backup is of a chip 1E950F, and t85 is 1E930B: {UNOPENED}",
+        ),
     ]
     sizes = "flash_size = 8192, flash_page = 64, eeprom_size = 512, eeprom_page = 4, eesave_bit = 3"
     room.put("odd.toml", f"[parts]\n'odd' = {{ signature = \"1E930B\", {sizes} }}\n".encode())
@@ -819,7 +900,10 @@ def backups():
     for board, words, why in fails:
         status, own = told(words, board)
         see(f"{words}: {why}", status == 1 and own[-1].startswith(why) and not (room.folder / "gone").exists(), own)
-    for file, text, why in [("lock.txt", b"0xfc", no_backup), ("eeprom.hex", hex_of([(0, b"1")]), "none/eeprom.hex is not the whole EEPROM")]:
+    for file, text, why in [
+        ("lock.txt", b"0xfc", no_backup),
+        ("eeprom.hex", hex_of([(0, b"1")]), "none/eeprom.hex is not the whole EEPROM"),
+    ]:
         kept = room.read(f"none/{file}")
         room.put(f"none/{file}", text)
         same(why, told(["--restore", "none"], {"talk": b"x"}), (1, [f"{why}: {UNOPENED}"]))
@@ -832,7 +916,9 @@ def warnings():
     """Tests warnings of fuses that can make a chip unreachable, and of an image that leaves out a bootloader's
     pages."""
     fields = "flash_size = 32768, flash_page = 128, eeprom_size = 1024, eeprom_page = 4, eesave_bit = 3"
-    mine = [f'{it} = {{ {fields}, signature = "{digits}" }}\n' for it, digits in [("m328p", "1e950F"), ("b-chip", "1E9500")]]
+    mine = [
+        f'{it} = {{ {fields}, signature = "{digits}" }}\n' for it, digits in [("m328p", "1e950F"), ("b-chip", "1E9500")]
+    ]
     fields = fields.replace(", ", "\n")
     mine.append(f'[parts.a-chip]\nsignature = "1E950F"\n{fields}\n')
     for part, words, wanted in table("warnings"):
@@ -868,19 +954,30 @@ def images_that_are_read_once():
     same("a shell's pipe, twice", (status, own, it.end() == wanted), (0, again, True))
     status, _, told, own = piped([*NO_CHIP, "-U", "flash:w:-:i", "-U", "eeprom:w:-:i"], hex_of([(0, bytes(600))]))
     same("two memories", (status, set(room.read("no.bin")[:600] + room.read("no.bin")[32_768:][:600])), (0, {0}))
-    for content, wanted in [(text[:100], "error: -: line 3: bad length"), (text[: text.rindex(b":")], "warning: -: no end record")]:
+    for content, wanted in [
+        (text[:100], "error: -: line 3: bad length"),
+        (text[: text.rindex(b":")], "warning: -: no end record"),
+    ]:
         same(wanted, piped([*NO_CHIP, "-U", "flash:w:-"], content)[2].splitlines(True)[0], lines(wanted))
-    same("no such file", run([*NO_CHIP, "-U", "flash:w:no.hex:i"])[1:3], (b"", lines("error: no.hex: cannot be opened")))
+    same(
+        "no such file", run([*NO_CHIP, "-U", "flash:w:no.hex:i"])[1:3], (b"", lines("error: no.hex: cannot be opened"))
+    )
     why = f"-P stdio: needs standard input, so no image comes from it: {UNOPENED}"
     same("no image from frames", run(["-p", "m328p", "-P", "stdio:", "-U", "flash:w:-"])[3], [why])
     # (a file that grows no further: what is judged isn't passed on in part)
     limit = {"preexec_fn": lambda: resource.setrlimit(resource.RLIMIT_FSIZE, (2048, 2048))}
     room.put("long.hex", hex_of([(0, bytes(6_000))]))
     status, _, told, own = run(["-p", "m328p", "-P", "net:127.0.0.1:1", "-U", "flash:w:long.hex:i"], **limit)
-    same("a limit of files", (status, told, own), (1, b"", [f"long.hex can't be given to avrstk: File too large: {UNOPENED}"]))
+    same(
+        "a limit of files",
+        (status, told, own),
+        (1, b"", [f"long.hex can't be given to avrstk: File too large: {UNOPENED}"]),
+    )
     room.put("net:", text)
     line, device = terminal()
-    told = "sys.stderr.write('avrstk: error: ' + ' '.join(sys.argv[1:]).replace(str(port), 'PORT') + '\\n')\nsys.exit(1)\n"
+    told = (
+        "sys.stderr.write('avrstk: error: ' + ' '.join(sys.argv[1:]).replace(str(port), 'PORT') + '\\n')\nsys.exit(1)\n"
+    )
     _, _, told, _ = run(["-p", "m328p", "-P", device, "-U", "net:"], env=stand_in(told))
     os.close(line)
     same("net: elsewhere", told.split()[2:], b"-P net:127.0.0.1:PORT -c stk500v2 -p m328p -U net:".split())
@@ -927,7 +1024,10 @@ def files_of_one_command():
         (room.folder / name).symlink_to(end)
     kept = {it.name: it.read_bytes() for it in room.folder.iterdir() if it.is_file()}
     line, device = terminal()
-    meant = lambda text: text.replace("DEVICE", device).replace("CLASSIC", CLASSIC[1])
+
+    def meant(text):
+        return text.replace("DEVICE", device).replace("CLASSIC", CLASSIC[1])
+
     for words, wanted in table("files"):
         status, _, told, own = run(["-p", "m328p", *shlex.split(meant(words))])
         same(words, (status, told, own), (1, b"", [f"{meant(wanted)}: {UNOPENED}"]))
@@ -966,6 +1066,7 @@ def board_of(cell):
 
 def hints():
     """Tests the hints after the failed runs of a table, and after a closed output."""
+
     def ran(case):
         _, words, *_, board = case
         it, begun = Board(**board_of(board)), time.monotonic()
@@ -1072,7 +1173,10 @@ def elf_files():
         return leave_out("ELF", "avr-gcc is not installed")
     linked("main.elf", ELF)
     others = [it for name in ["eeprom", "fuse", "lock", "signature"] for it in ("-R", f".{name}")]
-    take = lambda *words: subprocess.run(["avr-objcopy", "-O", "binary", *words], cwd=room.folder, check=True)
+
+    def take(*words):
+        subprocess.run(["avr-objcopy", "-O", "binary", *words], cwd=room.folder, check=True)
+
     take(*others, "main.elf", "flash.bin")
     take("-j", ".eeprom", "main.elf", "eeprom.bin")
     flash, eeprom = room.read("flash.bin"), room.read("eeprom.bin")
@@ -1089,7 +1193,7 @@ def elf_files():
     status, _, told, own = run(["-p", "m328p", "-P", "emu:wanted.bin", *words])
     same("each is compared", (status, told.count(b" verified")), (0, 6))
     same("its line", own, ["main.elf is read as ELF (:e)"] * 6)
-    linked("high.elf", ".text\n.byte 7\n.section .high, \"ax\"\n.byte 8, 9\n", "-Wl,--section-start=.high=0x1FFFF")
+    linked("high.elf", '.text\n.byte 7\n.section .high, "ax"\n.byte 8, 9\n', "-Wl,--section-start=.high=0x1FFFF")
     status, *_ = run(["-p", "m2560", "-P", "emu:high.bin", "-qq", "-U", "flash:w:high.elf"])
     same("over 64 kB", (status, room.read("high.bin")[0x1FFFE:0x20002]), (0, b"\xff\x08\x09\xff"))
     linked("odd.elf", ELF + '.section .odd, "a"\n.byte 1, 2\n', "-Wl,--section-start=.odd=0x850000")
@@ -1127,20 +1231,36 @@ def elf_files():
     same("too high", high[2], lines("error: high.elf: address 0001FFFF out of range"))
     room.put("both.hex", b"".join(room.read("blink.hex").splitlines(True)[:-1]) + hex_of([(0x810000, b"eeprom")]))
     for memory, at, held in [("flash", 0, flash), ("eeprom", 32_768, eeprom)]:
-        there = lambda chip: chip[:at] + held + chip[at + len(held) :]
-        walk(memory, ["-p", "m328p", "-U", f"{memory}:w:both.hex"], there)
+        words = ["-p", "m328p", "-U", f"{memory}:w:both.hex"]
+        walk(memory, words, lambda chip: chip[:at] + held + chip[at + len(held) :])
 
 
 def mutated(elf, chance):
     """Returns an ELF file with a few changes: numbers of its headers, bits, bytes lost or doubled."""
-    held, odd = bytearray(elf), [0, 1, 2, 8, 40, 255, 0xFFFF, 0x800000, 0x810000, 0x820000, 0x840000, 1 << 31, 0xFFFFFFFF]
+    held, odd = bytearray(elf), [
+        0,
+        1,
+        2,
+        8,
+        40,
+        255,
+        0xFFFF,
+        0x800000,
+        0x810000,
+        0x820000,
+        0x840000,
+        1 << 31,
+        0xFFFFFFFF,
+    ]
     at, count = struct.unpack_from("<I", elf, 32)[0], struct.unpack_from("<H", elf, 48)[0]
     for _ in range(chance.choice([1, 1, 1, 2, 3, 5]) if len(held) > 200 else 0):
         number = chance.choice([*odd, *(chance.randrange(len(elf)) for _ in range(6))])
         section, place = at + 40 * chance.randrange(count), chance.randrange(len(held))
         kind = chance.randrange(6 if chance.randrange(9) else 7)
         if kind < 3:
-            field = [28 + 4 * chance.randrange(6), 52 + 4 * chance.randrange(32), section + 4 * chance.randrange(10)][kind]
+            field = [28 + 4 * chance.randrange(6), 52 + 4 * chance.randrange(32), section + 4 * chance.randrange(10)][
+                kind
+            ]
             held[field : field + 4] = number.to_bytes(4, "little")
         elif kind == 3:
             held[place] ^= 1 << chance.randrange(8)
@@ -1160,7 +1280,8 @@ def elf_files_with_faults():
     from avrstk_elf import sections_of
 
     linked("main.elf", ELF)
-    main, chance, slowest, read = room.read("main.elf"), random.Random(int(os.environ.get("SAMPLE") or 1)), 0.0, 0
+    main, chance = room.read("main.elf"), random.Random(os.environ.get("SAMPLE") or 1)
+    slowest, read, compared = 0.0, 0, 0
     count = int(os.environ.get("MUTANTS", "300" if os.environ.get("SAMPLE") else "4000"))
     for number in range(count):
         elf, begun = mutated(main, chance), time.process_time()
@@ -1173,12 +1294,14 @@ def elf_files_with_faults():
             read += 1
             room.put("mutated.elf", elf)
             command = ["avr-objcopy", "-O", "ihex", "mutated.elf", "mutated.hex"]
-            ran = subprocess.run(command, cwd=room.folder, capture_output=True)
             # (it refuses some others, too)
-            wanted = found if ran.stderr else image_of(room.read("mutated.hex"))
-            see(f"mutant {number}", found == wanted, (sorted(set(found) ^ set(wanted))[:9], ran.stderr))
-    see(f"{count} mutants, {read} are read, the slowest in {slowest:.2f} s", slowest < 1 and 0 < read < count)
-    print(f"{count} mutants, {read} are read, the slowest in {slowest:.3f} s", flush=True)
+            if not subprocess.run(command, cwd=room.folder, capture_output=True).stderr:
+                compared += 1
+                wanted = image_of(room.read("mutated.hex"))
+                see(f"mutant {number}", found == wanted, sorted(set(found) ^ set(wanted))[:9])
+    told = f"{count} mutants, {read} are read, {compared} compared, the slowest in {slowest:.3f} s"
+    see(told, slowest < 1 and 0 < compared <= read < count)
+    print(told, flush=True)
 
 
 def mended(words, case, *_):
@@ -1197,38 +1320,79 @@ def changed(before, after):
 FOLLOWED = [
     (r"damaged or cut short: build or download it again", another_file),
     (r"if it is a comment, else build or download the file again|it is not Intel HEX", another_file),
-    (r"give the ELF file itself, as (\w+:w:)NAME.elf", lambda words, _, found: [*words[:3], f"{found[1]}main.elf", *words[4:]]),
-    (r"leave out -D, which erases all of flash, and EEPROM unless", lambda words, case, _: on_a_bootloader(words, case) if "loads" in case else without(words, "-D")),
-    (r": (leave out -e, and )?use -D(, and give one image .* no page)?\. If", lambda words, case, _: "loads" in case and on_a_bootloader(words, case)),
-    (r": leave out -e. If this is a programmer, it can't", lambda words, case, _: "loads" in case and without(words, "-e")),
-    (r"^-c wiring is for a bootloader, which can't", lambda words, case, _: on_a_bootloader(words, case) if "loads" in case else without(without(words, "-c"), "wiring")),
+    (
+        r"give the ELF file itself, as (\w+:w:)NAME.elf",
+        lambda words, _, found: [*words[:3], f"{found[1]}main.elf", *words[4:]],
+    ),
+    (
+        r"leave out -D, which erases all of flash, and EEPROM unless",
+        lambda words, case, _: on_a_bootloader(words, case) if "loads" in case else without(words, "-D"),
+    ),
+    (
+        r": (leave out -e, and )?use -D(, and give one image .* no page)?\. If",
+        lambda words, case, _: "loads" in case and on_a_bootloader(words, case),
+    ),
+    (
+        r": leave out -e. If this is a programmer, it can't",
+        lambda words, case, _: "loads" in case and without(words, "-e"),
+    ),
+    (
+        r"^-c wiring is for a bootloader, which can't",
+        lambda words, case, _: on_a_bootloader(words, case)
+        if "loads" in case
+        else without(without(words, "-c"), "wiring"),
+    ),
     (r"from 0 on without gaps", another_file),
     (r"lacks, and reads as 1: is -p right\?", lambda *_: None),
     (r"is -p right\?", lambda words, case, _: other_part(words, case["part"], "blink.hex")),
-    (r"the right board\? .*; if that is so, -p (\w+), with", lambda words, case, found: other_part(words, found[1], case["made"])),
+    (
+        r"the right board\? .*; if that is so, -p (\w+), with",
+        lambda words, case, found: other_part(words, found[1], case["made"]),
+    ),
     (r": give (\S+:[ise]);", lambda words, _, found: renamed(words, found[1])),
     (r"the memories are flash, eeprom, lfuse", changed("^fuse", "lfuse")),
-    (r"the operations are w \(write\)|the formats are i, s, r, e, a and m to write|a file comes last, as flash:w:", changed("^flash:.*", "flash:w:blink.hex:i")),
-    (r"there is no such file|it is a symbolic link to a missing file|you may not read it|the system refuses to open it", changed("^flash:.*", "flash:w:blink.hex:i")),
+    (
+        r"the operations are w \(write\)|the formats are i, s, r, e, a and m to write|a file comes last, as flash:w:",
+        changed("^flash:.*", "flash:w:blink.hex:i"),
+    ),
+    (
+        r"there is no such file|it is a symbolic link to a missing file|you may not read it"
+        r"|the system refuses to open it",
+        changed("^flash:.*", "flash:w:blink.hex:i"),
+    ),
     (r"a format is one letter: give -U (\S+);", changed("^flash:.*", r"\1")),
     (r"a value is written as 0xE2", changed(":E2:", ":0xE2:")),
-    (r"has no option before it: a file is given as (-U) (\S+)$", lambda words, _, found: [*words[:-1], found[1], found[2]]),
+    (
+        r"has no option before it: a file is given as (-U) (\S+)$",
+        lambda words, _, found: [*words[:-1], found[1], found[2]],
+    ),
     (r"a value needs :m after it: give (\S+) if it is hexadecimal", changed("^lfuse.*", r"\1")),
     (r"a value needs :m after it, as lfuse:w:0xE2:m", changed("^lfuse:.*", "lfuse:w:0xE2:m")),
     (r"has 1 byte: give its value, as lfuse:w:0xE2:m", changed("^lfuse:.*", "lfuse:w:0xE2:m")),
     (r"without the package: -p (\w+)|give -p (\w+);", changed("^(m328p-pu|mega328p)$", r"\1\2")),
-    (r"-p takes the chip's name, not the board's: (m328p) for Uno|^-p \? lists the parts", changed("^(uno|m9)$", "m328p")),
+    (
+        r"-p takes the chip's name, not the board's: (m328p) for Uno|^-p \? lists the parts",
+        changed("^(uno|m9)$", "m328p"),
+    ),
     (r"differ that the part doesn't have: give (\S+)", lambda words, _, found: valued(words, found[1])),
     (r"bits ([\d, ]+) stay 1. If the part has none of them, give (\S+)\. If it has any of them, (.*)", stays),
     (r"removes a lock: -e, which|only an erase \(-e\) removes it, which", lambda words, *_: [*words, "-e"]),
     (r"^-U lock was given before: give it last", lock_last),
     (r"give one value$|two images overlap: give one$", lambda words, *_: words[:-2]),
     (r"^ended by SIG|^no reply; the chip is unchanged. Check: |^the device sends data, but no valid reply", mended),
-    (r"^the programmer (finds no chip|can't reach the chip|stopped replying)|^the device is gone|^something else sends data", mended),
+    (
+        r"^the programmer (finds no chip|can't reach the chip|stopped replying)|^the device is gone"
+        r"|^something else sends data",
+        mended,
+    ),
     (r"only the last command got no reply. Power-cycle the board", mended),
     (r"^check the folder and free space|^standard output is closed", changed(":(/dev/full|-):h", ":read.txt:h")),
     (r"run the same command again$", lambda words, *_: words),
-    (r"holds something else than [^;]*$|: use a programmer$|: power-cycle the board$|is worn$|is worn, or a lock|damaged$", lambda *_: None),
+    (
+        r"holds something else than [^;]*$|: use a programmer$|: power-cycle the board$|is worn$|is worn, or a lock"
+        r"|damaged$",
+        lambda *_: None,
+    ),
     (r"use another one$|which is not known here|is not supported: .* Use avrdude", lambda *_: None),
 ]
 
@@ -1253,7 +1417,9 @@ def matched(table, error, words, matched=hints.matched, **fields):
     return found
 hints.first, hints.matched = first, matched
 runpy.run_path(sys.argv[0], run_name="__main__")
-""".replace("LIB", repr(str(SHARED / "avrstk")))
+""".replace(
+    "LIB", repr(str(SHARED / "avrstk"))
+)
 # rows of hints that a walk has followed to its end
 seen = set()
 
@@ -1262,12 +1428,16 @@ def rows_of_hints():
     """Returns the rows of the sources' hints as TRACED notes them, each with its line there."""
     text, found = (SHARED / "avrstk/avrstk_hints.py").read_text(), {}
     for it in ast.parse(text).body:
-        calls = [call for call in ast.walk(it) if isinstance(call, ast.Call) and getattr(call.func, "id", "") == "first"]
+        calls = [
+            call for call in ast.walk(it) if isinstance(call, ast.Call) and getattr(call.func, "id", "") == "first"
+        ]
         places = [(it.name, call.args) for call in calls if isinstance(it, ast.FunctionDef)]
         if isinstance(it, ast.Assign) and isinstance(it.value, ast.Dict):
             places.append((it.targets[0].id, it.value.keys))
         for name, rows in places:
-            found.update({(name, len(rows), at): text.splitlines()[row.lineno - 1].strip() for at, row in enumerate(rows)})
+            found.update(
+                {(name, len(rows), at): text.splitlines()[row.lineno - 1].strip() for at, row in enumerate(rows)}
+            )
     return found
 
 
@@ -1295,7 +1465,9 @@ def followed(name, words, **case):
         rows = [json.loads(row) for row in trace.read_text().splitlines()] if trace.exists() else []
         chosen |= {tuple(row[:3]) for row in rows if row[3] and row[3] in own[-1] and row[2] is not None}
         # (what it says of a second time is followed then)
-        hint, _, later = re.split(r"(; if it (?:fails again|always fails at the same address|refuses again), |$)", own[-1], 1)
+        hint, _, later = re.split(
+            r"(; if it (?:fails again|always fails at the same address|refuses again), |$)", own[-1], 1
+        )
         text = [hint, later, ""][hints.count(own[-1])]
         hints.append(own[-1])
         rules = [(begin, act) for begin, act in FOLLOWED if re.search(begin, text)] if text else []
@@ -1317,7 +1489,11 @@ def walk(name, words, end, **case):
     status, hints, found = followed(name, words, **case)
     see(f"{name}: it ends well", not status, hints)
     wanted = end(found)
-    see(f"{name}: the chip", found == wanted, [at for at, (one, other) in enumerate(zip(found, wanted)) if one != other][:9])
+    see(
+        f"{name}: the chip",
+        found == wanted,
+        [at for at, (one, other) in enumerate(zip(found, wanted)) if one != other][:9],
+    )
     return hints
 
 
@@ -1337,7 +1513,10 @@ OLD = bytes(it % 241 for it in range(32_768)) + bytes(1024) + b"\xe1\xd0"
 
 def kind_of(name):
     """Returns the case of a board by its name, or as board_of has it."""
-    loads = lambda **more: {"loads": 1, "again": lambda: None, "board": {"server": Bootloader(OLD[:32_768], **more)}}
+
+    def loads(**more):
+        return {"loads": 1, "again": lambda: None, "board": {"server": Bootloader(OLD[:32_768], **more)}}
+
     lacks = {"lacks": 1, "board": {"answer": without_bits}}
     known = {
         "served": lambda: {},
@@ -1349,15 +1528,29 @@ def kind_of(name):
         "mega": lambda: loads(takes_lock=True),
         "another": lambda: {"has": "m2560", "part": "m2560", "made": "mega.hex"},
         "no erase": lambda: {"chip": OLD + b"\xfa\xff", "board": board_of("reply 12 12C0")},
-        "worn": lambda: {"board": {"answer": lambda it: frame(it[1], it[5:7] + b"\x80" + it[8:-1]) if it[5] in (0x14, 0x16) else it}},
-        "far": lambda: {"board": {"answer": lambda it: frame(it[1], b"\x16\0" + bytes(len(it) - 8)) if it[5:8] == b"\x16\0\xee" else it}},
+        "worn": lambda: {
+            "board": {"answer": lambda it: frame(it[1], it[5:7] + b"\x80" + it[8:-1]) if it[5] in (0x14, 0x16) else it}
+        },
+        "far": lambda: {
+            "board": {
+                "answer": lambda it: frame(it[1], b"\x16\0" + bytes(len(it) - 8)) if it[5:8] == b"\x16\0\xee" else it
+            }
+        },
         "full": lambda: {"more": {"closed": ">&-"}},
-        "a bare root": lambda: {"more": {"by": ["setpriv", "--bounding-set=-dac_override,-dac_read_search"] if ANYONE else []}},
+        "a bare root": lambda: {
+            "more": {"by": ["setpriv", "--bounding-set=-dac_override,-dac_read_search"] if ANYONE else []}
+        },
     }
     kind, _, when = name.partition(" ")
     if kind == "signal":
         reached = threading.Event()
-        held = lambda answer: reached.set() or b"" if when == f"{answer[5]:02X}" else answer
+
+        def held(answer):
+            if when != f"{answer[5]:02X}":
+                return answer
+            reached.set()
+            return b""
+
         halts = {} if when != "early" else stand_in("open('told', 'w')\ntime.sleep(60)\n")
 
         def begun(_, started):
@@ -1388,7 +1581,18 @@ def hints_over_each_memory():
         "lock:w:0x3F:m": (-1, b"\x3f", 0x3F),
         "lock:w:0x2C:m": (-1, b"\x2c", 0x3F),
     }
-    kinds = ["served", "written", "locked", "locked, lacks bits", "lacks bits", "loader", "mega", "another", "no erase", "worn"]
+    kinds = [
+        "served",
+        "written",
+        "locked",
+        "locked, lacks bits",
+        "lacks bits",
+        "loader",
+        "mega",
+        "another",
+        "no erase",
+        "worn",
+    ]
 
     def right(case):
         update, kind, words = case
@@ -1442,7 +1646,11 @@ def each_hint():
         name, words, wanted, _ = row
         words = words.split() if " -p " in f" {words}" else ["-p", "m328p", *words.split()]
         case = kind_of(name)
-        again = {"again": lambda: [room.put(it, good) for it in ("cut.hex", "comment.hex", "page.hex") if f"flash:w:{it}" in words]}
+        again = {
+            "again": lambda: [
+                room.put(it, good) for it in ("cut.hex", "comment.hex", "page.hex") if f"flash:w:{it}" in words
+            ]
+        }
         status, hints, chip = followed(" | ".join(row[:2]), words, **case, **{} if "again" in case else again)
         memory, _, what = wanted.partition(" ")
         what = held[what] if what in held else bytes.fromhex(what) if what else b""
@@ -1463,7 +1671,10 @@ def hints_that_are_followed():
     image = bytes(it % 251 for it in range(700))
     old = bytes(it % 241 for it in range(32_768))
     rows = good.splitlines(True)
-    flash = lambda file, *more: ["-p", "m328p", "-U", f"flash:w:{file}", *more]
+
+    def flash(file, *more):
+        return ["-p", "m328p", "-U", f"flash:w:{file}", *more]
+
     bad = {
         "sum.hex": good.replace(rows[1][9:11], b"00" if rows[1][9:11] != b"00" else b"01", 1),
         "cut.hex": good[:-25],
@@ -1485,11 +1696,21 @@ def hints_that_are_followed():
     for number, (name, (form, *words)) in enumerate(sampled("hints of damaged files", 7, ways)):
         follows(name, flash(f"{number}{name}{form}", *words), file=f"{number}{name}", text=bad[name])
     late, merged = hex_of([(0x1000, image)]), b"\xff" * 0x1000 + image
-    # (with the lock, as for each bootloader's chip)
-    wanted = lambda chip: merged[: 0x1000 + 768].ljust(0x1300, b"\xff") + old[0x1300:] + b"\xff"
+
+    def wanted(_):
+        # (with the lock, as for each bootloader's chip)
+        return merged[: 0x1000 + 768].ljust(0x1300, b"\xff") + old[0x1300:] + b"\xff"
+
     for number, words in enumerate([[], ["-D"], ["-e"], ["-c", "wiring"], ["-c", "wiring", "-D"]]):
         own = {"file": f"late{number}.hex", "text": late, "again": hex_of([(0, merged)])}
-        follows(f"a bootloader {words}", flash(own["file"], *words), wanted, board={"server": Bootloader(old)}, loads=1, **own)
+        follows(
+            f"a bootloader {words}",
+            flash(own["file"], *words),
+            wanted,
+            board={"server": Bootloader(old)},
+            loads=1,
+            **own,
+        )
     follows("-D", flash("late.hex", "-D"), with_flash(image, 0x1000), "late.hex", late, chip=old + b"\xff" * 1028)
     for (name, *_), hints in zip(walks, side_by_side(lambda it: walk(*it[:3], **it[3]), walks)):
         same(f"{name}: one hint", len(hints), 1) if name in bad else None
@@ -1520,7 +1741,7 @@ def signals():
 
 
 def reports():
-    """--json writes what a run did: kinds of failures, the chip, each update; also after a signal, and on the output."""
+    """--json writes what a run did: kinds of failures, the chip, each update; after a signal too, and to the output."""
     try:
         import jsonschema  # noqa: F401
     except ModuleNotFoundError:
@@ -1532,18 +1753,24 @@ def reports():
         it.end()
         found, what = report_of("report.json"), f"{board}, {words}"
         same(what, (found["status"], found["kind"] or "-", found["chip"]), (status, kind, chip))
-        see(f"{what}: its error", (found["error"] or "").startswith(error) and bool(error) == bool(found["error"]), found["error"])
+        see(
+            f"{what}: its error",
+            (found["error"] or "").startswith(error) and bool(error) == bool(found["error"]),
+            found["error"],
+        )
         see(f"{what}: its hint", found["hint"] is None or found["hint"] in own, (found["hint"], own))
     held = room.read("blink.hex")
     it = Board(answer=lambda reply, lost=iter([b""]): next(lost, reply) if reply[5] == 0x13 else reply)
-    output = run(["-p", "m328p", "-P", it.device, "-U", "flash:w:blink.hex", "-U", "flash:r:back.hex:i", "--json", "-"])[1]
+    output = run(
+        ["-p", "m328p", "-P", it.device, "-U", "flash:w:blink.hex", "-U", "flash:r:back.hex:i", "--json", "-"]
+    )[1]
     it.end()
     found, (wrote, read) = json.loads(output), json.loads(output)["updates"]
     same("an image", (wrote["bytes"], wrote["written"], wrote["verified"]), (len(held), 228, 228))
     same("its digest", wrote["sha256"], hashlib.sha256(held).hexdigest())
     same("a file", (read["read"], read["sha256"]), (228, hashlib.sha256(room.read("back.hex")).hexdigest()))
     same("one lost reply", (found["repeated"], found["retries"], found["signature"]), (1, 0, "1E 95 0F"))
-    same("all commands", found["commands"], len(list(frames_of_stream(it.heard))))
+    same("all commands", found["commands"], frames_in(it.heard))
     reached = threading.Event()
     it = Board(answer=lambda reply: reached.set() or b"" if reply[5] == 0x13 else reply)
     started = start([*FLASH, "-P", it.device, "--json", "report.json"])
@@ -1553,16 +1780,7 @@ def reports():
     it.end()
     found = report_of("report.json")
     same("after a signal", (found["kind"], found["chip"]), ("interrupted", "erased or partly written"))
-    room.put("report.json", b"old")
     same("a folder that isn't there", run([*FLASH, "-P", "emu:c.bin", "--json", "no/report.json"])[0], 1)
-
-
-def frames_of_stream(heard):
-    """Yields the frames of these bytes."""
-    while heard:
-        size = 6 + int.from_bytes(heard[2:4], "big")
-        yield heard[:size]
-        heard = heard[size:]
 
 
 def cut_lines():
@@ -1680,7 +1898,11 @@ def settings_that_are_kept():
     status, *_ = run([*FLASH, "-P", device, "-b", "74880", "--wait", "0"], env=stand_in(CALLS))
     (read, written, control, local), size = during[1], termios.CSIZE | termios.PARENB | termios.CSTOPB | termios.CRTSCTS
     same("the speed of a run", during[0], (74_880, 74_880))
-    same("it passes each byte as it is, by 8N1", (read, written, local, control & size), (termios.IGNPAR, 0, 0, termios.CS8))
+    same(
+        "it passes each byte as it is, by 8N1",
+        (read, written, local, control & size),
+        (termios.IGNPAR, 0, 0, termios.CS8),
+    )
     same("settings after it", (status, termios.tcgetattr(kept)), (0, before))
     os.close(kept)
     os.close(line)
@@ -1774,7 +1996,10 @@ def without_socat(started):
 
 def recipe_of_the_script():
     """Types two commands of docs/USAGE with avrstk-serial."""
-    for begin, part, more in [("avrstk-serial -p m328p -P /dev/", "m328p", []), ("avrstk-serial -C/etc", "m2560", ["-D"])]:
+    for begin, part, more in [
+        ("avrstk-serial -p m328p -P /dev/", "m328p", []),
+        ("avrstk-serial -C/etc", "m2560", ["-D"]),
+    ]:
         firmware = emulated(*more, *FLASH[2:], part=part)
         it = Board(part=part)
         status, _ = without_socat(typed(recipe(begin), it.device))
@@ -1829,7 +2054,15 @@ def recipe_of_ser2net():
 CASES = named(
     *(words_of_avrdude, reads, boards_that_reset, parts, refused, no_firmware, devices, what_is_missing),
     *(ports_of_avrstk, speeds_that_a_device_has_not, lines_of_a_board, bits_that_do_not_exist, lists, retries),
-    *(retries_that_are_refused, the_part_of_the_chip, hints, elf_files, elf_files_with_faults, each_hint, hints_over_each_memory),
+    *(
+        retries_that_are_refused,
+        the_part_of_the_chip,
+        hints,
+        elf_files,
+        elf_files_with_faults,
+        each_hint,
+        hints_over_each_memory,
+    ),
     *(hints_that_are_followed, progress, few_lines, backups, warnings, images_that_are_read_once, over_a_bootloader),
     *(files_of_one_command, reports, signals, cut_lines, closed_streams),
     *(messages_that_nobody_reads, one_run_at_a_time, settings_that_are_kept, devices_that_go, strangers),
@@ -1837,8 +2070,27 @@ CASES = named(
 )
 
 # a board that replies for a time, or a signal at a moment
-TIMED = ["words_of_avrdude", "boards_that_reset", "hints", "retries", "the_part_of_the_chip", "each_hint", "hints_over_each_memory", "hints_that_are_followed"]
-TIMED += ["progress", "backups", "signals", "devices_that_go", "names_and_interrupts", "recipe_of_a_plain_bridge", "recipe_of_ser2net"]
+TIMED = [
+    "words_of_avrdude",
+    "boards_that_reset",
+    "hints",
+    "retries",
+    "the_part_of_the_chip",
+    "each_hint",
+    "hints_over_each_memory",
+    "hints_that_are_followed",
+]
+TIMED += [
+    "progress",
+    "backups",
+    "signals",
+    "devices_that_go",
+    "names_and_interrupts",
+    "recipe_of_a_plain_bridge",
+    "recipe_of_ser2net",
+    "elf_files",
+    "elf_files_with_faults",
+]
 
 if __name__ == "__main__":
     sys.exit(run_cases({name: lambda it=it: (room.clear(), it()) for name, it in CASES.items()}, __doc__, timed=TIMED))

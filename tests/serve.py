@@ -289,7 +289,9 @@ def refused():
     taken = kept_port()
     taken.listen()
     port = str(port_of(taken))
-    rows = [(shlex.split(words.replace("TAKEN", port)), 1, told.replace("TAKEN", port)) for words, told in table("serve")]
+    rows = [
+        (shlex.split(words.replace("TAKEN", port)), 1, told.replace("TAKEN", port)) for words, told in table("serve")
+    ]
     rows += [
         ([], 0, None),
         (["--help"], 0, None),
@@ -414,9 +416,13 @@ def a_job_ends():
         held[options, before] = subprocess.Popen([SCRIPT, *words], **how), int(status), told
     try:
         for name, (it, status, told) in held.items():
-            found = it.communicate(timeout=60)[1]
+            found = it.communicate(timeout=PATIENCE)[1]
             same(f"{name}: the status", it.returncode, status)
-            see(f"{name}: its messages", told in found and ("is ended: it went on for 10 seconds after that" in found) == status, found)
+            see(
+                f"{name}: its messages",
+                told in found and ("is ended: it went on for 10 seconds after that" in found) == status,
+                found,
+            )
         see("ten seconds", 10 <= time.monotonic() - begun, time.monotonic() - begun)
         same("nothing is left", runs(b"sleep") + runs(), [])
     finally:
@@ -564,7 +570,9 @@ def avrdudes_in_a_row():
     """Many runs of AVRDUDE at one device, one right after the other, all end."""
     if not has_avrdude():
         return leave_out("AVRDUDE at a device", "AVRDUDE 7.1 is not installed")
-    command = 'for _ in $(seq 25); do timeout 60 avrdude -qq -c stk500v2 -p m2560 -P "$0" -U lfuse:v:0xff:m || exit; done'
+    command = (
+        'for _ in $(seq 25); do timeout 60 avrdude -qq -c stk500v2 -p m2560 -P "$0" -U lfuse:v:0xff:m || exit; done'
+    )
     chip = ["-p", "m2560", "--chip", "chip.bin"]
     same("all end", ran([*chip, "--pty", "device", "--", "bash", "-c", command, "{}"])[0], 0)
 
@@ -612,10 +620,10 @@ def logs_that_take_no_more():
     pipe = room.folder / "pipe"
     os.mkfifo(pipe)
     told = "avrstk-serve: pipe: nobody reads this pipe\n"
-    same("nobody reads it", ran(["0", *M328P, "--log", "pipe"], timeout=20), (1, told, ""))
+    same("nobody reads it", ran(["0", *M328P, "--log", "pipe"]), (1, told, ""))
     reader = os.open(pipe, os.O_RDONLY | os.O_NONBLOCK)
     with Serving("--log", "pipe") as it, it.call() as client:
-        client.settimeout(60)
+        client.settimeout(PATIENCE)
         for _ in range(1_500):
             see("a reply", begins(client))
         held = os.read(reader, 1 << 20)
@@ -626,7 +634,10 @@ def logs_that_take_no_more():
         same("it ends", it.end(), (0, "avrstk-serve: --log: lines are missing: its reader is too slow\n"))
     os.close(reader)
     room.put("log", b"x" * 10)
-    rows = [("/dev/full", [], "No space left on device"), ("log", ["--log-limit", "100"], "it is as long as --log-limit allows")]
+    rows = [
+        ("/dev/full", [], "No space left on device"),
+        ("log", ["--log-limit", "100"], "it is as long as --log-limit allows"),
+    ]
     for name, words, why in rows:
         with Serving("--log", name, *words) as it, it.call() as client:
             for _ in range(10):
@@ -655,16 +666,34 @@ def faults():
                 continue
             room.clear()
             same("an old firmware", room.run(emulated)[0], 0)
-            words = [*client, "-p", "m328p", "-P", "net:{}", "-qq", *(["-D"] if "-D" in options else []), "-U", "flash:w:blink.hex:i"]
+            words = [
+                *client,
+                "-p",
+                "m328p",
+                "-P",
+                "net:{}",
+                "-qq",
+                *(["-D"] if "-D" in options else []),
+                "-U",
+                "flash:w:blink.hex:i",
+            ]
             status, told, _ = ran(["0", *M328P, "--log", "log", *own, "--", *words])
             chip = room.read("chip.bin")
             found = f"{status}, {state_of(chip[:1024], old)}, {state_of(chip[EEPROM:LFUSE], old)}"
             same(f"{options}: {client[0]}: status, flash, EEPROM", found, wanted)
             see(f"{options}: {client[0]}: the log", any(mark in row for row in marks()), marks())
-            see(f"{options}: the seed is printed", ("--seed 7 makes the same faults again" in told) == ("%" in options), told)
-    for words, status, lines in [(["--lose", "1000"], 0, 1), (["--lose", "1000", "--strict"], 1, 1), (["--strict"], 0, 0)]:
+            see(
+                f"{options}: the seed is printed",
+                ("--seed 7 makes the same faults again" in told) == ("%" in options),
+                told,
+            )
+    for words, status, count in [
+        (["--lose", "1000"], 0, 1),
+        (["--lose", "1000", "--strict"], 1, 1),
+        (["--strict"], 0, 0),
+    ]:
         found, told, _ = ran(["0", *M328P, "--log", "log", *words, "--", "true"])
-        same(f"{words}: it never struck", (found, told), (status, "avrstk-serve: --lose 1000 never struck\n" * lines))
+        same(f"{words}: it never struck", (found, told), (status, "avrstk-serve: --lose 1000 never struck\n" * count))
     if not clients[1]:
         leave_out("faults with AVRDUDE", "AVRDUDE 7.1 is not installed")
 

@@ -13,6 +13,7 @@ import socket
 import subprocess
 import sys
 import time
+from pathlib import Path
 
 from cases import PATIENCE, leave_out, named, run_cases, same, see
 from line import BadLine
@@ -51,7 +52,9 @@ def table_is_printed():
 
 def frames_are_sent():
     """A run that loses its CHIP_ERASE sends the frames that WHY shows, waits at least that long, and has status 0."""
-    picture = re.search(r"^    AVRDUDE 7\.1 +avrstk\n\n((?:    .*\n)+)", (TOP / "docs/WHY.md").read_text(), re.M)[1].splitlines()
+    picture = re.search(r"^    AVRDUDE 7\.1 +avrstk\n\n((?:    .*\n)+)", (TOP / "docs/WHY.md").read_text(), re.M)[
+        1
+    ].splitlines()
     half = max(it.rfind("CHIP_ERASE ──") for it in picture) - 4
     firmware = ["-p", "m328p", "-U", "flash:w:blink.hex:i"]
     for tool, column, is_right in [
@@ -69,7 +72,13 @@ def frames_are_sent():
         room.put("served.bin", old)
         line = BadLine(room, {shown[0][0]: "lost command"})
         begun = time.monotonic()
-        how = {"stdin": subprocess.DEVNULL, "capture_output": True, "text": True, "cwd": room.folder, "timeout": PATIENCE}
+        how = {
+            "stdin": subprocess.DEVNULL,
+            "capture_output": True,
+            "text": True,
+            "cwd": room.folder,
+            "timeout": PATIENCE,
+        }
         ran = subprocess.run([*tool, *firmware, "-P", f"net:127.0.0.1:{line.port}"], **how)
         taken = time.monotonic() - begun
         sent = [(it[1], it[5]) for it in line.end() if it[5] not in MODES]
@@ -141,9 +150,20 @@ def no_answer():
         see("four attempts to sign on, four to leave", wanted in heard, heard)
 
 
+def used_by(process):
+    """Returns the hundredths of processor seconds that a process has used."""
+    fields = Path(f"/proc/{process}/stat").read_text().rpartition(")")[2].split()
+    return int(fields[11]) + int(fields[12])
+
+
 def closed_connection():
     """Checks what avrstk and AVRDUDE do once the other side has closed the connection, as README says."""
-    see("README's row", re.search(r"^\| a connection that .* never ends, .* `link ended` at once", (TOP / "README.md").read_text(), re.M))
+    see(
+        "README's row",
+        re.search(
+            r"^\| a connection that .* never ends, .* `link ended` at once", (TOP / "README.md").read_text(), re.M
+        ),
+    )
     quiet = {"stdin": subprocess.DEVNULL, "stdout": subprocess.DEVNULL, "stderr": subprocess.PIPE}
     with socket.create_server(("127.0.0.1", 0)) as door:
         port = ["-p", "m328p", "-P", f"net:127.0.0.1:{door.getsockname()[1]}"]
@@ -167,12 +187,11 @@ def closed_connection():
                 same(f"`link {told}`", (started.returncode, messages), (1, lines(f"error: link {told}")))
                 see("at once", time.monotonic() - begun < 2, time.monotonic() - begun)
                 continue
-            used = lambda: sum(map(int, open(f"/proc/{started.pid}/stat").read().rpartition(")")[2].split()[11:13]))
             time.sleep(5)
-            before = used()
+            before = used_by(started.pid)
             time.sleep(10)
             see("AVRDUDE goes on after 15 s", started.poll() is None, started.poll())
-            see("and uses the processor", used() - before > 10, used() - before)
+            see("and uses the processor", used_by(started.pid) - before > 10)
             started.kill()
             started.communicate()
 

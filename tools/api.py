@@ -12,8 +12,8 @@ from collections import namedtuple
 from pathlib import Path
 
 sys.path.append(str(Path(__file__).resolve().parent.parent / "tests"))
-from rattle import EXPORT, MORE, TOP
-from reach import FILES, File, named_in
+from rattle import EXPORT, MORE, TOP  # noqa: E402
+from reach import FILES, File, named_in  # noqa: E402
 
 CRATES = "avr_image avr_records avr_part stk_frame stk_host stk_emu avr_desk avr_plan avr_session avr_tool".split()
 
@@ -44,26 +44,44 @@ def items(source, place):
         kind, name = NAME.match(whole).groups()
         rows = (whole.removesuffix(";") if kind == "fn" else whole).splitlines()
         doc, derived = re.findall("^/// ?(.*)", comment, re.M), re.findall(r"^#\[derive.*", attributes, re.M)
-        inner = list(items("\n".join(re.findall("^(?:    (.*))?$", whole, re.M)), place)) if kind in ("trait", "impl") else []
+        inner = (
+            list(items("\n".join(re.findall("^(?:    (.*))?$", whole, re.M)), place))
+            if kind in ("trait", "impl")
+            else []
+        )
         ghosts = [row for it in inner if it.kind == "ghost" for row in ["", *it.shown]][1:]
         calls = [it for it in inner if it.kind in ("fn", "const")]
         if kind == "fn":
-            first = next((at for at, it in enumerate(rows) if re.match(r"\s+(?:requires|ensures|//)|\{", it)), len(rows))
+            first = next(
+                (at for at, it in enumerate(rows) if re.match(r"\s+(?:requires|ensures|//)|\{", it)), len(rows)
+            )
             shown = [re.sub(r" \{\}?$", "", it) for it in rows[:first]]
             clauses = [it[4:] for it in rows[first:] if it not in ("{", "{}")]
             yield Item("law" if rows[-1] == "{}" else kind, name, doc, shown, clauses, [], place)
         elif kind == "struct":
             fields = re.sub(r"(?:^    ///.*\n)*^    (?:pub\(|pub ghost |(?!pub )\w).*\n", "\0", whole, flags=re.M)
-            yield Item(kind, name, doc, [*derived, *re.sub("\0+", "    // private fields\n", fields).splitlines()], [], [], place)
+            yield Item(
+                kind,
+                name,
+                doc,
+                [*derived, *re.sub("\0+", "    // private fields\n", fields).splitlines()],
+                [],
+                [],
+                place,
+            )
         elif kind == "trait":
             types = [f"    {row}" for it in inner if it.kind == "type" for row in it.shown]
-            yield Item(kind, name, doc, [rows[0], *types, "}"] if types else [rows[0].rstrip(" {")], ghosts, calls, place)
+            yield Item(
+                kind, name, doc, [rows[0], *types, "}"] if types else [rows[0].rstrip(" {")], ghosts, calls, place
+            )
         elif kind == "impl":
             head = re.match(r".*?(?= ?\{\}?$)", whole, re.M | re.S)[0].splitlines()
             name = re.sub(r"^impl(?:<.*?>(?= [A-Z&]))? |.* for |<.*", "", head[0])
             yield Item(kind, name, doc, head, [], calls, place)
         else:
-            yield Item(kind, name, doc, [*(f"/// {it}" for it in doc if kind == "ghost"), *derived, *rows], [], [], place)
+            yield Item(
+                kind, name, doc, [*(f"/// {it}" for it in doc if kind == "ghost"), *derived, *rows], [], [], place
+            )
 
 
 def exports(crate):
@@ -87,7 +105,21 @@ def exports(crate):
     for module in re.findall(r"^pub mod (\w+);", root, re.M):
         own += [it for it in files[module] if it.kind == "law"]
         numbers = [row for it in files[module] if it.kind == "const" and it not in own for row in it.shown]
-        own += [Item("mod", module, re.findall("^//! ?(.*)", (source / f"{module}.rt").read_text(), re.M), numbers, [], [], None)] if numbers else []
+        own += (
+            [
+                Item(
+                    "mod",
+                    module,
+                    re.findall("^//! ?(.*)", (source / f"{module}.rt").read_text(), re.M),
+                    numbers,
+                    [],
+                    [],
+                    None,
+                )
+            ]
+            if numbers
+            else []
+        )
     for it in [it for file in files.values() for it in file if it.kind == "impl" and not HIDDEN.match(it.shown[0])]:
         of = re.search(r"(\w+)(?:<.*>)? for ", it.shown[0])
         if owner := next((x for name in (it.name, of and of[1]) for x in own if x.name == name), None):
@@ -126,7 +158,9 @@ def cited(it):
     """Yields the rows on the definitions that a contract names."""
     places = sorted({place for place in named_in(*it.place, "\n".join(it.contract)) if place})
     if places:
-        links = (f'<a href="../definitions/{crate}.html#{anchor(file, name)}">{name}</a>' for crate, file, name in places)
+        links = (
+            f'<a href="../definitions/{crate}.html#{anchor(file, name)}">{name}</a>' for crate, file, name in places
+        )
         yield from ["", f"Definitions: {', '.join(links)}"]
     for crate, file, name in places:
         rows = FILES[crate, file].definitions[name]
@@ -135,9 +169,22 @@ def cited(it):
 
 def shown(it, crate, mark="##", of=""):
     """Yields the rows of an item: its heading, signature, comment and contract, and then what is in it."""
-    yield from ["", f"{mark} {of}{it.name}", *block("rust", [] if it.kind == "law" else it.shown), "", text(it.doc, crate)]
+    yield from [
+        "",
+        f"{mark} {of}{it.name}",
+        *block("rust", [] if it.kind == "law" else it.shown),
+        "",
+        text(it.doc, crate),
+    ]
     if it.contract:
-        yield from ["", f"<details><summary>{FOLDED.get(it.kind, 'Contract')}</summary>", *block("text", it.contract), *cited(it), "", "</details>"]
+        yield from [
+            "",
+            f"<details><summary>{FOLDED.get(it.kind, 'Contract')}</summary>",
+            *block("text", it.contract),
+            *cited(it),
+            "",
+            "</details>",
+        ]
     for inner in (x for x in it.inner if x.kind != "impl"):
         yield from shown(inner, crate, "###", f"{it.name}::")
     made = [row for x in it.inner if x.kind == "impl" for row in x.shown]
@@ -149,15 +196,32 @@ def page(crate):
     own, others = exports(crate)
     calls, laws = ([it for it in own if (it.kind == "law") == is_law] for is_law in (False, True))
     root = (TOP / "crates" / crate / "src/lib.rt").read_text()
-    rows = [f"# {crate}", "", text(re.findall(r"^//! ?(.*)", root, re.M), crate), "", "An example is the body of a function with `rt: HostRuntime` and `let alloc = rt.alloc();`."]
-    rows += [f"It sees all names of this page{', and those of these lines:' if MORE[crate] else '.'}", *block("rust", [f"use {it};" for it in MORE[crate]])]
+    rows = [
+        f"# {crate}",
+        "",
+        text(re.findall(r"^//! ?(.*)", root, re.M), crate),
+        "",
+        "An example is the body of a function with `rt: HostRuntime` and `let alloc = rt.alloc();`.",
+    ]
+    rows += [
+        f"It sees all names of this page{', and those of these lines:' if MORE[crate] else '.'}",
+        *block("rust", [f"use {it};" for it in MORE[crate]]),
+    ]
     rows += ["", "| Name | What it is |", "| --- | --- |"]
-    rows += [f"| {link(it.name, crate)} | {re.split(r'(?<=[.]) ', text([' '.join(it.doc)], crate))[0]} |" for it in calls]
-    rows += [f"| of [{name}]({name}.md) | {', '.join(link(f'{name}::{it}', crate) for it in names)} |" for name, names in others.items()]
+    rows += [
+        f"| {link(it.name, crate)} | {re.split(r'(?<=[.]) ', text([' '.join(it.doc)], crate))[0]} |" for it in calls
+    ]
+    rows += [
+        f"| of [{name}]({name}.md) | {', '.join(link(f'{name}::{it}', crate) for it in names)} |"
+        for name, names in others.items()
+    ]
     rows += [row for it in calls for row in shown(it, crate)]
     rows += ["", "## Laws", "", "What a law ensures is proved once. A proof cites it by a call."] if laws else []
     return "\n".join([*rows, *(row for it in laws for row in shown(it, crate, "###"))]) + "\n"
 
 
 # the anchors of each page
-HEADINGS = {crate: {f"{it.name}{name}".lower() for it in exports(crate)[0] for name in ["", *(x.name for x in it.inner)]} for crate in CRATES}
+HEADINGS = {
+    crate: {f"{it.name}{name}".lower() for it in exports(crate)[0] for name in ["", *(x.name for x in it.inner)]}
+    for crate in CRATES
+}

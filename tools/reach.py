@@ -4,10 +4,10 @@
     tools/reach.py FILE.NAME ..      for these definitions of specs/; CRATE.FILE.NAME if several crates have one; a name
                                      alone is a law or another function, for all that its clauses name
     tools/reach.py -v ..             also lists them, file by file
-    tools/reach.py --check           compares the table of docs/PROOFS with the figures; --write writes them there. It also
-                                     looks for each definition (`File.name`) and law that the documents name, for the
-                                     lemmas of avr_laws that show that the promise isn't empty, and for each clause of
-                                     `Folder` in the model that shows that the laws of a crash aren't
+    tools/reach.py --check           compares the table of docs/PROOFS with the figures; --write writes them there. It
+                                     also looks for each definition (`File.name`) and law that the documents name, for
+                                     the lemmas of avr_laws that show that the promise isn't empty, and for each clause
+                                     of `Folder` in the model that shows that the laws of a crash aren't
 
 A definition reaches the definitions that its text names, in its own file or brought in by `use` lines. Definitions of
 std, of other libraries and of Rust (an enum, a struct) are listed but not counted. A variable with the name of a
@@ -148,7 +148,9 @@ def with_figures(page):
     made = rows.splitlines()[:2]
     for row in rows.splitlines()[2:]:
         sentence, named, *_ = row.strip("| ").split(" | ")
-        seen = [reached(root for name in re.findall("`([^`]*)`", it) for root in roots_of(name)) for it in named.split(";")]
+        seen = [
+            reached(root for name in re.findall("`([^`]*)`", it) for root in roots_of(name)) for it in named.split(";")
+        ]
         counts = ["; ".join(f"{count:,}" for count in counts) for counts in (map(len, seen), map(lines_of, seen))]
         made.append(f"| {sentence} | {named} | {counts[0]} | {counts[1]} |")
     return f"{head}{TABLE}" + "\n".join(made) + f"\n\n{behind}"
@@ -181,10 +183,12 @@ def lacking():
 
 
 def unshown(page):
-    """Yields what is wrong in the table of worlds. A lemma has to be there and to name the definition of its row; one that
-    refuses a world ends in `→ ⊥`. The promise has to reach the definition."""
+    """Yields what is wrong in the table of worlds. A lemma has to be there and to name the definition of its row; one
+    that refuses a world ends in `→ ⊥`. The promise has to reach the definition."""
     head = re.compile(r"^(?:pub )?(\w+) :\s(.*?)\n(?=unfolding |\1 )", re.M | re.S)
-    rows = {f"Rows.{it.stem}": dict(head.findall(it.read_text())) for it in TOP.glob("crates/avr_laws/proofs/Rows/*.antt")}
+    rows = {
+        f"Rows.{it.stem}": dict(head.findall(it.read_text())) for it in TOP.glob("crates/avr_laws/proofs/Rows/*.antt")
+    }
     promise = reached(roots_of(PROMISE))
     for row in page.split(WORLDS)[1].split("\n\n")[0].splitlines()[2:]:
         named, met, refuses, *_ = re.findall("`([^`]*)`", row)
@@ -198,8 +202,8 @@ def unshown(page):
 
 
 def unmet():
-    """Yields the calls and clauses of `Folder` that its model doesn't have as they are in the trait. The clauses of a call
-    are the fields of a record of its name, and a lemma shows that the call meets them."""
+    """Yields the calls and clauses of `Folder` that its model doesn't have as they are in the trait. The clauses of a
+    call are the fields of a record of its name, and a lemma shows that the call meets them."""
     model = MODEL.read_text()
     records = dict(re.findall(r"^  record (\w+)Clauses\b.*? where\n(.*?)\n\n", model, re.M | re.S))
     for call, text in re.findall(r"^    fn (\w+)\b(.*?);$", TRAIT.read_text(), re.M | re.S):
@@ -215,7 +219,12 @@ def unmet():
 def main(words):
     if words in (["--check"], ["--write"]):
         page = with_figures(PAGE.read_text())
-        sys.exit(kept({PAGE: page, README: with_lines(README.read_text(), page)}, [*lacking(), *unshown(LAWS.read_text()), *unmet()]))
+        sys.exit(
+            kept(
+                {PAGE: page, README: with_lines(README.read_text(), page)},
+                [*lacking(), *unshown(LAWS.read_text()), *unmet()],
+            )
+        )
     roots = [root for it in words if it != "-v" for root in roots_of(it)] or sys.exit(__doc__)
     seen = reached(roots)
     files = sorted({(crate, file) for crate, file, _ in seen})

@@ -23,12 +23,23 @@ from reach import FILES, USE
 
 PAGES = ("*.md", "docs/*.md", "crates/*/README.md", "tests/README.md")
 BAR = (
-    ("avrstk", "README"), ("Use", "docs/USAGE"), ("Boards", "docs/BOARDS"), ("Trouble", "docs/TROUBLESHOOTING"),
-    ("Emulator", "docs/EMULATOR"), ("Proofs", "docs/PROOFS"), ("Crates", "docs/LIBRARY"), ("Calls", "docs/api/README"),
-    ("Definitions", "docs/definitions/README"), ("Code", "docs/ARCHITECTURE"),
+    ("avrstk", "README"),
+    ("Use", "docs/USAGE"),
+    ("Boards", "docs/BOARDS"),
+    ("Trouble", "docs/TROUBLESHOOTING"),
+    ("Emulator", "docs/EMULATOR"),
+    ("Proofs", "docs/PROOFS"),
+    ("Crates", "docs/LIBRARY"),
+    ("Calls", "docs/api/README"),
+    ("Definitions", "docs/definitions/README"),
+    ("Code", "docs/ARCHITECTURE"),
 )
 # what the check searches for, and a page that has to be among the results
-SOUGHT = {"flash:w": "docs/USAGE.html", "HostFault::Differs": "docs/api/stk_host.html", "ReceivedSentFrames": "docs/definitions/avr_laws.html"}
+SOUGHT = {
+    "flash:w": "docs/USAGE.html",
+    "HostFault::Differs": "docs/api/stk_host.html",
+    "ReceivedSentFrames": "docs/definitions/avr_laws.html",
+}
 # the words of a section that can be found
 MOST = 2_000
 
@@ -38,12 +49,17 @@ ENUM = re.compile(r"<pre><code[^>]*>(?:#\[[^\n]*\n)*pub enum (\w+).*?</code></pr
 CODE = re.compile(r"<pre><code>(.*?)</code></pre>", re.S)
 # the shapes of characters in a drawing, in a field of 9 by 20
 SHAPES = {
-    "│": "M4,0L4,20", "▶": "M0,4L9,10L0,16z", "◀": "M9,4L0,10L9,16z", "▼": "M-1,6L4,18L9,6z", "▲": "M-1,16L4,4L9,16z",
+    "│": "M4,0L4,20",
+    "▶": "M0,4L9,10L0,16z",
+    "◀": "M9,4L0,10L9,16z",
+    "▼": "M-1,6L4,18L9,6z",
+    "▲": "M-1,16L4,4L9,16z",
     "╳": "M0,4L9,16M9,4L0,16",
 }
 STYLE = """
 body { max-width: 62em; margin: 0 auto 4em; padding: 0 1em; font: 16px/1.5 sans-serif; color: #222; background: #fff }
-nav { padding: .8em 0; border-bottom: 1px solid #ccc } nav a { margin-right: .8em } nav input { float: right; font: inherit }
+nav { padding: .8em 0; border-bottom: 1px solid #ccc } nav a { margin-right: .8em }
+nav input { float: right; font: inherit }
 #found a { display: block; padding: .1em 0 } #found { background: #f6f6f6; padding: 0 .6em }
 pre { background: #f6f6f6; padding: .6em; overflow: auto; font-size: 14px } table { border-collapse: collapse }
 svg { background: #f6f6f6; padding: .6em; width: 100%; max-height: 30em; box-sizing: border-box }
@@ -71,10 +87,15 @@ def sources():
     """Returns the Markdown of each page, by its name without an ending."""
     paths = [path for it in PAGES for path in sorted(TOP.glob(it)) if path.name != "PACKAGE.md"]
     made = {f"docs/api/{it}": page(it) for it in CRATES}
-    made |= {f"docs/definitions/{it}": definitions(it) for it in sorted({crate for crate, file in FILES if not file.startswith("src/")})}
+    made |= {
+        f"docs/definitions/{it}": definitions(it)
+        for it in sorted({crate for crate, file in FILES if not file.startswith("src/")})
+    }
     for name in ("api", "definitions"):
         links = "\n".join(f"- [{Path(it).name}]({Path(it).name}.md)" for it in made if f"/{name}/" in it)
-        made[f"docs/{name}/README"] = f"# {'The calls of each crate' if name == 'api' else 'The definitions of each crate'}\n\n{links}\n"
+        made[
+            f"docs/{name}/README"
+        ] = f"# {'The calls of each crate' if name == 'api' else 'The definitions of each crate'}\n\n{links}\n"
     pages = {str(path.relative_to(TOP).with_suffix("")): path.read_text() for path in paths}
     for it in made:
         readme = f"crates/{Path(it).name}/README"
@@ -100,7 +121,14 @@ def blocks(path, named):
     text = "\n".join(it for it in path.read_text().splitlines() if not USE.match(it))
     for block in filter(None, re.split(r"\n{2,}", text.strip())):
         names = re.findall(r"^(?:(?:abbrev|unfoldable) pub|pub (?:record|data)) (\S+)", block, re.M)
-        yield from [*(f'<a id="{anchor(path.stem, it)}"></a>' for it in names if it in named), "", "```text", block, "```", ""]
+        yield from [
+            *(f'<a id="{anchor(path.stem, it)}"></a>' for it in names if it in named),
+            "",
+            "```text",
+            block,
+            "```",
+            "",
+        ]
 
 
 def drawn(block):
@@ -112,9 +140,9 @@ def drawn(block):
     for y, row in enumerate(rows):
         for run in re.finditer("[─]+|[^─│▶◀▼▲╳ ]+(?: [^─│▶◀▼▲╳ ]+)*|[│▶◀▼▲╳]", row):
             x, top, width = run.start() * 9, y * 20, len(run[0]) * 9
-            at = lambda shape: re.sub(r"(-?\d+),(-?\d+)", lambda it: f"{x + int(it[1])},{top + int(it[2])}", shape)
             if run[0] in SHAPES:
-                made.append(f'<path d="{at(SHAPES[run[0]])}"/>')
+                shape = re.sub(r"(-?\d+),(-?\d+)", lambda it: f"{x + int(it[1])},{top + int(it[2])}", SHAPES[run[0]])
+                made.append(f'<path d="{shape}"/>')
             elif run[0].startswith("─"):
                 made.append(f'<path d="M{x},{top + 10}h{width}"/>')
             else:
@@ -143,7 +171,12 @@ def with_anchors(body):
         return f'<h{it[1]} id="{name}{f"-{seen[name]}" if seen[name] else ""}">{it[2]}</h{it[1]}>'
 
     def variants(enum):
-        return re.sub(r"^(    )([A-Z]\w*)", lambda it: f'{it[1]}<a id="{(enum[1] + it[2]).lower()}"></a>{it[2]}', enum[0], flags=re.M)
+        return re.sub(
+            r"^(    )([A-Z]\w*)",
+            lambda it: f'{it[1]}<a id="{(enum[1] + it[2]).lower()}"></a>{it[2]}',
+            enum[0],
+            flags=re.M,
+        )
 
     return ENUM.sub(variants, HEADING.sub(heading, body))
 
@@ -159,7 +192,9 @@ def entries(name, body):
     if name.startswith("docs/definitions/"):
         for crate, file in FILES:
             if name.endswith(f"/{crate}") and not file.startswith("src/"):
-                yield from ((it, f"{name}.html#{anchor(file, it)}", file.lower()) for it in FILES[crate, file].definitions)
+                yield from (
+                    (it, f"{name}.html#{anchor(file, it)}", file.lower()) for it in FILES[crate, file].definitions
+                )
 
 
 def linked(name, body, known):
@@ -181,14 +216,18 @@ def whole(name, body):
     up = "../" * name.count("/")
     bar = "".join(f'<a href="{up}{it}.html">{title}</a>' for title, it in BAR)
     return (
-        f'<!doctype html><html lang="en"><meta charset="utf-8"><title>{Path(name).name} - avrstk</title><style>{STYLE}</style>'
+        f'<!doctype html><html lang="en"><meta charset="utf-8"><title>{Path(name).name} - avrstk</title>'
+        f"<style>{STYLE}</style>"
         f'<nav>{bar}<input placeholder="search" aria-label="search"></nav><div id="found"></div>{body}'
-        f'<script>const top_folder = "{up}"</script><script src="{up}entries.js"></script><script src="{up}search.js"></script></html>'
+        f'<script>const top_folder = "{up}"</script><script src="{up}entries.js"></script>'
+        f'<script src="{up}search.js"></script></html>'
     )
 
 
 def rendered(text):
-    ran = subprocess.run(["cmark-gfm", "--unsafe", "-e", "table"], input=text, capture_output=True, text=True, check=True)
+    ran = subprocess.run(
+        ["cmark-gfm", "--unsafe", "-e", "table"], input=text, capture_output=True, text=True, check=True
+    )
     return with_anchors(CODE.sub(drawn, ran.stdout))
 
 
@@ -202,12 +241,16 @@ def write(folder):
         copied |= files
     for path in (TOP / file for file in copied):
         if path.is_file():
-            bodies[str(path.relative_to(TOP))] = f"<h1>{path.name}</h1><pre><code>{html.escape(path.read_text())}</code></pre>"
+            bodies[
+                str(path.relative_to(TOP))
+            ] = f"<h1>{path.name}</h1><pre><code>{html.escape(path.read_text())}</code></pre>"
     for name, body in bodies.items():
         place = folder / f"{name}.html"
         place.parent.mkdir(parents=True, exist_ok=True)
         place.write_text(whole(name, body))
-    (folder / "entries.js").write_text(f"const entries = {json.dumps(found, ensure_ascii=False, separators=(',', ':'))}\n")
+    (folder / "entries.js").write_text(
+        f"const entries = {json.dumps(found, ensure_ascii=False, separators=(',', ':'))}\n"
+    )
     (folder / "search.js").write_text(SCRIPT)
     return found
 
@@ -234,7 +277,11 @@ def check():
         hits = {it[1].split("#")[0] for it in found if sought.lower() in it[0].lower() or sought.lower() in it[2]}
         wrong += [] if wanted in hits else [f"search for {sought} finds no part of {wanted}"]
     library = (TOP / "docs/LIBRARY.md").read_text()
-    wrong += [f"docs/LIBRARY.md has no link to the README of {it}" for it in CRATES if f"(../crates/{it}/README.md)" not in library]
+    wrong += [
+        f"docs/LIBRARY.md has no link to the README of {it}"
+        for it in CRATES
+        if f"(../crates/{it}/README.md)" not in library
+    ]
     print("\n".join([*wrong, f"{len(SOUGHT) + len(CRATES) + 1 - min(len(wrong), 1)} passed, {len(wrong)} failed"]))
     return int(bool(wrong))
 
