@@ -1,8 +1,9 @@
 //! Laws of runs above the program: whatever the link loses, delays and spoils, and whatever becomes of a run.
 //!
 //! No program depends on it. A law is a function with an empty body, and its contract is a theorem about definitions
-//! alone. What a call itself promises is in the contracts of avr_tool. Two laws are functions with one of its calls for
-//! a body: [`a_program_with_status_0_kept_its_plan`] and [`status_0_means_the_images`].
+//! alone. What a call itself promises is in the contracts of avr_tool. Three laws are functions with one of its calls
+//! for a body: [`a_program_with_status_0_kept_its_plan`], [`status_0_means_the_images`] and
+//! [`whatever_the_status_first_write_operations_were_made`].
 #![tactic(auto)]
 
 // what a plan asks of files
