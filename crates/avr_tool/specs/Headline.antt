@@ -16,7 +16,9 @@ use Rattle.avr_plan.specs.AllocationPoints.{AtAllocatingUpdate}
 use Rattle.avr_desk.specs.StageRuns.{StageBrokeOff}
 use Rattle.avr_desk.specs.Stage.{StageOutcome, Produced, Refused, NotReadToEnd}
 use Rattle.avr_session.specs.Run.{LacksPlan, RunsSession, StopsSession, WithPlan}
-use Rattle.avr_session.specs.Runs.{Devices, devices, start, Cause, NoDeviceFailed, StopsAt, cause_line}
+use Rattle.avr_session.specs.Actions.{actions}
+use Rattle.avr_session.specs.AllocationPoints.{AtAllocation}
+use Rattle.avr_session.specs.Runs.{Devices, devices, start, Cause, AllocationFailed, NoDeviceFailed, StopsAt, cause_line}
 use Rattle.avr_session.specs.Session.{session}
 use Rattle.avr_tool.specs.OverFaultyLink.{SessionOverWire, wire_and_desk}
 use Rattle.stk_emu.specs.Wired.{WiredState}
@@ -111,13 +113,22 @@ abbrev pub FitsNext : BreakCause → List Opening → List (Event OutputEvent) �
 FitsNext break openings later = (next : List OutputEvent) × (behind : List (Event OutputEvent))
     × (later ≡ map Emitted next ++ behind) × BreakFitsNext break openings next
 
+-- These events are those of planning, which made a plan, and then those of its session up to an action that allocates.
+abbrev pub StopsAtAllocation : Settings → List Opening → Transcript → List (Event OutputEvent) → Type 0
+StopsAtAllocation settings openings during events =
+    let p = planned settings openings in
+    (plan : Plan) × (shown : List (Event OutputEvent)) × (p.stage_outcome ≡ Produced plan)
+    × (events ≡ map Emitted p.output_events ++ shown)
+    × AtAllocation plan.part plan.switches (actions plan) start during shown
+
 -- The reason fits the place where the run stopped, given the openings so far and those that would have followed. In
--- planning the last event is whole. Allocation failed there only for the next file, or at an update that allocates
--- without a file; in a session it may have failed after any whole event.
+-- planning the last event is whole. Allocation failed only for the next file, at an update that allocates without a
+-- file, or at an action that allocates.
 abbrev pub StopsThere : {shown events : List (Event OutputEvent)} → Settings → List Opening → Reason → Transcript
     → List Opening → IsPrefixOfEvents IsPartOfEvent shown events → Type 0
-StopsThere settings openings (InSession cause) during later prefix =
+StopsThere {shown = shown} settings openings (InSession cause) during later prefix =
     StopsAt cause during prefix.whole prefix.begun prefix.later
+    × (cause ≡ AllocationFailed → StopsAtAllocation settings (openings ++ later) during shown)
 StopsThere settings openings (InPlanning break) during later prefix =
     (prefix.begun ≡ []) × FitsNext break later prefix.later
     × AllocatesThere (AtAllocatingUpdate settings) break openings (outputs prefix.whole)

@@ -23,7 +23,7 @@ use Rattle.avr_session.specs.Run.{RunsSession, RunsSettings, StopsSession}
 use Rattle.avr_session.specs.Runs.{Devices, devices, Cause, StopsAt, NotCreated, NotWritten, SendingFailed, ReceivingFailed, FileFailed, PrintingFailed, AllocationFailed, ReportsCause, cause_line}
 use Rattle.avr_session.specs.Session.{session}
 use Rattle.avr_session.specs.Stopping.{RanToStatus}
-use Rattle.avr_tool.specs.Headline.{run, run_after_planning, FitsNext, IsInTurn, IsRun, IsPrefixOfRun, Reason, StopsThere, InSession, InPlanning, stop_line, opened_at, StoppedInSession, StoppedPlanning, IsStopped}
+use Rattle.avr_tool.specs.Headline.{run, run_after_planning, FitsNext, IsInTurn, IsRun, IsPrefixOfRun, Reason, StopsAtAllocation, StopsThere, InSession, InPlanning, stop_line, opened_at, StoppedInSession, StoppedPlanning, IsStopped}
 
 pub emitted_outputs : (output_events : List OutputEvent) (events : List (Event OutputEvent))
     → outputs (map Emitted output_events ++ events) ≡ output_events ++ outputs events
@@ -253,6 +253,18 @@ module _ (settings : Settings) (x y : Devices) (stopped : StoppedInSession setti
     part = in_session.part;
   }
 
+  at_allocation : stopped.then_is.cause ≡ AllocationFailed
+      → StopsAtAllocation settings (stopped.made.passed ++ openings) stopped.then_is.during
+      (planned_events ++ stopped.then_is.shown)
+  at_allocation failed =
+      let made = sym (stopped.made.comes openings) in (
+        stopped.plan,
+        stopped.then_is.shown,
+        sym (outcomes_equal made),
+        ap (λ (p : StageResult Plan). map Emitted p.output_events ++ stopped.then_is.shown) made,
+        stopped.then_is.at_point failed,
+      )
+
 stopped_prefix : (settings : Settings) (x y : Devices) → StoppedInSession settings x y → IsPrefixOfRun settings x y
 stopped_prefix settings x y stopped = record {
   openings = stopped.made.passed;
@@ -262,8 +274,11 @@ stopped_prefix settings x y stopped = record {
   notice = stopped.then_is.notice;
   reported_part = cause_part _ stopped.then_is.cause stopped.then_is.notice _ y.desk stopped.then_is.stops.is_reported;
   prefix = λ later. session_prefix settings x y stopped later;
-  place = λ later. same_place (map Emitted stopped.made.output_events) _ _ _ stopped.then_is.cause
-      stopped.then_is.during stopped.then_is.place;
+  place = λ later. (
+    same_place (map Emitted stopped.made.output_events) _ _ _ stopped.then_is.cause stopped.then_is.during
+        stopped.then_is.place,
+    at_allocation settings x y stopped later,
+  );
   in_turn = λ later. subst (λ stage_outcome. IsInTurn stage_outcome stopped.then_is.during)
       (sym (outcomes_equal (stopped.made.comes later))) stopped.then_is.breaks.in_turn;
   all_sent = emitted_bytes stopped.made.output_events stopped.then_is.shown ∙ stopped.then_is.breaks.all_sent;
