@@ -19,7 +19,8 @@ use stk_host::StreamLink;
 
 /// Runs a command line as [`avr_tool::run_command_line`] does, at a new desk and over a link on which nothing has
 /// passed. States what its status 0 means, over any files, any network and any streams: the plan that the command line
-/// and the opened files ask for was kept. It holds for any programmer that keeps the rows of the table.
+/// and the opened files ask for was kept. It holds for any programmer that keeps the rows of the table. The clause
+/// `files` holds for any desk.
 // Proof: `words_kept` (KeptByPort/EachPort), by `promised_by_any` (Table/Kept) over a link, and `file_kept`
 // (KeptByPort/InFile) over the emulator.
 pub fn a_program_with_status_0_kept_its_plan<
@@ -81,7 +82,14 @@ pub fn a_program_with_status_0_kept_its_plan_on_an_emulated_chip<
 
 /// Runs a command line as [`a_program_with_status_0_kept_its_plan`] does. States what its run made of a chip behind a
 /// link, whatever its status: the first write operations of the plan that the command line and the opened files ask
-/// for, in order, and nothing else. The chip has the plan's part. Over the emulator this law states nothing.
+/// for, in order, and nothing else. They may be none of the plan's write operations, or all.
+///
+/// The premises are those of status 0, on a chip that has the plan's part. The chip's memories have the sizes of its
+/// part. The programmer receives good frames that were sent, in order and each at most once, and the link forges no
+/// frame.
+///
+/// At a port other than `stdio:` nothing passes over `link`. At a port that isn't of the network, `network` is left
+/// unused.
 // Proof: `words_begun` (Outcomes/Begun), by `first_go_along` (Lines/FirstFrames).
 pub fn whatever_the_status_first_write_operations_were_made<
     C: CommandLine,

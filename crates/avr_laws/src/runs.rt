@@ -28,7 +28,7 @@ ghost use Rattle.avr_tool.specs.Headline.{IsRun, IsStopped};
 ghost use Rattle.avr_laws.specs.InMemory.{AreUnused, LeavesOutcome, LeavesOverStreams, RunOutcome, outcome_shown};
 ghost use Rattle.avr_laws.specs.KeptByAny.{IsKeptByAny};
 ghost use Rattle.avr_laws.specs.Worked.{absent_outcome, absent_settings, worked_frames, fuse_plan, worked_lines, forged_replies, no_stock, worked_replies, worked_outcome, worked_settings};
-ghost use Rattle.avr_laws.specs.WorkedLoss.{image_read, loss_executions, loss_frames, loss_plan, loss_programmer, loss_replies, loss_updates, old_chip, old_file, received_first, received_later, tiny};
+ghost use Rattle.avr_laws.specs.WorkedLoss.{image_read, loss_executions, loss_frames, loss_part, loss_plan, loss_programmer, loss_replies, loss_updates, old_chip, old_file, received_first, received_later};
 ghost use Rattle.avr_laws.specs.ChipFound.{IsChipInFile};
 ghost use Rattle.stk_emu.specs.Device.{device};
 ghost use Rattle.stk_emu.specs.Effect.{memories_of, erase_keeps_eeprom, effects, memory_in};
@@ -110,11 +110,11 @@ pub fn status_0_means_the_images_on_an_emulated_chip<D: Desk, L: Link>(
 /// file holds, and the chip that of a chip file.
 // Proof: the lemmas of Rows/Loss.
 pub fn a_run_over_a_bad_link_meets_all_premises()
-    ensures image { AreTasksOf (FileGave nothing_kept image_read) tiny loss_updates loss_plan.tasks }
+    ensures image { AreTasksOf (FileGave nothing_kept image_read) loss_part loss_updates loss_plan.tasks }
     ensures ends { (played (session loss_plan) 1 loss_replies).outcome ≡ Some (0, 17, []) }
     ensures sends { frames_in (played (session loss_plan) 1 loss_replies).events ≡ loss_frames }
-    ensures chip { IsChipInFile tiny (Some old_file) old_chip × IsSoundChip old_chip
-        × HasGeometryOf tiny old_chip.part }
+    ensures chip { IsChipInFile loss_part (Some old_file) old_chip × IsSoundChip old_chip
+        × HasGeometryOf loss_part old_chip.part }
     ensures came { ReceivedSentFrames received_first (received_later ∷ []) loss_frames loss_executions }
     ensures forged { NoneForged device loss_frames loss_replies loss_programmer loss_executions [] }
     ensures left { (after_received_bytes device received_first (received_later ∷ []) loss_programmer).chip.flash
