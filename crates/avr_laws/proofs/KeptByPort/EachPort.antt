@@ -50,8 +50,10 @@ module _ (Kept : Plan → Transcript → Record → Record → Type 0)
       → KeepsPlan s old.kept new.kept (λ plan. IsKeptInFile file plan old.kept new.kept)
   over_emulator s file old new (inl r) = file_kept s file old new r
   over_emulator s file old new (inr (inl with)) = elim with.then_is [
-    | inl unheld ↦ absurd (no_one unheld.0)
-    | inr vain ↦ absurd (no_one vain.refused.0)
+    | inl (own, one, told) ↦ absurd (no_one one)
+    | inr (apart, inl (inl unheld)) ↦ absurd (no_one unheld.0)
+    | inr (apart, inl (inr vain)) ↦ absurd (no_one vain.refused.0)
+    | inr (apart, inr then) ↦ absurd (no_one then.refused.0)
   ]
   over_emulator s file old new (inr (inr lacks)) = absurd (no_one lacks.goes.0)
 
