@@ -15,7 +15,7 @@ import sys
 from cases import TOP, leave_out, named, run_cases, same, see
 
 sys.path.append(str(TOP / "tools"))
-from evidence import trusted
+from evidence import trusted  # noqa: E402
 
 # the line at the end of a crate's check, as docs/CHECK has it
 PROVED = (
@@ -173,10 +173,21 @@ def what_is_trusted():
     statements, axioms = trusted()
     section = text("docs/CHECK.md").split("\n## What is trusted\n")[1]
     same("the crates", set(re.findall(r"`(\w+)`", section.split("A check lists")[0])), statements - STANDARD)
-    same("the axioms", re.search(r"takes (\d+): (\d+)\s+of crate `(\w+)` and (\d+) of `(\w+)`", section).groups(), axioms)
+    same(
+        "the axioms", re.search(r"takes (\d+): (\d+)\s+of crate `(\w+)` and (\d+) of `(\w+)`", section).groups(), axioms
+    )
 
 
-CASES = named(what_check_quotes, what_is_trusted, the_first_change, the_hint, the_conditions, files_of_recipes, the_logic, worked_rows)
+CASES = named(
+    what_check_quotes,
+    what_is_trusted,
+    the_first_change,
+    the_hint,
+    the_conditions,
+    files_of_recipes,
+    the_logic,
+    worked_rows,
+)
 
 if __name__ == "__main__":
     sys.exit(run_cases(CASES, __doc__))

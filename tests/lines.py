@@ -148,8 +148,8 @@ def part_files():
 
 
 def chip_files():
-    """Chip files that are too short or too long are refused. So is a plan that reads a memory into the chip file, before
-    it erases the chip."""
+    """Chip files that are too short or too long are refused. So is a plan that reads a memory into the chip file,
+    before it erases the chip."""
     refused("a short chip file", EMULATED, f"chip.bin: 100 bytes, {CHIP_FILE} expected", chip=bytes(100))
     refused("a long chip file", EMULATED, f"chip.bin: longer than {IMAGE_LIMIT} bytes", chip=bytes(IMAGE_LIMIT + 1))
     into_chip = [*EMULATED, "-e", "-U", "signature:r:chip.bin:h", "-U", "lfuse:w:0x62:m"]

@@ -215,10 +215,19 @@ def lock():
 def bodies(draw):
     """Yields bodies of commands in their order, each with the bytes of its reply that are compared, if not all: simavr
     doesn't model fuses and locks."""
-    page = lambda: draw.randbytes(256)
-    load = lambda word: (b"\x06" + (word | 1 << 31).to_bytes(4, "big"), None)
-    write = lambda held: (b"\x13\1\0" + bytes.fromhex("C10A404C20FFFF") + held, None)
-    read = lambda code, count: (bytes([code]) + count.to_bytes(2, "big") + b"\x20", None)
+
+    def page():
+        return draw.randbytes(256)
+
+    def load(word):
+        return b"\x06" + (word | 1 << 31).to_bytes(4, "big"), None
+
+    def write(held):
+        return b"\x13\1\0" + bytes.fromhex("C10A404C20FFFF") + held, None
+
+    def read(code, count):
+        return bytes([code]) + count.to_bytes(2, "big") + b"\x20", None
+
     yield from [(b"\x01", None), (bytes.fromhex("10C8641920005303AC530000"), None), (b"\x02\x9e\1", None)]
     yield from [(bytes([3, it]), None) for it in (0x80, 0x81, 0x90, 0x91, 0x92, 0x98)]
     yield from [(bytes([0x1B, 4, 0x30, 0, it, 0]), None) for it in range(4)]

@@ -365,7 +365,7 @@ def refused():
         f"{at} --try-rows -U lfuse:r:-:h": "--try-rows tries a programmer, and takes no -U",
         f"{at} --try-rows --json report": "--try-rows tries a programmer, and takes no --json",
         "-P emu:chip.bin -p m328p --try-rows": "--try-rows is for a serial device, not -P emu:chip.bin",
-        "-P /dev/null -p nosuch --try-rows": "the sizes of nosuch are not known here: nothing was sent, and the device was",
+        "-P /dev/null -p nosuch --try-rows": "the sizes of nosuch are not known here: nothing was sent, and the ",
     }
     for words, why in cases.items():
         status, output, _, own = serial.run(words.split())

@@ -256,7 +256,10 @@ def devices_of(words: Words, here: List[str]) -> List[str]:
 def boards_of(words: Words, prepare: Callable[[Words], None]) -> List[Board]:
     """Judges the command once, with the files of its first board, and returns all boards."""
     judge_outputs(words)
-    named = lambda text, device: text.replace(MARK, name_of(device))
+
+    def named(text: str, device: str) -> str:
+        return text.replace(MARK, name_of(device))
+
     # the texts of the reads, whose files are named by the boards
     texts: Dict[int, str] = {}
     for at, it in enumerate(words.updates):
