@@ -39,17 +39,18 @@ KeepsPlan settings old new IsSo = (plan : Plan) × (IsAsked settings (FileGave o
 abbrev pub ConnectionState : Type 1
 ConnectionState = Bytes → Option LinkState → Type 0
 
--- The plan was kept, by what `Kept` says: over standard streams and over a connection to the address, by what passed over the link; over the
--- emulator, by its chip file. A service has no plan.
+-- The plan was kept, by what `Kept` says: over standard streams and over a connection to the address, by what passed
+-- over the link; over the emulator, by its chip file. A service has no plan. At another port nothing passed over standard
+-- streams.
 abbrev pub KeepsPlanAt : (Plan → Transcript → Record → Record → Type 0) → ConnectionState → Port → Settings
     → Transcript → Record → Record → Type 0
 KeepsPlanAt Kept At Stdio settings passed old new = KeepsPlan settings old new (λ plan. Kept plan passed old new)
 KeepsPlanAt Kept At (Network address) settings passed old new =
-    (link : LinkState) × At address (Some link)
-    × KeepsPlan settings old new (λ plan. Kept plan link.transcript old new)
+    (passed ≡ []) × ((link : LinkState) × At address (Some link)
+    × KeepsPlan settings old new (λ plan. Kept plan link.transcript old new))
 KeepsPlanAt Kept At (Emulated file) settings passed old new =
-    KeepsPlan settings old new (λ plan. IsKeptInFile file plan old new)
-KeepsPlanAt Kept At (Served port file) settings passed old new = Unit {0}
+    (passed ≡ []) × KeepsPlan settings old new (λ plan. IsKeptInFile file plan old new)
+KeepsPlanAt Kept At (Served port file) settings passed old new = passed ≡ []
 
 -- WHAT STATUS 0 MEANS, by what passed over standard streams and by the desk's records. If the command line asks for a
 -- run, and not for help, its plan was kept.

@@ -1,5 +1,5 @@
 -- Status 0 of the program means that its plan was kept, whatever its port.
-use Rattle.std.proofs.Common.{◌≡◌, ◌⊎◌, ◌∙◌, inl, inr, refl, sym, subst, ℕ, [], Some}
+use Rattle.std.proofs.Common.{◌≡◌, ◌⊎◌, ◌∙◌, inl, inr, refl, sym, ap, subst, ℕ, [], Some}
 use Rattle.avr_plan.specs.declared.settings.Port.{Port}
 use Rattle.avr_plan.specs.declared.settings.Port.TheVariants.{Stdio, Emulated, Network, Served}
 use Rattle.avr_plan.specs.declared.settings.Settings.{Settings}
@@ -57,13 +57,18 @@ module _ (Kept : Plan → Transcript → Record → Record → Type 0)
 
   -- ---- each port
 
+  none_passed : (old new : Devices) → old.link.transcript ≡ [] → new.link ≡ old.link → new.link.transcript ≡ []
+  none_passed old new silent same = ap (λ (link : LinkState). link.transcript) same ∙ silent
+
   at_port : (peers : Peers) (port : Port) (s : Settings) (old new : Devices) → old.link.transcript ≡ []
       → ActsAtPort peers port s old new 0
       → KeepsPlanAt Kept peers.at_address port s new.link.transcript old.desk.kept new.desk.kept
   at_port peers Stdio s old new silent acts = promised s old new 0 acts.0 refl silent
-  at_port peers (Emulated file) s old new silent acts = over_emulator s file old.desk new.desk acts.0
-  at_port peers (Network address) s old new silent acts = over_net peers s address old.desk new.desk acts.0
-  at_port peers (Served port file) s old new silent acts = tt
+  at_port peers (Emulated file) s old new silent acts =
+      (none_passed old new silent acts.1, over_emulator s file old.desk new.desk acts.0)
+  at_port peers (Network address) s old new silent acts =
+      (none_passed old new silent acts.1, over_net peers s address old.desk new.desk acts.0)
+  at_port peers (Served port file) s old new silent acts = none_passed old new silent acts.1
 
   -- ---- the whole program
 

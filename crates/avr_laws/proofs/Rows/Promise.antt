@@ -468,11 +468,13 @@ over_streams At = (plan, (plan_asked (FileGave nothing_kept reported.kept), run_
 
 pub over_network : KeepsPlanAt Any (IsOverAddress network reads writes (λ side. Unit {0})) (Network address) settings
     [] nothing_kept reported.kept
-over_network =
-    (link_state passed 0, connected passed, (plan, (plan_asked (FileGave nothing_kept reported.kept), run_is_kept_by_any)))
+over_network = (
+  refl,
+  (link_state passed 0, connected passed, (plan, (plan_asked (FileGave nothing_kept reported.kept), run_is_kept_by_any))),
+)
 
 pub over_emulator : (At : ConnectionState) → KeepsPlanAt Any At (Emulated file) settings [] nothing_kept saved
-over_emulator At = (plan, (plan_asked (FileGave nothing_kept saved), chip_saved))
+over_emulator At = (refl, (plan, (plan_asked (FileGave nothing_kept saved), chip_saved)))
 
 -- a part that nobody knows
 abbrev unknown : Settings
@@ -487,11 +489,11 @@ part_unknown At during old new (other, (asked, keeps)) =
 
 pub not_connected : (At : ConnectionState) (name : Bytes) (s : Settings) (during : Transcript) (old new : Record)
     → ((link : LinkState) → At name (Some link) → ⊥) → KeepsPlanAt Any At (Network name) s during old new → ⊥
-not_connected At name s during old new none (link, over, keeps) = none link over
+not_connected At name s during old new none (_, (link, over, keeps)) = none link over
 
 pub file_unsaved : (At : ConnectionState) (name : Bytes) (s : Settings) (during : Transcript) (old new : Record)
     → new.tried ≡ [] → KeepsPlanAt Any At (Emulated name) s during old new → ⊥
-file_unsaved At name s during old new none (other, (asked, keeps)) = chip_unsaved name other old new none keeps
+file_unsaved At name s during old new none (_, (other, (asked, keeps))) = chip_unsaved name other old new none keeps
 
 -- ---- the command line
 
