@@ -1,6 +1,6 @@
 -- A worked run over a bootloader that erases elsewhere: `-p tiny -D -U flash:w:a.hex:i -U flash:w:b.hex:i`. Before it
 -- writes a page it erases the page that it counts, so the second image's page costs the first one's.
-use Rattle.std.specs.Prelude.{◌≡◌, ℕ, zero, suc, Bool, true, false, ◌+◌, ◌*◌, ◌%◌, ◌/◌, ◌^◌, ◌==◌, ◌&&◌, List, [], ◌∷◌, ◌++◌, None, Some, codes, drop, replicate, slice_index, take, if◌then◌else◌}
+use Rattle.std.specs.Prelude.{ℕ, zero, suc, Bool, true, false, ◌+◌, ◌*◌, ◌%◌, ◌/◌, ◌^◌, ◌==◌, ◌&&◌, List, [], ◌∷◌, ◌++◌, None, Some, codes, drop, replicate, slice_index, take, if◌then◌else◌}
 use Rattle.std.specs.List.{concat}
 use Rattle.byteorder.specs.Endian.{big_number}
 use Rattle.avr_part.specs.Part.{Part}

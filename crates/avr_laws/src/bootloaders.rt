@@ -1,6 +1,6 @@
 //! What status 0 means if only reading can be believed, as over a bootloader.
 
-ghost use Rattle.std.specs.Prelude.{◌≡◌, ℕ, List, [], ◌∷◌, Some};
+ghost use Rattle.std.specs.Prelude.{◌≡◌, [], ◌∷◌, Some};
 ghost use Rattle.std.specs.List.{concat};
 ghost use Rattle.avr_laws.specs.AnyTape.{ReceivedSentFrames, after_received_bytes};
 ghost use Rattle.avr_laws.specs.Kept.{NoneForged};

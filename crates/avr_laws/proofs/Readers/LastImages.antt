@@ -1,5 +1,5 @@
 -- Status 0 over a reader: what was compared after the last write is there.
-use Rattle.std.proofs.Common.{◌≡◌, ◌∙◌, ◌⊎◌, ℕ, All, Bool, true, false, List, [], ◌∷◌, ◌++◌, append_assoc, append-nil, length, take, arith, inl, inr, refl, sym, ap, subst, Some}
+use Rattle.std.proofs.Common.{◌≡◌, ◌∙◌, ◌⊎◌, ℕ, All, Bool, true, false, List, [], ◌∷◌, ◌++◌, append_assoc, append-nil, length, arith, inl, inr, refl, sym, ap, subst}
 use Rattle.std.proofs.lemmas.List.{take_all}
 use Rattle.std.specs.Prelude.{if◌then◌else◌}
 use Rattle.avr_desk.specs.OutputEvents.{OutputEvent}
@@ -27,7 +27,6 @@ use Rattle.avr_tool.proofs.Each.{Each}
 use Rattle.avr_tool.proofs.Lines.InTurn.{frames_sent, sends_whole}
 use Rattle.avr_tool.proofs.OverFaultyLink.FrameSizes.{session_asks}
 use Rattle.avr_tool.proofs.Plans.Fits.{AllFitActions, FitsAction, work, work_fits}
-use Rattle.avr_tool.specs.ComparisonsAgree.{EachComparisonAgrees}
 use Rattle.avr_tool.specs.Headline.{IsRun, IsStopped}
 use Rattle.avr_laws.proofs.Lines.AnyTape.{goes_as, through_after}
 use Rattle.avr_laws.proofs.Lines.NoForgedFrame.{no_forged_frame_authentic}
@@ -35,7 +34,6 @@ use Rattle.avr_laws.proofs.Outcomes.Kept.{none_forged}
 use Rattle.avr_laws.proofs.Outcomes.Promise.{asked as asked_for, left_over, made, played_is, same, sent_is, tape as over_tape}
 use Rattle.avr_laws.proofs.Plans.Fitted.{plan_fitted}
 use Rattle.avr_laws.specs.AnyTape.{GoesAlongExchanges, ReceivedSentFrames, after_received_bytes, after_sent_frames, exchanges_on_tape}
-use Rattle.avr_laws.specs.AskedPlan.{FileGave, IsAsked}
 use Rattle.avr_laws.specs.Kept.{NoneForged}
 use Rattle.avr_laws.specs.KeptByPort.{KeepsPlan}
 use Rattle.avr_laws.specs.NoForgedFrame.{ForgesNoFrame}

@@ -8,14 +8,13 @@ use Rattle.stk_emu.specs.Effect.{Memories}
 use Rattle.stk_emu.specs.WriteOperations.{memories_after_step}
 use Rattle.stk_frame.specs.Commands.{body}
 use Rattle.stk_frame.specs.declared.command.Command.{Command}
-use Rattle.stk_frame.specs.declared.command.Fuse.{Fuse}
 use Rattle.stk_frame.specs.declared.command.Fuse.TheVariants.{Low, High, Extended}
 use Rattle.stk_host.specs.ReadSteps.{read_count, read_step, read_steps}
 use Rattle.avr_tool.proofs.Each.{Each, each_of}
 use Rattle.avr_laws.proofs.Table.RealOf.{StepsWork, WorksBy}
 use Rattle.avr_laws.proofs.Table.Steps.{bodies}
 use Rattle.avr_laws.specs.Reader.{ReadsOneOf}
-use Rattle.avr_laws.specs.Table.{IsRow, Row, ErasesChip, WritesFlashPage, WritesEepromRun, WritesFuse, WritesLock, ReadsFlash, ReadsEeprom, ReadsFuse, ReadsLock, ReadsSignature, ReadsCalibration, fuse_memory}
+use Rattle.avr_laws.specs.Table.{IsRow, Row, ErasesChip, WritesFlashPage, WritesEepromRun, WritesFuse, WritesLock, ReadsFlash, ReadsEeprom, ReadsFuse, ReadsLock, ReadsSignature, ReadsCalibration}
 
 -- what tells by which memory a command reads: its code, and of a fuse its instruction
 abbrev key_of : List ℕ → ℕ
