@@ -6,6 +6,8 @@ ghost use Rattle.avr_laws.specs.AnyTape.{ReceivedSentFrames, after_received_byte
 ghost use Rattle.avr_laws.specs.Kept.{NoneForged};
 ghost use Rattle.avr_laws.specs.KeptByPort.{KeepsCommandLine};
 ghost use Rattle.avr_laws.specs.Reader.{IsReader, LastIsThere};
+ghost use Rattle.avr_laws.specs.Sheet.{IsVouched};
+ghost use Rattle.avr_laws.specs.Table.{IsProgrammer};
 ghost use Rattle.avr_laws.specs.WorkedBootloader.{FitsBoot, IsRead, boot_before, boot_executions, boot_frames, boot_plan, boot_replies, bootloader};
 ghost use Rattle.avr_laws.specs.WorkedLoss.{tiny};
 ghost use Rattle.avr_part.specs.declared.part.Mem.{Mem};
@@ -64,11 +66,14 @@ pub fn a_program_with_status_0_left_what_it_compared_last<
     run_command_line(line, network, alloc, desk, link)
 }
 
-/// States that a bootloader that erases elsewhere reads truly, and that all premises hold together in a worked run over
-/// it, which ended with status 0. The run wrote two images, and the second one's page cost the first one's.
-// Proof: the lemmas of Rows/Bootloader.
+/// States that a bootloader that erases elsewhere reads truly, though it doesn't keep the table, and that all premises
+/// hold together in a worked run over it, which ended with status 0. The run wrote two images, and the second one's page
+/// cost the first one's.
+// Proof: the lemmas of Rows/Bootloader, and `counter_refused` (Rows/PageCounter).
 pub fn a_run_over_a_bootloader_meets_all_premises()
     ensures reads { IsReader tiny (bootloader tiny) (λ b. b.memories) (FitsBoot tiny) IsRead }
+    ensures unlike { IsProgrammer tiny (bootloader tiny) (λ b. b.memories) (FitsBoot tiny) (FitsBoot tiny)
+        (IsVouched (λ mem byte. byte) tiny) → ⊥ }
     ensures ends { (played (session boot_plan) 1 boot_replies).outcome ≡ Some (0, 15, []) }
     ensures sends { frames_in (played (session boot_plan) 1 boot_replies).events ≡ boot_frames }
     ensures starts { FitsBoot tiny boot_before }

@@ -1,9 +1,9 @@
 //! Laws of runs above the program: whatever the link loses, delays and spoils, and whatever becomes of a run.
 //!
 //! No program depends on it. A law is a function with an empty body, and its contract is a theorem about definitions
-//! alone. What a call itself promises is in the contracts of avr_tool. Five laws are functions with one of its calls for
-//! a body: those of [`program`](a_program_with_status_0_kept_its_plan), [`status_0_means_the_images`] and
-//! [`status_0_means_the_images_on_an_emulated_chip`].
+//! alone. What a call itself promises is in the contracts of avr_tool. Six laws are functions with one of its calls for
+//! a body: those of [`program`](a_program_with_status_0_kept_its_plan), [`status_0_means_the_images`],
+//! [`status_0_means_the_images_on_an_emulated_chip`] and [`a_program_with_status_0_left_what_it_compared_last`].
 #![tactic(auto)]
 
 // what a plan asks of files

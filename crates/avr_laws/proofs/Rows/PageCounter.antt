@@ -16,7 +16,7 @@ start = record boot_before {
   memories = record boot_before.memories { flash = 1 ∷ 2 ∷ 3 ∷ 4 ∷ 5 ∷ 6 ∷ 7 ∷ 8 ∷ [] };
 }
 
-fits : FitsPart tiny start.memories
+pub fits : FitsPart tiny start.memories
 fits = record { flash = refl; eeprom = refl; bytes = search arith }
 
 pub counter_refused : (IsIn IsReady : Bootloader → Type 0) → IsReady start
