@@ -16,5 +16,6 @@ pub mod Outcomes
 pub mod Table
 pub mod ChipFile
 pub mod KeptByPort
+pub mod Readers
 pub mod TwoProcesses
 pub mod Rows

@@ -15,3 +15,4 @@ pub mod OtherChips
 pub mod EachSecond
 pub mod PageCounter
 pub mod WrongRows
+pub mod Bootloader

@@ -1,9 +1,9 @@
 //! Laws of runs above the program: whatever the link loses, delays and spoils, and whatever becomes of a run.
 //!
 //! No program depends on it. A law is a function with an empty body, and its contract is a theorem about definitions
-//! alone. What a call itself promises is in the contracts of avr_tool. Five laws are functions with one of its calls for
-//! a body: those of [`program`](a_program_with_status_0_kept_its_plan), [`status_0_means_the_images`] and
-//! [`status_0_means_the_images_on_an_emulated_chip`].
+//! alone. What a call itself promises is in the contracts of avr_tool. Six laws are functions with one of its calls for
+//! a body: those of [`program`](a_program_with_status_0_kept_its_plan), [`status_0_means_the_images`],
+//! [`status_0_means_the_images_on_an_emulated_chip`] and [`a_program_with_status_0_left_what_it_compared_last`].
 #![tactic(auto)]
 
 // what a plan asks of files
@@ -19,6 +19,7 @@ mod written;
 // a programmer of any kind
 mod any_programmer;
 // runs from settings to a status, and worked ones
+mod bootloaders;
 mod chip_file;
 mod crashes;
 mod program;
@@ -36,6 +37,10 @@ pub use any_line::{
     what_was_reported_was_true, whatever_becomes_of_a_session_its_first_write_operations_were_done,
 };
 pub use any_programmer::{AnyProgrammer, the_emulated_programmer_keeps_the_table};
+pub use bootloaders::{
+    AnyReader, a_program_with_status_0_left_what_it_compared_last,
+    a_run_over_a_bootloader_meets_all_premises,
+};
 pub use chip_file::{
     a_further_run_over_its_chip_file_repairs, a_run_finds_and_leaves_the_chip_of_its_file,
     the_chip_file_holds_the_images,
