@@ -41,6 +41,7 @@ CORE = Path("/usr/share/arduino/hardware/arduino/avr")
 SKETCHES = [TOP / "out/ArduinoISP.ino", Path("/usr/share/doc/arduino/examples/11.ArduinoISP/ArduinoISP/ArduinoISP.ino")]
 SKETCH = next((it for it in SKETCHES if it.exists()), None)
 FLASH, EEPROM, PAGE = 32_768, 1_024, 128
+FUSES = bytes([0x62, 0xD9, 0xFF, 0xFF])
 TINY = '[parts.tiny]\nsignature = "1E950F"\nflash_size = 2048\nflash_page = 128\neeprom_size = 64\neeprom_page = 4\n'
 TINY += "eesave_bit = 3\n"
 # of each kind: where its code starts, and its speed

@@ -14,6 +14,9 @@ import sys
 
 from cases import TOP, leave_out, named, run_cases, same, see
 
+sys.path.append(str(TOP / "tools"))
+from evidence import trusted
+
 # the line at the end of a crate's check, as docs/CHECK has it
 PROVED = (
     "logic=proved functions=.. sum=.. native=nat,char,string logic-built=trusted libraries-built=trusted"
@@ -160,7 +163,20 @@ def worked_rows():
             see(f"{name}: {file} has {part}", len(bare(part)) > 3 and bare(part) in known)
 
 
-CASES = named(what_check_quotes, the_first_change, the_hint, the_conditions, files_of_recipes, the_logic, worked_rows)
+# crates of the kit that CHECK calls Rattle's standard library
+STANDARD = {"core", "io", "std", "std_alloc", "std_collections", "std_heap", "std_io"}
+
+
+def what_is_trusted():
+    """CHECK names each crate of the kit whose statements the program's check trusts, and the counts of contracts of C
+    functions, as a gate's log has them (docs/EVIDENCE). Each kind of function is named in docs/EVIDENCE."""
+    statements, axioms = trusted()
+    section = text("docs/CHECK.md").split("\n## What is trusted\n")[1]
+    same("the crates", set(re.findall(r"`(\w+)`", section.split("A check lists")[0])), statements - STANDARD)
+    same("the axioms", re.search(r"takes (\d+): (\d+)\s+of crate `(\w+)` and (\d+) of `(\w+)`", section).groups(), axioms)
+
+
+CASES = named(what_check_quotes, what_is_trusted, the_first_change, the_hint, the_conditions, files_of_recipes, the_logic, worked_rows)
 
 if __name__ == "__main__":
     sys.exit(run_cases(CASES, __doc__))

@@ -225,8 +225,52 @@ def runs_of_manual():
         shown_runs(file.relative_to(TOP))
 
 
+# what fits on a screen, with the prompt below it
+COLUMNS, LINES = 78, 23
+
+
+def stated_by(text):
+    """Yields what the text of --help states: each option or argument with its own text, and each sentence. The second
+    text of an option begins with "In full: "."""
+    seen = set()
+    for block in text.split("\n\n")[2:]:
+        if block.startswith("  "):
+            for it in re.split(r"\n(?=  \S)", block):
+                name = re.split(" {2,}", it.strip())[0]
+                yield f"In full: {name}" if name in seen else name
+                seen.add(name)
+        elif block != "In full:":
+            yield from re.split(r"(?<=[.:]) (?=[A-Z])", " ".join(block.split()))
+
+
+def each_word_of_help():
+    """-h of the scripts fits a screen, and --help begins with it. Each option and sentence has a row that names the
+    case of a test; there is such a case, and no row is left."""
+    rows = rows_of("claims")
+    for name, needed in [("avrstk-serial", ["-p ", "-P "]), ("avrstk-serve", ["-p ", "--chip "])]:
+        brief, whole = (
+            subprocess.run([TOP / name, it], capture_output=True, text=True).stdout for it in ("-h", "--help")
+        )
+        same(f"{name} --help has {COLUMNS} columns", [it for it in whole.splitlines() if len(it) > COLUMNS], [])
+        see(f"{name} -h fits a screen", 10 < len(brief.splitlines()) <= LINES, brief)
+        see(f"{name} --help begins with -h", whole.startswith(brief), brief)
+        for it in needed:
+            see(f"{name} -h says that {it}is needed", re.search(rf"^  {it}.*required", brief, re.M), brief)
+        own = [it.removeprefix(f"{name} ") for it, _ in rows if it.startswith(f"{name} ")]
+        for said in stated_by(whole):
+            see(f"{name} --help: a row has: {said}", any(said.startswith(it) for it in own))
+        for it in own:
+            see(f"{name} --help has: {it}", any(said.startswith(it) for said in stated_by(whole)))
+    for _, case in rows:
+        script, function = case.split()
+        text = (TOP / f"tests/{script}.py").read_text()
+        see(f"there is the case {case}", re.search(rf"^def {function}\(\):", text, re.M))
+
+
 PAGES_HOLD = [pages_are_whole, pages_have_the_options, pages_are_clean, examples_run]
-CASES = named(*PAGES_HOLD, names_agree, version_agrees, runs_of_readme, runs_of_manual, differences_hold)
+CASES = named(
+    *PAGES_HOLD, each_word_of_help, names_agree, version_agrees, runs_of_readme, runs_of_manual, differences_hold
+)
 
 
 if __name__ == "__main__":

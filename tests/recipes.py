@@ -58,6 +58,8 @@ class Clone:
             (self.top / "out/unproved" / name).chmod(0o755)
         self.stamp("unproved")
         put_program(self.folder / "bin/rt", RT)
+        # (tools/site.py --check makes the site; here that would only take time)
+        put_program(self.folder / "bin/sphinx-build", "#!/bin/sh\nexit 1\n")
 
     def stamp(self, kind):
         """Stamps the programs there as built from the clone's sources."""
@@ -129,8 +131,9 @@ def in_a_clone(case):
 def readme(clone):
     """Runs the commands of README, without those that test or prove."""
     found = blocks("README.md")
-    first = found[0][0]
-    see("the first command needs no proof", first.startswith("./avrstk --unproved "), first)
+    first = next(it for commands in found for it in commands if it.startswith("./"))
+    see("the first command in a clone needs no proof", first.startswith("./avrstk --unproved "), first)
+    clone.types(["./install.sh ~/.local"])
     for commands in found:
         clone.tries(commands)
 

@@ -22,6 +22,8 @@ if sys.version_info < (3, 8):
     sys.exit("%s: Python 3.8 or later is needed, this is %d.%d" % (NAME, *sys.version_info[:2]))
 
 HELP = __main__.__doc__.strip()
+# what fits on a screen: -h
+BRIEF = HELP.partition("\n\nIn full:")[0]
 READ, WRITE = selectors.EVENT_READ, selectors.EVENT_WRITE
 
 # avrstk has these parts without a part file; the others are in one that comes with it
@@ -73,6 +75,8 @@ class Messages:
 
     def __init__(self):
         self.waiting, self.lost, self.drawn, self.log = b"", False, 0, None
+        # whether progress is drawn, and what draws it in place of this class
+        self.is_drawn, self.painter = os.isatty(2), None
 
     def send(self, piece=b"", until=None):
         """Prints as much as a file takes that is ready, or gets ready by then: at most PIPE_BUF bytes don't block."""
@@ -92,7 +96,9 @@ class Messages:
             self.lost = True
 
     def draw(self, text):
-        if text or self.drawn:
+        if self.painter:
+            self.painter(text)
+        elif text or self.drawn:
             wide = os.get_terminal_size(2).columns if os.isatty(2) else 0
             text = text[: (wide or 80) - 1]
             self.send(f"\r{text.ljust(self.drawn)}".encode() + (b"" if text else b"\r"))
@@ -130,12 +136,17 @@ def show(text):
         raise Fault(f"standard output cannot be written: {fault.strerror}")
 
 
+def text_of(fault: BaseException) -> str:
+    """Returns the text of an error line."""
+    return f"{fault.filename}: {fault.strerror}" if isinstance(fault, OSError) else str(fault)
+
+
 def run(main, needs_lines=False):
     """Ends the script with the status of its main function; with 1 if a line could not be printed that it needs."""
     try:
         status = main()
     except (Fault, OSError, getopt.GetoptError) as fault:
-        say(f"{fault.filename}: {fault.strerror}" if isinstance(fault, OSError) else str(fault))
+        say(text_of(fault))
         status = 1
     messages.finish()
     sys.exit(1 if needs_lines and messages.lost else status)
@@ -215,6 +226,7 @@ def session_program(told=None):
     return found
 
 
+@functools.lru_cache()
 def version():
     """Returns the version of avrstk, and lines of its build's stamp: whether it is proved, its commit and kit."""
     file = built(None)

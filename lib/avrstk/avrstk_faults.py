@@ -96,11 +96,11 @@ class Traffic:
     def __init__(self, options):
         """Takes the options in their order, each with its value."""
         self.last = last = dict(options)
-        self.is_bootloader = "--bootloader" in last
+        self.is_bootloader, self.is_mega = "--bootloader" in last, "--mega" in last
         self.refused = set().union(*(codes for it, codes in REFUSED.items() if it in last))
         self.client = self.count = 0
-        # how many commands of each name there were, and the options whose faults have struck
-        self.names, self.struck, self.is_strict = collections.Counter(), set(), "--strict" in last
+        # how many commands of each name there were, and how many commands the fault of each option has struck
+        self.names, self.struck, self.is_strict = collections.Counter(), collections.Counter(), "--strict" in last
         self.lateness = seconds("--late", last.get("--late", "0:1"))
         given = [(it, value) for it, value in options if it in FAULTS]
         seed, each = last.get("--seed", str(random.randrange(1_000_000))), {"--drop": ["--lose", "--lose-reply"]}
@@ -111,10 +111,12 @@ class Traffic:
             return which(value.partition(":")[0] if name == "--late" else value, chance)
 
         self.given = [f"{name} {value}" for name, value in given]
+        # (a report has it if it was used)
+        self.seed = int(seed) if any("%" in value for _, value in given) else None
         self.faults = [
             (it, meant(name, value), f"{name} {value}") for name, value in given for it in each.get(name, [name])
         ]
-        if any("%" in value for _, value in given):
+        if self.seed is not None:
             say(f"--seed {seed} makes the same faults again")
 
     def open(self, *files: Optional[str]) -> None:
@@ -162,10 +164,14 @@ class Traffic:
         own = str(self.count), name, f"{name}#{self.names[name]}"
         meant = [(it, given) for it, is_meant, given in self.faults if is_meant(*own)]
         faults = [it for it, _ in meant]
-        self.struck |= {given for _, given in meant}
+        self.struck.update({given for _, given in meant})
         if "--lose" in faults:
             self.note(line, ["lost"])
             return b""
+        if self.is_mega and (xor(frame) or "--corrupt" in faults):
+            # (the Mega's bootloader gives no reply to a corrupt frame)
+            self.note(line, [FAULTS[it] for it in faults if it == "--corrupt"] + ["no reply"])
+            return spoiled(frame)
         before, frame = (b"", frame) if xor(frame) else self.refusing(frame[1], body)
         self.waiting.append((line, faults))
         return before + (spoiled(frame) if "--corrupt" in faults else frame)

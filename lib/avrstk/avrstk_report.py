@@ -86,18 +86,26 @@ class Report:
             **{what: self.count(update, what) for what in ("written", "verified", "read")},
         }
 
-    def made(self, status: int, number: Optional[int]) -> dict:
-        """Returns the report. `number` is the signal that ended the run."""
-        words, rows = self.words, version().splitlines()
-        signature = next((it[19:] for it in self.lines if it.startswith("device signature = ")), None)
+    def outcome(self, status: int, number: Optional[int]) -> dict:
+        """Returns how the run ended. `number` is the signal that ended it."""
         has_hint = self.told is not None and self.told != self.error()
         return {
-            "report": 1,
-            "program": NAME,
-            "version": rows[0].partition(" ")[2],
-            "commit": next((it.partition(": ")[2] for it in rows if it.startswith("commit: ")), None),
-            "proved": rows[1:2] == ["proved"] and not words.is_version1,
             "status": status,
+            "seconds": round(time.monotonic() - self.begun, 3),
+            "chip": self.chip(status),
+            "kind": ("interrupted" if number else self.kind()) if status else None,
+            "error": self.error() if status else None,
+            "hint": self.told if status and has_hint else None,
+            **(self.words.each.reported() if self.words.each else {}),
+        }
+
+    def made(self, status: int, number: Optional[int]) -> dict:
+        """Returns the report."""
+        words, built = self.words, build()
+        signature = next((it[19:] for it in self.lines if it.startswith("device signature = ")), None)
+        return {
+            **built,
+            "proved": built["proved"] and not words.is_version1,
             "device": words.device,
             "programmer": words.programmer,
             "part": words.part,
@@ -106,12 +114,20 @@ class Report:
             "commands": sum(it.sent for it in self.runs),
             "repeated": sum(it.repeated for it in self.runs),
             "retries": max(0, words.tries - 1),
-            "seconds": round(time.monotonic() - self.begun, 3),
-            "chip": self.chip(status),
-            "kind": ("interrupted" if number else self.kind()) if status else None,
-            "error": self.error() if status else None,
-            "hint": self.told if status and has_hint else None,
+            **self.outcome(status, number),
         }
+
+
+def build() -> dict:
+    """Returns the fields of a report about avrstk itself."""
+    rows = version().splitlines()
+    return {
+        "report": 1,
+        "program": NAME,
+        "version": rows[0].partition(" ")[2],
+        "commit": next((it.partition(": ")[2] for it in rows if it.startswith("commit: ")), None),
+        "proved": rows[1:2] == ["proved"],
+    }
 
 
 def write(place: str, held: dict) -> None:

@@ -100,7 +100,7 @@ class Rows:
         is_known = all(re.fullmatch("[1-9][0-9_]*|0", it) for it in found.values())
         refuse((not is_known, f"the sizes of {words.part} are not known here: {UNOPENED}"))
         self.part = part = {it: int(value) for it, value in found.items()}
-        self.words, self.is_all, self.sizes = words, words.rows == "all", {"signature": 3, "calibration": 1}
+        self.words, self.is_all, self.sizes = words, words.trial == "all", {"signature": 3, "calibration": 1}
         self.sizes.update({it: 1 for it in (*FUSES, "lock")}, flash=part["flash_size"], eeprom=part["eeprom_size"])
         # the pages that are written. (With -c wiring a command restores only the first 256 bytes of EEPROM)
         half = min(part["eeprom_size"], 256 if words.is_wiring else 1 << 16) // 2

@@ -1,12 +1,28 @@
 """avrstk-serial: the command line, and runs of avrstk with a programmer on a serial device."""
 
-from avrstk_common import BUILT_IN, HELP, READ, WRITE, Fault, Frames, Way, asked, came, data_file, ended_by, first
-from avrstk_common import heed_signals, is_frame, messages, parts, ready, refuse, say, session_program, show
+from avrstk_common import (
+    BRIEF,
+    BUILT_IN,
+    HELP,
+    READ,
+    WRITE,
+    Fault,
+    Frames,
+    Way,
+    asked,
+    came,
+    data_file,
+    ended_by,
+    first,
+)
+from avrstk_common import heed_signals, is_frame, messages, parts, ready, refuse, say, session_program, show, text_of
 from avrstk_common import version, wait
 from avrstk_backup import asking, back_up, restored
+from avrstk_each import Each
 from avrstk_report import Report, write
 from avrstk_rows import try_rows
 from avrstk_hints import LEAVE, NO_CHIP, NO_SIGNATURES, ONE_IMAGE, SIGN_ON, hint, state_of
+from avrstk_station import station
 from avrstk_version1 import SPEEDS, Bridge
 from avrstk_words import FORMATS, FUSES, UNOPENED, Words, long_name, parts_of
 
@@ -26,6 +42,7 @@ import subprocess
 import sys
 import termios
 import time
+import types
 from typing import List, Tuple
 
 REFUSED = {
@@ -226,7 +243,7 @@ class Progress:
     """Draws on a terminal what is written or read, the share of the run's frames that were sent, and the time left."""
 
     def __init__(self, words):
-        self.is_wanted = os.isatty(2) and "-q" not in words.flags and not words.has_port
+        self.is_wanted = messages.is_drawn and "-q" not in words.flags and not words.has_port
         self.total, self.begun = words.plan()[0] if self.is_wanted else 0, time.monotonic()
         self.what, self.sent, self.drawn = None, 0, 0.0
 
@@ -394,8 +411,8 @@ def leave_to_other(words):
         (words.parts_file is None and (words.part or "").lower() not in known, f"-p {words.part}: another part"),
     )
     other = why and other_program()
-    # (it doesn't know the script's own options)
-    if other and not any(it.startswith("--") for it in words.last):
+    # (it doesn't know the script's own options, and takes one port)
+    if other and not words.is_station and not any(it.startswith("--") for it in words.last):
         say(f"{why}: {other} runs in place of avrstk")
         messages.finish()
         os.execve(other, [other, *sys.argv[1:]], {it: os.environ[it] for it in os.environ if it != "AVRSTK_ELSE"})
@@ -416,11 +433,17 @@ def judge(words):
     words.report.stage = "file"
     for it in words.updates:
         it.judge(words.content(it.file) if it.is_image and not os.path.isdir(it.file) else None)
+    if words.each or words.is_station:
+        check(words)
+    if words.each:
+        words.each.judge(words)
+        check(words)
+    for it in words.updates:
         of_loader = words.is_wiring and it.memory == "eeprom"
         is_far = of_loader and (words.field("eeprom_size") if it.operation == "r" else it.size()) not in range(257)
         refuse((is_far, f"-U {it.given}: a bootloader reads other addresses above 255: use a programmer: {UNOPENED}"))
     words.report.stage = "device"
-    if not words.has_port:
+    if not words.has_port and not words.is_station:
         judge_device(words.device)
     words.report.stage = "arguments"
     if words.is_bootloader:
@@ -428,8 +451,9 @@ def judge(words):
     if words.part != "auto":
         judge_part(words, UNOPENED)
     is_number, is_retried = re.fullmatch(r"[0-9]{1,2}", words.retry), words.retry.strip("0")
+    port = next((it for it in words.devices if re.fullmatch("net:[^:]*", it)), None)
     refuse(
-        (re.fullmatch("net:[^:]*", words.device), f"-P {words.device}: a port of a network is -P net:HOST:PORT"),
+        (port, f"-P {port}: a port of a network is -P net:HOST:PORT"),
         (not is_number, f"--retry {words.retry}: not a number from 0 to 99"),
         (not words.has_port and not os.path.exists("/proc/net"), "there is no /proc: who calls can't be told then"),
     )
@@ -437,39 +461,71 @@ def judge(words):
     refuse((why, f"--retry: the same command again may not repair this one: {why}"))
 
 
+def check(words: Words) -> None:
+    """Lets avrstk_session judge the command line and the images, before several runs begin or a number is taken."""
+    if words.part == "auto":
+        return
+    only, quiet = copy.copy(words), subprocess.DEVNULL
+    only.updates = [it for it in words.updates if not it.is_stream()]
+    only.given = [it.given for it in only.updates]
+    try:
+        program = session_program(quiet)
+    except SystemExit:
+        # (nothing is built: this reports it)
+        program = session_program()
+    how = {"stdin": quiet, "stdout": quiet, "stderr": subprocess.PIPE, "close_fds": False}
+    ran = subprocess.run([program, *only.options("stdio:")], **how)
+    if ran.returncode:
+        shown = [words.shown(it) for it in ran.stderr.splitlines()]
+        messages.put(b"".join(it + b"\n" for it in shown))
+        texts = [os.fsdecode(it).partition("avrstk: ")[2] for it in shown]
+        for it in texts:
+            words.report.note(it)
+        error = next((it[7:] for it in texts if it.startswith("error: ")), "")
+        nothing = {"earlier": frozenset(), "commands": set(), "was_opened": False, "silenced": False}
+        raise Fault(hint(types.SimpleNamespace(words=only, error=error, left_at_error=False, **nothing), None))
+
+
 def judge_rows(words: Words) -> None:
     """Refuses what --try-rows doesn't take."""
     own = {"--try-rows", "--yes", "--parts", "--wait", "-p", "-P", "-c", "-b", "-l", "-q", "-v", "-C", "-s", "-u"}
-    other, name = next((it for it in words.last if it not in own), None), f"--try-rows={words.rows}"
+    other, name = next((it for it in words.last if it not in own), None), f"--try-rows={words.trial}"
     spare = "erases and writes the chip, and clears a bit of its lock: at a chip to spare give --yes, too"
     refuse(
-        (words.rows is None and "--yes" in words.last, "--yes is for --try-rows=all"),
-        (words.rows not in (None, "safe", "all"), f"{name}: there is --try-rows, and --try-rows=all"),
-        (words.rows and other, f"--try-rows tries a programmer, and takes no {other}"),
-        (words.rows and words.has_port, f"--try-rows is for a serial device, not -P {words.device}"),
-        (words.rows == "all" and "--yes" not in words.last, f"{name} {spare}; {UNOPENED}"),
+        (words.trial is None and "--yes" in words.last, "--yes is for --try-rows=all"),
+        (words.trial not in (None, "safe", "all"), f"{name}: there is --try-rows, and --try-rows=all"),
+        (words.trial and other, f"--try-rows tries a programmer, and takes no {other}"),
+        (words.trial and words.is_station, "--try-rows is for one board"),
+        (words.trial and words.has_port, f"--try-rows is for a serial device, not -P {words.device}"),
+        (words.trial == "all" and "--yes" not in words.last, f"{name} {spare}; {UNOPENED}"),
     )
 
 
-def judge_files(words: Words) -> None:
-    """Refuses an output that is another file of this command, and the device as an image, before a file is opened."""
-    own = [(words.device and it.is_image and is_one(it.file, words.device), it.given) for it in words.updates]
-    refuse(*((is_device, f"-U {given}: that file is the device: {UNOPENED}") for is_device, given in own))
-    port = (words.device or "").partition("emu:")[2]
-    chips = [f"{port}{end}" for end in ("", ".avrstk-new", ".avrstk-lock") if port]
+def judge_files(words: Words, begin: str = "") -> None:
+    """Refuses an output that is another file of this command, and the device as an image, before a file is opened. With
+    `begin` only the outputs of options that begin so are judged."""
+    own = [(any(is_one(it.file, device) for device in words.devices), it) for it in words.updates if it.is_image]
+    refuse(*((is_device, f"-U {it.given}: that file is the device: {UNOPENED}") for is_device, it in own if not begin))
+    ports = [it.partition("emu:")[2] for it in words.devices]
+    chips = [f"{port}{end}" for port in ports for end in ("", ".avrstk-new", ".avrstk-lock") if port]
     inputs = {it.file: "an image" for it in words.updates if it.is_image}
-    inputs.update({words.parts_file or data_file("classic.toml"): "the part file", words.device: "the device"})
+    inputs.update({words.parts_file or data_file("classic.toml"): "the part file"})
+    inputs.update(dict.fromkeys(words.devices, "the device"))
     inputs.update(dict.fromkeys(chips, "the chip"))
+    inputs.update({words.last["--rows"]: "the table"} if "--rows" in words.last else {})
     # (without a part file)
     inputs.pop(os.devnull, None)
-    outputs = [(f"-U {it.given}", it.file) for it in words.updates if it.operation == "r" and it.file != "-"]
-    outputs += [(f"{name} {words.last[name]}", words.last[name]) for name in ("-l", "--backup") if name in words.last]
+    outputs = [(f"-U {it.given}", it.file) for it in words.updates if it.operation == "r"]
+    names = [it for it in ("-l", "--backup", "--counter", "--json") if it in words.last]
+    outputs += [(f"{it} {words.last[it]}", words.last[it]) for it in names]
+    outputs = [it for it in outputs if it[1] != "-"]
     for number, (word, file) in enumerate(outputs):
         taken = next((what for it, what in inputs.items() if it and is_one(file, it)), None)
         # (a stream takes several outputs)
         is_file = os.path.isfile(file) or not os.path.exists(file)
         other = next((it for it, before in outputs[:number] if is_file and is_one(file, before)), None)
-        refuse((taken or other, f"{word}: that file is {taken or f'also the one of {other}'}: {UNOPENED}"))
+        is_wrong = word.startswith(begin) and (taken or other)
+        refuse((is_wrong, f"{word}: that file is {taken or f'also the one of {other}'}: {UNOPENED}"))
 
 
 def is_one(one: str, other: str) -> bool:
@@ -544,6 +600,8 @@ def ran(words, put=messages.put, earlier=frozenset()):
     count = int(words.retry)
     for number in range(1, count + 2):
         words.tries = number
+        if words.each:
+            words.each.give(words)
         run = Run(words, earlier, put)
         words.report.runs.append(run)
         try:
@@ -576,7 +634,7 @@ def ask(words, **given):
     """Runs a session before the run. It writes nothing, and prints nothing if all goes well. Returns its commands and
     its lines."""
     session, lines = copy.copy(words), []
-    vars(session).update(given)
+    vars(session).update(given, each=None)
     run = ran(session, lines.append)
     words.speeds = session.speeds
     if run.status:
@@ -606,12 +664,15 @@ def detect(words):
 
 def prepare(words):
     """Judges the command line, makes the log and the folder that it names, and prints what is understood otherwise."""
+    lone = [it for it in ("--from", "--rows", "--counter") if it in words.last and not words.each_given]
+    refuse((lone, f"{' and '.join(lone)}: for what --each writes, which is not given"))
     if words.restore is not None:
         try:
             words.updates, words.flags = restored(words), [*words.flags, "-e"]
         except Fault as fault:
             raise Fault(f"{fault}: {UNOPENED}")
     words.report.stage = "file"
+    words.each = Each(words) if words.each_given else None
     judge_files(words)
     words.report.stage = "arguments"
     judge_rows(words)
@@ -631,7 +692,7 @@ def reported(words):
     try:
         status = serve(words)
     except (Fault, OSError) as fault:
-        words.report.told = f"{fault.filename}: {fault.strerror}" if isinstance(fault, OSError) else str(fault)
+        words.report.told = text_of(fault)
         raise
     finally:
         if "--json" in words.last:
@@ -642,11 +703,28 @@ def reported(words):
 def serve(words):
     prepare(words)
     heed_signals()
-    if words.rows:
+    return perform(words)
+
+
+def perform(words):
+    if words.trial:
         if words.part == "auto":
             detect(words)
         return try_rows(words, lambda: opened(words))
     return back_up(words, lambda: execute(words)) if words.backup is not None else execute(words)
+
+
+def live(words):
+    """Makes the run of one of several boards, in a process of its own."""
+    words.report.stage = "file"
+    judge_files(words)
+    for it in words.updates:
+        if it.operation == "r":
+            it.judge(None)
+    words.report.stage = "device"
+    if not words.has_port:
+        judge_device(words.device)
+    return perform(words)
 
 
 def execute(words):
@@ -677,10 +755,15 @@ def execute(words):
 def main():
     words = Words(sys.argv[1:])
     shown = first(
-        ({"-h", "-?", "--help"} & set(words.last) or not sys.argv[1:], lambda: show(HELP)),
+        ("--help" in words.last, lambda: show(HELP)),
+        ({"-h", "-?"} & set(words.last) or not sys.argv[1:], lambda: show(BRIEF)),
         ("--version" in words.last, lambda: show(version())),
         (words.device == "?", list_devices),
         (words.part == "?", list_parts),
         (words.programmer == "?", lambda: show("\n".join(SPEAKING))),
     )
-    return (shown or (lambda: reported(words)))()
+    if shown:
+        return shown()
+    # (a refused command has a report, too, but not in place of its own files)
+    judge_files(words, "--json ")
+    return station(words, DEVICES, prepare, live) if words.is_station else reported(words)

@@ -1,8 +1,10 @@
 """avrstk-serve: the clients at a port or a terminal, and the runs of avrstk_session for them."""
 
-from avrstk_common import ENDING, HELP, READ, Fault, Way, built, came, ended_by, heed_signals, noted, part_words
-from avrstk_common import readable, ready, refuse, say, session_program, show, version, wait
+from avrstk_common import BRIEF, ENDING, HELP, READ, Fault, Way, built, came, ended_by, heed_signals, noted, part_words
+from avrstk_common import readable, ready, refuse, say, session_program, show, text_of, version, wait
 from avrstk_faults import FAULTS, REFUSED, Traffic, seconds
+from avrstk_mega import Mega
+from avrstk_report import build, write
 
 import atexit
 import contextlib
@@ -24,14 +26,15 @@ from typing import List, Optional
 # the most clients kept that have sent nothing; beyond that the oldest is hung up on. (So few open files are enough)
 MOST_SILENT = 8
 
-# the most seconds that a run has to save its chip once its client is gone, and a command to end after SIGTERM
-PATIENCE = 8
+# the most seconds that a run has to save its chip once its client is gone, and a command to end after SIGTERM. With
+# --mega a whole chip may be written then
+PATIENCE, PATIENCE_OF_MEGA = 8, 40
 
 # the seconds that a command has to end, or to begin a session that ends well, after one that did not
 GRACE = 10
 
 LONG = ["parts=", "chip=", "idle=", "listen=", "pty=", "timeout=", "log=", "log-limit=", "seed=", "locked"]
-LONG += ["strict", "version", "help"]
+LONG += ["strict", "json=", "mega", "version", "help"]
 LONG += [it[2:] + "=" for it in FAULTS] + [it[2:] for it in REFUSED]
 
 
@@ -196,8 +199,11 @@ def started() -> List[int]:
 class Server:
     """The clients at a door, and the runs of a program for them."""
 
-    def __init__(self, door, program, idle, traffic):
+    def __init__(self, door, program, idle, traffic, is_mega=False):
+        self.is_mega = is_mega
         self.door, self.program, self.idle, self.traffic, self.has_failed = door, program, idle, traffic, False
+        # what --json has of each session
+        self.sessions: List[dict] = []
 
     def serve_all(self, command, limit):
         """Serves while this command runs, for at most `limit` seconds, or until a signal comes. Returns the status."""
@@ -241,26 +247,50 @@ class Server:
             until = None if is_well else until or grace and time.monotonic() + grace
 
     def serve(self, client):
+        """Serves one client, and notes the session for a report. Returns whether the client ended it, and its chip was
+        saved."""
+        begun, before = time.monotonic(), self.traffic and (self.traffic.count, self.traffic.struck.copy())
+        is_well = is_saved = False
+        try:
+            is_well, is_saved = self.run_for(client)
+        finally:
+            if before:
+                struck = {it: self.traffic.struck[it] - before[1][it] for it in self.traffic.given}
+                faults = [{"fault": it, "struck": count} for it, count in struck.items() if count]
+                kept = {"commands": self.traffic.count - before[0], "faults": faults}
+                kept["seconds"] = round(time.monotonic() - begun, 3)
+                self.sessions.append({**kept, "idle": is_saved and not is_well, "saved": is_saved})
+        return is_well and is_saved
+
+    def run_for(self, client):
         """Serves one client by a run of its own. On return the run has ended and saved the chip. Returns whether the
-        client ended the session, and its chip was saved."""
+        client was not idle, and whether its chip was saved."""
         line, other = socket.socketpair()
         with line:
-            with other:
-                # (it saves its chip even if all processes of a service are sent a signal)
-                how = {"stdin": other, "stdout": other, "start_new_session": True, "preexec_fn": ignore_signals}
-                run = subprocess.Popen(self.program, **how)
+            run = self.start(other)
             try:
                 line.setblocking(False)
                 is_well = self.pass_on(client, line)
             finally:
-                hang_up(line, run)
+                hang_up(line, run, PATIENCE_OF_MEGA if self.is_mega else PATIENCE)
                 if self.traffic:
                     self.traffic.end()
         if run.returncode:
             how = f"status {run.returncode}" if run.returncode > 0 else f"ended by signal {-run.returncode}"
             self.has_failed = True
             say(f"a session failed ({how}): its changes may not be in the chip file")
-        return is_well and not run.returncode
+        return is_well, not run.returncode
+
+    def start(self, other):
+        """Starts a run with this end of a connection, or with --mega a bootloader there, and its run."""
+        programmer, own = socket.socketpair() if self.is_mega else (None, other)
+        with own:
+            # (it saves its chip even if all processes of a service are sent a signal)
+            how = {"stdin": own, "stdout": own, "start_new_session": True, "preexec_fn": ignore_signals}
+            run = subprocess.Popen(self.program, **how)
+        if self.is_mega:
+            threading.Thread(target=Mega(other, programmer).live, daemon=True).start()
+        return run
 
     def pass_on(self, client, line):
         """Passes bytes between a client and its run until either has gone, the client is idle, or a signal comes.
@@ -286,9 +316,9 @@ class Server:
         return True
 
 
-def hang_up(line, run):
+def hang_up(line, run, patience):
     """Ends what a run receives, and returns once it has saved the chip and ended, or was killed after too long."""
-    until = time.monotonic() + PATIENCE
+    until = time.monotonic() + patience
     # (if the run has ended, that is an error)
     with contextlib.suppress(OSError):
         line.shutdown(socket.SHUT_WR)
@@ -360,11 +390,35 @@ def main():
     given, places = getopt.gnu_getopt(sys.argv[1:at], "p:h", LONG)
     options = dict(given)
     if {"-h", "--help", "--version"} & set(options) or not sys.argv[1:]:
-        return show(version() if "--version" in options else HELP)
+        return show(version() if "--version" in options else HELP if "--help" in options else BRIEF)
+    if "--json" not in options:
+        return serve(given, places, client)
+    own = {name: options[name] for name in ("--chip", "--parts", "--log") if name in options}
+    same = [name for name, it in own.items() if os.path.realpath(it) == os.path.realpath(options["--json"])]
+    refuse((same, f"--json {options['--json']}: this is the file of {' and '.join(same)}"))
+    held = {"status": 1, "error": None, "part": options.get("-p"), "chip": options.get("--chip")}
+    held.update({"command": client or None, "seed": None, "seconds": 0.0, "faults": [], "sessions": []})
+    try:
+        return serve(given, places, client, held)
+    except (Fault, OSError) as fault:
+        held["error"] = text_of(fault)
+        raise
+    finally:
+        write(options["--json"], {**build(), **held})
+
+
+def serve(given, places, client, held=None):
+    """Serves by these options until a signal or the client's end. `held` gets the report's fields, if one is asked
+    for. Returns the status."""
+    options, begun = dict(given), time.monotonic()
     idle, limit = (seconds(it, options[it]) if it in options else None for it in ("--idle", "--timeout"))
     door, chip, parts = door_of(places, options, idle, client), options.get("--chip"), options.get("--parts")
-    traffic = Traffic(given) if {"--log", *FAULTS, *REFUSED} & set(options) else None
+    traffic = Traffic(given) if {"--log", "--json", *FAULTS, *REFUSED} & set(options) else None
+    is_mega, others = "--mega" in options, [it for it in REFUSED if it in options]
+    is_2560 = parts is None and options.get("-p", "").lower() in ("m2560", "atmega2560")
     refuse(
+        (is_mega and not is_2560, "--mega is the bootloader of an ATmega2560: give -p m2560"),
+        (is_mega and others, f"--mega and {' and '.join(others)}: give one of them"),
         (chip is None, "no chip file given (--chip)"),
         (re.search(r"[\udc80-\udcff]", chip or ""), f"--chip {chip}: the name is not UTF-8"),
         (parts is not None and not os.path.isfile(parts), f"--parts {parts}: not a file that each client can read"),
@@ -381,8 +435,14 @@ def main():
     if "--locked" in options and fails(built(None), *words, "-q", "-q", "-U", "lock:w:0xFC:m"):
         return 1
     heed_signals()
+    server, status = Server(door, command, idle, traffic, is_mega), 1
     try:
-        return Server(door, command, idle, traffic).serve_all(client, limit)
+        status = server.serve_all(client, limit)
+        return status
     finally:
         # (while Python ends, another signal would end it by that signal)
         ignore_signals()
+        if held is not None:
+            faults = [{"fault": it, "struck": traffic.struck[it]} for it in traffic.given]
+            held.update({"status": status, "seed": traffic.seed, "faults": faults, "sessions": server.sessions})
+            held["seconds"] = round(time.monotonic() - begun, 3)

@@ -40,12 +40,17 @@ PACKED = {
 # options of AVRDUDE and of avrstk
 SHORT = "p:c:P:U:b:C:l:B:E:i:x:T:Y:OtysueDVnFAqvh?"
 LONG = ["parts=", "serve=", "chip=", "wait=", "retry=", "backup=", "restore=", "json=", "try-rows=", "yes"]
-LONG += ["version", "help"]
+LONG += ["each=", "from=", "rows=", "counter=", "version", "help"]
 
 IGNORED = {"-C", "-s", "-u"}
 
 # options without a value that go to avrstk
 FLAGS = {"-e", "-D", "-V", "-n", "-F", "-A", "-q", "-v"}
+
+
+def is_port(device: Optional[str]) -> bool:
+    """Whether this is a port of avrstk's own, which needs no device."""
+    return bool(re.match(r"stdio:|emu:|net:", device or ""))
 
 
 def rows_of(name):
@@ -79,8 +84,9 @@ class Words:
         options, others = getopt.gnu_getopt(given, SHORT, LONG)
         self.last = last = dict(options)
         update, other = last.get("-U"), others[0] if others else ""
+        valued = [(name, value) for name, value in options if name in ("-p", "-P", "-b")]
         refuse(
-            *((last.get(it, "")[:1] == "-", f"{it} has no value before {last.get(it)}") for it in ("-p", "-P", "-b")),
+            *((value[:1] == "-", f"{name} has no value before {value}") for name, value in valued),
             (others and update in MEMORIES, f"an update is one word: give -U {':'.join([update or '', *others[:3]])}"),
             (re.match("-.", other), f"{other} is after --, which ends the options: leave out --"),
             (re.match(r"[a-z]+:[rwv]:", other), f"{other} has no option before it: give -U {other}"),
@@ -89,9 +95,13 @@ class Words:
         self.part, self.device, self.parts_file = last.get("-p"), last.get("-P"), last.get("--parts")
         self.programmer, baud = last.get("-c", "stk500v2"), last.get("-b")
         self.wait, self.retry = last.get("--wait", "0.3"), last.get("--retry", "0")
-        self.backup, self.restore, self.rows = (last.get(it) for it in ("--backup", "--restore", "--try-rows"))
-        # avrstk's own ports need no device
-        self.has_port = bool(re.match(r"stdio:|emu:|net:", self.device or ""))
+        self.backup, self.restore, self.trial = (last.get(it) for it in ("--backup", "--restore", "--try-rows"))
+        # all devices of the command. A station has several boards, or all that are there
+        self.devices = [value for name, value in options if name == "-P"]
+        self.is_station = len(self.devices) > 1 or self.devices == ["all"]
+        self.has_port = is_port(self.device)
+        # what is written for each board
+        self.each, self.each_given = None, [value for name, value in options if name == "--each"]
         self.is_wiring = self.programmer.lower() == "wiring"
         self.is_version1 = self.programmer.lower() in SPEEDS
         # whether the chip's own bootloader is meant, which a reset starts
@@ -101,7 +111,7 @@ class Words:
         self.speeds = known if baud is None else (int(baud),) if re.fullmatch(r"0*[1-9][0-9]{0,8}", baud) else ()
         self.given = [value for name, value in options if name == "-U"]
         self.updates = [Update(it) for it in self.given]
-        for name, others in [("--backup", "-U -e --restore"), ("--restore", "-U -e -D -V -n -F")]:
+        for name, others in [("--backup", "-U -e --each --restore"), ("--restore", "-U -e -D -V -n -F")]:
             found = [it for it in others.split() if name in last and it in last]
             refuse(
                 (found, f"{name} is for all memories, and verifies: leave out {' and '.join(found)}"),

@@ -13,6 +13,7 @@ pub mod Held
 pub mod Plans
 pub mod KnownFiles
 pub mod Outcomes
+pub mod Table
 pub mod ChipFile
 pub mod KeptByPort
 pub mod TwoProcesses

@@ -24,6 +24,11 @@ pub mod Promise
 pub mod Worked
 pub mod WorkedLoss
 pub mod Killed
+-- any programmer that keeps the rows
+pub mod Table
+pub mod Sheet
+pub mod KeptByAny
+pub mod EmulatedStates
 -- the program, port by port
 pub mod KeptByPort
 pub mod BegunByPort

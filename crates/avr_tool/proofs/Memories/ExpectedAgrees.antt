@@ -6,7 +6,6 @@ use Rattle.avr_part.specs.Part.{Part}
 use Rattle.avr_plan.specs.Plan.{Plan}
 use Rattle.avr_session.specs.Standing.{NoFault}
 use Rattle.avr_session.specs.Actions.{Action, actions}
-use Rattle.avr_session.specs.Session.{standing}
 use Rattle.stk_emu.specs.Effect.{Memories, effects}
 use Rattle.avr_tool.proofs.Given.Comparisons.{no_difference, held_same}
 use Rattle.avr_tool.proofs.WriteOperations.Pages.{effects_on}
