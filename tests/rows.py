@@ -365,7 +365,7 @@ def refused():
         f"{at} --try-rows -U lfuse:r:-:h": "--try-rows tries a programmer, and takes no -U",
         f"{at} --try-rows --json report": "--try-rows tries a programmer, and takes no --json",
         "-P emu:chip.bin -p m328p --try-rows": "--try-rows is for a serial device, not -P emu:chip.bin",
-        "-P /dev/null -p nosuch --try-rows": "the sizes of nosuch are not known here: nothing was sent, and the ",
+        "-P /dev/null -p nosuch --try-rows": "the sizes of nosuch are not known here: nothing was sent",
     }
     for words, why in cases.items():
         status, output, _, own = serial.run(words.split())
@@ -436,8 +436,7 @@ def version1():
     if missing:
         return leave_out("boards of version 1", f"{missing} is not installed")
     left = ["damaged frame", "writes EEPROM", "erases", "writes fuses", "writes lock"]
-    cases = [("optiboot-fast", "arduino", ALL, ["writes flash"], left)]
-    cases += [("ATmegaBOOT", "arduino", SAFE, [], [*left[:2], *WRITING])]
+    cases = [(it, "arduino", ALL, ["writes flash"], left) for it in ("optiboot-fast", "ATmegaBOOT")]
     if boards.SKETCH:
         cases.append(("ArduinoISP-fast", "arduino_as_isp", ALL, [], ["damaged frame"]))
     else:
@@ -448,7 +447,7 @@ def version1():
         seen(kind, rows_of(output), own, status, wrong, left, COMPARED + BY_A_GOOD_LINE)
         see(f"{kind}: the flash is as before", is_kept)
         if kind.startswith("ArduinoISP"):
-            same(f"{kind}: EEPROM, fuses and lock", rest, b"\xff" * EEPROM + boards.FUSES)
+            same(f"{kind}: EEPROM, fuses and lock", rest, b"\xff" * EEPROM + b"\x62\xd9\xff\xff")
 
 
 CASES = named(
