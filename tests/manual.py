@@ -210,8 +210,8 @@ def version_agrees():
     for C.)"""
     _, shown = of_help()
     see("--help shows the version", f"This is avrstk {VERSION}." in " ".join(shown.split()), shown[-200:])
-    newest = re.search(r"^## ([0-9.]+)", (TOP / "CHANGELOG.md").read_text(), re.M)[1]
-    same("the newest changes are its own", newest, VERSION)
+    newest = re.search(r"^## ([0-9.]+)|^No version .* will be ([0-9.]+\d)", (TOP / "CHANGELOG.md").read_text(), re.M)
+    same("the newest changes are its own", newest[1] or newest[2], VERSION)
 
 
 def runs_of_readme():

@@ -142,7 +142,9 @@ def usage(clone):
     """Runs the commands of docs/USAGE and EMULATOR that are in no list; those for an installed avrstk use one that
     install.sh has installed."""
     clone.types(["./install.sh ~/.local"])
-    for commands in blocks("docs/USAGE.md") + blocks("docs/EMULATOR.md"):
+    of_examples = re.findall(r"\| `(\./avrstk .*?)`", (TOP / "examples/README.md").read_text())
+    see("examples/README has commands", len(of_examples) > 3, of_examples)
+    for commands in [*blocks("docs/USAGE.md"), *blocks("docs/EMULATOR.md"), *([it] for it in of_examples)]:
         clone.tries(commands)
 
 

@@ -16,6 +16,7 @@ import sys
 from collections import defaultdict
 from datetime import datetime, timezone
 from pathlib import Path
+from textwrap import wrap
 
 from kept import TOP, kept
 
@@ -97,10 +98,11 @@ def axioms():
         words += ["--extern", f"{name}={TOP / place}"]
     words += ["-L", f"dependency={kit}/rlibs", "--antt-project", kit / "rattle/logic/antt-project.json"]
     words += ["--logic-built", kit / "logic_built"]
-    ran = subprocess.run(words, cwd=TOP / "crates" / PROGRAM, capture_output=True, text=True)
+    how = {"stdout": subprocess.PIPE, "stderr": subprocess.STDOUT, "text": True}
+    ran = subprocess.run(words, cwd=TOP / "crates" / PROGRAM, **how)
     found = defaultdict(list)
-    for name, of in filter(None, (REACHED.match(it) and REACHED.match(it).groups() for it in ran.stdout.splitlines())):
-        found[of].append(f"`{name}`")
+    for it in filter(None, map(REACHED.match, ran.stdout.splitlines())):
+        found[it[2]].append(it[1])
     return found
 
 
@@ -233,8 +235,12 @@ def page(log):
     crates, mutants, machine, summary = read(log)
     program, named = crates.get(PROGRAM, Crate()), axioms()
     stamp = TOP / "out/proved.stamp"
-    taken = [f"- *{of}*, {some} of {declared} declared" for of, (some, declared) in program.axioms.items()]
-    taken = [": ".join([it, *([", ".join(named[of])] if of in named else [])]) for it, of in zip(taken, program.axioms)]
+    taken = []
+    for of, (some, declared) in program.axioms.items():
+        taken.append(f"- *{of}*, {some} of {declared} declared")
+        taken += ["", *wrap(", ".join(named[of]), 110, initial_indent=" " * 6, subsequent_indent=" " * 6), ""] * (
+            of in named
+        )
     return TEMPLATE.format(
         program=PROGRAM,
         about="\n".join(about(log, machine)),
