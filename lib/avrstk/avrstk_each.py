@@ -17,7 +17,7 @@ SPEC = re.compile(r"(flash|eeprom)@(0[xX][0-9A-Fa-f]{1,8}|[0-9]{1,9})=(.+)", re.
 FIELD = re.compile(r"\{([^{}:]+)(?::(0?)([0-9]{0,2})([dxX]?))?\}")
 
 # the greatest number, and the most seconds to wait for the counter's lock
-MOST, PATIENCE = 10**15 - 1, 10
+MOST, PATIENCE = 10**15 - 1, 60
 
 # what begins a record that ends a file: Intel HEX's type 01, and S7 to S9
 ENDS = {"i": re.compile(rb"^:[0-9A-Fa-f]{6}01", re.M), "s": re.compile(rb"^S[789]", re.M)}
