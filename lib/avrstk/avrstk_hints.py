@@ -128,9 +128,8 @@ def unread(words: Words, found: Match[str]) -> str:
     if other and other != update.format:
         return f"it has {FORMATS.get(other)}: give {update.memory}:{update.operation}:{update.file}:{other}"
     if re.search(rb"^" + RECORD.pattern, held, re.M):
-        return (
-            "something is above its first record: delete it if it is a comment, else build or download the file again"
-        )
+        cure = "delete it if it is a comment, else build or download the file again"
+        return f"something is above its first record: {cure}"
     return f"it is not {FORMATS.get(update.format or '')}"
 
 
