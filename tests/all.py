@@ -53,7 +53,7 @@ LIBRARY = ("from_c",)
 # scripts that take seconds
 SHORT = ("runs", "lines", "made_frames", "manual")
 # scripts that ./test runs with the unproved program; the longest first, the longest of all in two halves
-HALVES = tuple(f"{name} {half}" for name in ("serve", "recipes", "serial") for half in ("1/2", "2/2"))
+HALVES = tuple(f"{name} {half}" for name in ("serve", "recipes", "serial", "station") for half in ("1/2", "2/2"))
 QUICK = (*HALVES, "boards", "bad_lines", "avrdude", "chips", "drawn_runs", "why", "hostile", "parts", *SHORT)
 # those that --all runs with both programs: two compilers made what these compare byte for byte
 BOTH = ("runs", "lines")

@@ -411,7 +411,8 @@ def refused():
         # (a device without a programmer)
         it = Board(talk=b".")
         part = [] if words[:1] == ["-e"] else ["-p", "m328p"]
-        status, output, _, own = run([*part, "-P", it.device, *words])
+        device = [] if "-P" in words else ["-P", it.device]
+        status, output, _, own = run([*part, *device, *words])
         own = [row for row in own if not row.endswith("is read as Intel HEX (:i)")]
         opened = it.opened
         it.end()
@@ -1742,7 +1743,8 @@ def reports():
         leave_out("the schema of reports", "python3-jsonschema is not installed")
     for board, words, kind, chip, error in table("reports"):
         it = Board(**board_of(board.strip("-")))
-        words = ["-p", "m328p", "-P", it.device, *words.split(), "--json", "report.json"]
+        device = [] if "-P " in words else ["-P", it.device]
+        words = ["-p", "m328p", *device, *words.split(), "--json", "report.json"]
         status, *_, own = run(words)
         it.end()
         found, what = report_of("report.json"), f"{board}, {words}"

@@ -8,6 +8,7 @@ Not proved: No proof covers avrstk-serve, which is Python, and sockets and termi
 """
 
 import ast
+import json
 import os
 import pty
 import resource
@@ -698,11 +699,53 @@ def faults():
         leave_out("faults with AVRDUDE", "AVRDUDE 7.1 is not installed")
 
 
+def reports():
+    """--json writes each session: commands, faults, and whether the chip was saved; also for refused options."""
+    with Serving("--json", "report.json", "--drop", "SIGN_ON#2", "--lose", "CHIP_ERASE", "--idle", "1") as it:
+        with it.call() as client:
+            see("a session", begins(client))
+            client.sendall(FRAMES[1])
+            same("its second reply", heard(client, ENDS[1] - ENDS[0]), REPLIES[ENDS[0] : ENDS[1]])
+        with it.call() as client:
+            client.sendall(FRAMES[0])
+            same("an idle one ends", heard(client, 1), b"")
+        with it.call() as client:
+            see("one whose run is killed", begins(client))
+            (run,) = runs()
+            os.kill(run, signal.SIGKILL)
+            same("it is hung up on", client.recv(1), b"")
+        same("its status", it.end()[0], 1)
+    held = report()
+    faults = [{"fault": "--drop SIGN_ON#2", "struck": 1}, {"fault": "--lose CHIP_ERASE", "struck": 0}]
+    same("the faults", (held["status"], held["faults"], held["seed"]), (1, faults, None))
+    sessions = [(it["commands"], len(it["faults"]), it["idle"], it["saved"]) for it in held["sessions"]]
+    same("the sessions", sessions, [(2, 0, False, True), (1, 1, True, True), (1, 0, False, False)])
+    found, *_ = ran(["0", *M328P, "--json", "report.json", "--seed", "7", "--drop", "2%", "--", "sh", "-c", "exit 7"])
+    same("a command's status", (found, report()["status"], report()["seed"]), (7, 7, 7))
+    found, told, _ = ran(["0", "-p", "m328p", "--json", "report.json"])
+    same("refused", (found, report()["error"]), (1, told[len("avrstk-serve: ") : -1]))
+    room.put("chip.bin", b"no chip")
+    same("its own chip", ran(["0", *M328P, "--json", "./chip.bin"])[0], 1)
+    same("the chip stays", room.read("chip.bin"), b"no chip")
+
+
+def report():
+    """Returns the report, which has to fit its schema."""
+    held = json.loads(room.read("report.json"))
+    try:
+        import jsonschema
+    except ModuleNotFoundError:
+        leave_out("the schema of reports", "python3-jsonschema is not installed")
+        return held
+    jsonschema.validate(held, json.loads((TOP / "docs/report.schema.json").read_text()))
+    return held
+
+
 CASES = named(
     *(listens, clients_that_send_nothing, one_after_another, half_closed, clients_that_reset, a_chip_in_use),
     *(idle_clients, ends_at_a_signal, refused, installed, status_of_sessions, a_command),
     *(no_inner_port, errors_end_one_session, signals_that_are_ignored, other_addresses, devices, logged),
-    *(avrdudes_in_a_row, faults, a_job_ends, at_a_terminal, logs_that_take_no_more),
+    *(avrdudes_in_a_row, faults, a_job_ends, at_a_terminal, logs_that_take_no_more, reports),
 )
 
 # an idle time, or AVRDUDE's own timeouts

@@ -71,6 +71,13 @@ class Signals:
     def note(self, number: int) -> None:
         self.ends[1].send(bytes([number]))
 
+    def begin_anew(self) -> None:
+        """Forgets the signals received. After a fork those that come next are this process's own."""
+        received, noted = socket.socketpair()
+        noted.setblocking(False)
+        for new, old in zip((received, noted), self.ends):
+            os.dup2(new.fileno(), old.fileno(), False)
+
     def heed(self, number: int) -> None:
         """Notes this signal from now on."""
         signal.set_wakeup_fd(self.ends[1].fileno(), warn_on_full_buffer=False)
@@ -99,6 +106,9 @@ class Messages:
     def __init__(self) -> None:
         self.waiting, self.lost, self.drawn = b"", False, 0
         self.log: io.FileIO | None = None
+        # whether progress is drawn, and what draws it in place of this class
+        self.is_drawn = os.isatty(2)
+        self.painter: Callable[[str], None] | None = None
 
     def send(self, piece: bytes = b"", until: float | None = None) -> None:
         """Prints as much as a file takes that is ready, or gets ready by then: at most PIPE_BUF bytes don't block."""
@@ -121,7 +131,9 @@ class Messages:
 
     def draw(self, text: str) -> None:
         """Draws a progress line in place of the one before; an empty text removes that."""
-        if text or self.drawn:
+        if self.painter:
+            self.painter(text)
+        elif text or self.drawn:
             wide = os.get_terminal_size(2).columns if os.isatty(2) else 0
             text = text[: (wide or 80) - 1]
             self.send(f"\r{text.ljust(self.drawn)}".encode() + (b"" if text else b"\r"))
@@ -282,6 +294,7 @@ def stamp_of(file: str) -> str:
     return ""
 
 
+@functools.lru_cache(maxsize=None)
 def version() -> str:
     """Returns the version of avrstk, and lines of its build's stamp: whether it is proved, its commit and kit."""
     file = built()

@@ -7,8 +7,8 @@ import re
 import struct
 from typing import Iterable, Iterator, NamedTuple, Tuple
 
-# place and bytes of a run of bytes
-Run = Tuple[int, memoryview]
+# the address of bytes, and these
+Run = Tuple[int, bytes]
 
 # the addresses of each memory in an ELF file, and all that it may have (a signature names the part, and is not written)
 AREAS = {"flash": (0, 0x800000), "eeprom": (0x810000, 0x820000), "lock": (0x830000, 0x830001)}

@@ -130,9 +130,9 @@ class Traffic:
         self.refused = {code for option, codes in REFUSED.items() if option in last for code in codes}
         self.client = self.count = 0
         self.log: Log | None = None
-        # how many commands of each name there were, and the options whose faults have struck
+        # how many commands of each name there were, and how many commands the fault of each option has struck
         self.names: collections.Counter[str] = collections.Counter()
-        self.struck: set[str] = set()
+        self.struck: collections.Counter[str] = collections.Counter()
         # of this client: whether its session has erased the chip, and the commands without a reply so far
         self.has_erased = False
         self.waiting: collections.deque[Waiting] = collections.deque()
@@ -148,7 +148,9 @@ class Traffic:
             for fault in ["--lose", "--lose-reply"] if option == "--drop" else [option]:
                 is_meant = which(value.partition(":")[0] if option == "--late" else value, chance)
                 self.faults.append(Planned(fault, is_meant, f"{option} {value}"))
-        if any("%" in value for _, value in given):
+        # (a report has it if it was used)
+        self.seed = int(seed) if any("%" in value for _, value in given) else None
+        if self.seed is not None:
             say(f"--seed {seed} makes the same faults again")
 
     def open(self, *files: str | None) -> None:
@@ -195,7 +197,7 @@ class Traffic:
         own = str(self.count), name, f"{name}#{self.names[name]}"
         meant = [fault for fault in self.faults if fault.is_meant(own)]
         faults = [fault.option for fault in meant]
-        self.struck |= {fault.given for fault in meant}
+        self.struck.update({fault.given for fault in meant})
         if "--lose" in faults:
             self.note(line, ["lost"])
             return b""

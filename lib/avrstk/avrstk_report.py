@@ -92,18 +92,26 @@ class Report:
             **{what: self.count(words, update, what) for what in ("written", "verified", "read")},
         }
 
-    def made(self, words: Words, status: int, number: int | None) -> dict[str, object]:
-        """Returns the report. `number` is the signal that ended the run."""
-        rows = version().splitlines()
-        signature = next((line[19:] for line in self.lines if line.startswith("device signature = ")), None)
+    def outcome(self, words: Words, status: int, number: int | None) -> dict[str, object]:
+        """Returns how the run ended. `number` is the signal that ended it."""
         has_hint = self.fault is not None and self.fault != self.error()
         return {
-            "report": 1,
-            "program": NAME,
-            "version": rows[0].partition(" ")[2],
-            "commit": next((row.partition(": ")[2] for row in rows if row.startswith("commit: ")), None),
-            "proved": rows[1:2] == ["proved"] and not words.is_version1,
             "status": status,
+            "seconds": round(time.monotonic() - self.begun, 3),
+            "chip": self.chip(words, status),
+            "kind": ("interrupted" if number else self.kind()) if status else None,
+            "error": self.error() if status else None,
+            "hint": self.fault if status and has_hint else None,
+            **(words.each.reported() if words.each else {}),
+        }
+
+    def made(self, words: Words, status: int, number: int | None) -> dict[str, object]:
+        """Returns the report."""
+        built = build()
+        signature = next((line[19:] for line in self.lines if line.startswith("device signature = ")), None)
+        return {
+            **built,
+            "proved": built["proved"] and not words.is_version1,
             "device": words.device,
             "programmer": words.programmer,
             "part": words.part,
@@ -112,12 +120,20 @@ class Report:
             "commands": sum(run.sent for run in self.runs),
             "repeated": sum(run.repeated for run in self.runs),
             "retries": max(0, words.tries - 1),
-            "seconds": round(time.monotonic() - self.begun, 3),
-            "chip": self.chip(words, status),
-            "kind": ("interrupted" if number else self.kind()) if status else None,
-            "error": self.error() if status else None,
-            "hint": self.fault if status and has_hint else None,
+            **self.outcome(words, status, number),
         }
+
+
+def build() -> dict[str, object]:
+    """Returns the fields of a report about avrstk itself."""
+    rows = version().splitlines()
+    return {
+        "report": 1,
+        "program": NAME,
+        "version": rows[0].partition(" ")[2],
+        "commit": next((row.partition(": ")[2] for row in rows if row.startswith("commit: ")), None),
+        "proved": rows[1:2] == ["proved"],
+    }
 
 
 def write(place: str, report: dict[str, object]) -> None:

@@ -5,8 +5,10 @@ from __future__ import annotations
 from avrstk_common import BUILT_IN, READ, WRITE, Fault, Frames, Source, Way, came, data_file, ended_by, heed_signals
 from avrstk_common import is_frame, messages, parts, ready, say, session_program, show, text_of, version, wait
 from avrstk_backup import asking, back_up, restored
+from avrstk_each import Each
 from avrstk_report import Report, write
 from avrstk_hints import LEAVE, NO_CHIP, NO_SIGNATURES, ONE_IMAGE, SIGN_ON, Outcome, hint, state_of
+from avrstk_station import station
 from avrstk_version1 import SPEEDS, Bridge
 from avrstk_words import FORMATS, FUSES, UNOPENED, Update, Words, long_name, parts_of
 
@@ -252,7 +254,7 @@ class Progress:
     """Draws on a terminal what is written or read, the share of the run's frames that were sent, and the time left."""
 
     def __init__(self, words: Words) -> None:
-        self.is_wanted = os.isatty(2) and "-q" not in words.flags and not words.has_port
+        self.is_wanted = messages.is_drawn and "-q" not in words.flags and not words.has_port
         self.total, self.begun = words.plan().frames if self.is_wanted else 0, time.monotonic()
         # what is written or read, and how many bytes of it were; how many frames were sent, and when that was drawn
         self.what: str | None = None
@@ -477,8 +479,8 @@ def leave_to_other(words: Words) -> None:
     """Runs the program that AVRSTK_ELSE names with the same options, if programmer, port or part are not avrstk's."""
     why = why_other(words)
     other = other_program() if why else None
-    # (it doesn't know the script's own options)
-    if other and not any(option.startswith("--") for option in words.last):
+    # (it doesn't know the script's own options, and takes one port)
+    if other and not words.is_station and not any(option.startswith("--") for option in words.last):
         say(f"{why}: {other} runs in place of avrstk")
         messages.finish()
         environment = {name: value for name, value in os.environ.items() if name != "AVRSTK_ELSE"}
@@ -493,21 +495,28 @@ def judge(words: Words) -> None:
     for update in words.updates:
         is_read = update.is_image and not os.path.isdir(update.file)
         update.judge(words.content(update.file) if is_read else None)
+    if words.each or words.is_station:
+        check(words)
+    if words.each:
+        words.each.judge(words)
+        check(words)
+    for update in words.updates:
         if words.is_wiring and update.memory == "eeprom":
             size = words.field("eeprom_size") if update.operation == "r" else update.size()
             if size is None or size > 256:
                 why = "a bootloader reads other addresses above 255: use a programmer"
                 raise Fault(f"-U {update.given}: {why}: {UNOPENED}")
     words.report.stage = "device"
-    if not words.has_port:
+    if not words.has_port and not words.is_station:
         judge_device(words.device)
     words.report.stage = "arguments"
     if words.is_bootloader:
         judge_bootloader(words)
     if words.part != "auto":
         judge_part(words, UNOPENED)
-    if re.fullmatch("net:[^:]*", words.device or ""):
-        raise Fault(f"-P {words.device}: a port of a network is -P net:HOST:PORT")
+    for device in words.devices:
+        if re.fullmatch("net:[^:]*", device):
+            raise Fault(f"-P {device}: a port of a network is -P net:HOST:PORT")
     if not re.fullmatch(r"[0-9]{1,2}", words.retry):
         raise Fault(f"--retry {words.retry}: not a number from 0 to 99")
     if not words.has_port and not os.path.exists("/proc/net"):
@@ -535,26 +544,55 @@ def judge_options(words: Words) -> None:
         raise Fault(f"-c {words.programmer} is for a serial device, not -P {words.device}")
 
 
-def judge_files(words: Words) -> None:
-    """Refuses an output that is another file of this command, and the device as an image, before a file is opened."""
-    for update in words.updates:
-        if words.device and update.is_image and is_one(update.file, words.device):
+def check(words: Words) -> None:
+    """Lets avrstk_session judge the command line and the images, before several runs begin or a number is taken."""
+    if words.part == "auto":
+        return
+    only, quiet = copy.copy(words), subprocess.DEVNULL
+    only.updates = [update for update in words.updates if not update.is_stream()]
+    only.given = [update.given for update in only.updates]
+    try:
+        program = session_program(quiet)
+    except SystemExit:
+        # (nothing is built: this reports it)
+        program = session_program()
+    command = [program, *only.options("stdio:")]
+    ran = subprocess.run(command, stdin=quiet, stdout=quiet, stderr=subprocess.PIPE, close_fds=False)
+    if ran.returncode:
+        shown = [words.shown(line) for line in ran.stderr.splitlines()]
+        messages.put(b"".join(line + b"\n" for line in shown))
+        texts = [os.fsdecode(line).partition("avrstk: ")[2] for line in shown]
+        for text in texts:
+            words.report.note(text)
+        error = next((text[7:] for text in texts if text.startswith("error: ")), "")
+        raise Fault(hint(Outcome(only, error=error), None))
+
+
+def judge_files(words: Words, begin: str = "") -> None:
+    """Refuses an output that is another file of this command, and the device as an image, before a file is opened. With
+    `begin` only the outputs of options that begin so are judged."""
+    for update in words.updates if not begin else []:
+        if update.is_image and any(is_one(update.file, device) for device in words.devices):
             raise Fault(f"-U {update.given}: that file is the device: {UNOPENED}")
-    port = (words.device or "").partition("emu:")[2]
-    chips = [f"{port}{end}" for end in ("", ".avrstk-new", ".avrstk-lock") if port]
+    ports = [device.partition("emu:")[2] for device in words.devices]
+    chips = [f"{port}{end}" for port in ports for end in ("", ".avrstk-new", ".avrstk-lock") if port]
     inputs = {update.file: "an image" for update in words.updates if update.is_image}
-    inputs.update({words.parts_file or data_file("classic.toml"): "the part file", words.device or "": "the device"})
+    inputs.update({words.parts_file or data_file("classic.toml"): "the part file"})
+    inputs.update(dict.fromkeys(words.devices, "the device"))
     inputs.update(dict.fromkeys(chips, "the chip"))
+    inputs.update({words.last["--rows"]: "the table"} if "--rows" in words.last else {})
     # (without a part file)
     inputs.pop(os.devnull, None)
-    outputs = [(f"-U {it.given}", it.file) for it in words.updates if it.operation == "r" and it.file != "-"]
-    outputs += [(f"{name} {words.last[name]}", words.last[name]) for name in ("-l", "--backup") if name in words.last]
+    outputs = [(f"-U {it.given}", it.file) for it in words.updates if it.operation == "r"]
+    names = [it for it in ("-l", "--backup", "--counter", "--json") if it in words.last]
+    outputs += [(f"{it} {words.last[it]}", words.last[it]) for it in names]
+    outputs = [it for it in outputs if it[1] != "-"]
     for number, (word, file) in enumerate(outputs):
         taken = next((what for name, what in inputs.items() if name and is_one(file, name)), None)
         # (a stream takes several outputs)
         is_file = os.path.isfile(file) or not os.path.exists(file)
         other = next((before for before, name in outputs[:number] if is_file and is_one(file, name)), None)
-        if taken or other:
+        if word.startswith(begin) and (taken or other):
             raise Fault(f"{word}: that file is {taken or f'also the one of {other}'}: {UNOPENED}")
 
 
@@ -635,6 +673,8 @@ def ran(words: Words, put: Callable[[bytes], None] = messages.put, earlier: froz
     count = int(words.retry)
     while True:
         words.tries += 1
+        if words.each:
+            words.each.give(words)
         run = Run(words, earlier, put)
         outcome = run.outcome
         words.report.runs.append(outcome)
@@ -669,7 +709,7 @@ def ask(words: Words, flags: list[str], updates: list[Update], part: str | None 
     """Runs a session before the run. It writes nothing, and prints nothing if all goes well. Returns its outcome and
     its lines."""
     session = copy.copy(words)
-    session.flags, session.updates, session.part = flags, updates, part or words.part
+    session.flags, session.updates, session.part, session.each = flags, updates, part or words.part, None
     lines: list[bytes] = []
     outcome = ran(session, lines.append)
     words.speeds = session.speeds
@@ -701,12 +741,16 @@ def detect(words: Words) -> set[int]:
 
 def prepare(words: Words) -> None:
     """Judges the command line, makes the log and the folder that it names, and prints what is understood otherwise."""
+    lone = [option for option in ("--from", "--rows", "--counter") if option in words.last and not words.each_given]
+    if lone:
+        raise Fault(f"{' and '.join(lone)}: for what --each writes, which is not given")
     if words.restore is not None:
         try:
             words.updates, words.flags = restored(words, words.restore), [*words.flags, "-e"]
         except Fault as fault:
             raise Fault(f"{fault}: {UNOPENED}")
     words.report.stage = "file"
+    words.each = Each(words) if words.each_given else None
     judge_files(words)
     words.report.stage = "arguments"
     judge(words)
@@ -736,9 +780,26 @@ def reported(words: Words) -> int:
 def serve(words: Words) -> int:
     prepare(words)
     heed_signals()
+    return perform(words)
+
+
+def perform(words: Words) -> int:
     if words.backup is not None:
         return back_up(words, words.backup, lambda: execute(words))
     return execute(words)
+
+
+def live(words: Words) -> int:
+    """Makes the run of one of several boards, in a process of its own."""
+    words.report.stage = "file"
+    judge_files(words)
+    for update in words.updates:
+        if update.operation == "r":
+            update.judge(None)
+    words.report.stage = "device"
+    if not words.has_port:
+        judge_device(words.device)
+    return perform(words)
 
 
 def execute(words: Words) -> int:
@@ -779,5 +840,7 @@ def main(help_text: str) -> int:
     elif words.programmer == "?":
         show("\n".join(SPEAKING))
     else:
-        return reported(words)
+        # (a refused command has a report, too, but not in place of its own files)
+        judge_files(words, "--json ")
+        return station(words, DEVICES, prepare, live) if words.is_station else reported(words)
     return 0

@@ -3,8 +3,9 @@
 from __future__ import annotations
 
 from avrstk_common import ENDING, READ, Fault, Source, Way, built, came, ended_by, heed_signals, part_words
-from avrstk_common import readable, ready, say, session_program, show, unchanged, version, wait
+from avrstk_common import readable, ready, say, session_program, show, text_of, unchanged, version, wait
 from avrstk_faults import FAULTS, REFUSED, Traffic, seconds
+from avrstk_report import build, write
 
 import atexit
 import contextlib
@@ -33,7 +34,7 @@ PATIENCE = 8
 GRACE = 10
 
 LONG = ["parts=", "chip=", "idle=", "listen=", "pty=", "timeout=", "log=", "log-limit=", "seed=", "locked"]
-LONG += ["strict", "version", "help"]
+LONG += ["strict", "json=", "version", "help"]
 LONG += [option[2:] + "=" for option in FAULTS] + [option[2:] for option in REFUSED]
 
 # a client: its connection, or its terminal
@@ -231,6 +232,8 @@ class Server:
 
     def __init__(self, door: Door, program: list[str], idle: float | None, traffic: Traffic | None) -> None:
         self.door, self.program, self.idle, self.traffic, self.has_failed = door, program, idle, traffic, False
+        # what --json has of each session
+        self.sessions: list[dict[str, object]] = []
 
     def serve_all(self, command: list[str], limit: float | None) -> int:
         """Serves while this command runs, for at most `limit` seconds, or until a signal comes. Returns the status."""
@@ -283,8 +286,25 @@ class Server:
                 until = time.monotonic() + grace
 
     def serve(self, client: Client) -> bool:
+        """Serves one client, and notes the session for a report. Returns whether the client ended it, and its chip was
+        saved."""
+        traffic, begun = self.traffic, time.monotonic()
+        count, struck = (traffic.count, traffic.struck.copy()) if traffic else (0, None)
+        is_well = is_saved = False
+        try:
+            is_well, is_saved = self.run_for(client)
+        finally:
+            if traffic and struck is not None:
+                new = {fault: traffic.struck[fault] - struck[fault] for fault in traffic.given}
+                faults = [{"fault": fault, "struck": times} for fault, times in new.items() if times]
+                session: dict[str, object] = {"commands": traffic.count - count, "faults": faults}
+                session["seconds"] = round(time.monotonic() - begun, 3)
+                self.sessions.append({**session, "idle": is_saved and not is_well, "saved": is_saved})
+        return is_well and is_saved
+
+    def run_for(self, client: Client) -> tuple[bool, bool]:
         """Serves one client by a run of its own. On return the run has ended and saved the chip. Returns whether the
-        client ended the session, and its chip was saved."""
+        client was not idle, and whether its chip was saved."""
         line, other = socket.socketpair()
         with line:
             with other:
@@ -307,7 +327,7 @@ class Server:
             how = f"status {run.returncode}" if run.returncode > 0 else f"ended by signal {-run.returncode}"
             self.has_failed = True
             say(f"a session failed ({how}): its changes may not be in the chip file")
-        return is_well and not run.returncode
+        return is_well, not run.returncode
 
     def pass_on(self, client: Client, line: socket.socket) -> bool:
         """Passes bytes between a client and its run until either has gone, the client is idle, or a signal comes.
@@ -412,9 +432,32 @@ def main(help_text: str) -> int:
     if {"-h", "--help", "--version"} & set(options) or not sys.argv[1:]:
         show(version() if "--version" in options else help_text)
         return 0
+    if "--json" not in options:
+        return serve(given, places, client)
+    own = {name: options[name] for name in ("--chip", "--parts", "--log") if name in options}
+    same = [name for name, file in own.items() if os.path.realpath(file) == os.path.realpath(options["--json"])]
+    if same:
+        raise Fault(f"--json {options['--json']}: this is the file of {' and '.join(same)}")
+    report: dict[str, object] = {"status": 1, "error": None, "part": options.get("-p"), "chip": options.get("--chip")}
+    report.update({"command": client or None, "seed": None, "seconds": 0.0, "faults": [], "sessions": []})
+    try:
+        return serve(given, places, client, report)
+    except (Fault, OSError) as fault:
+        report["error"] = text_of(fault)
+        raise
+    finally:
+        write(options["--json"], {**build(), **report})
+
+
+def serve(
+    given: list[tuple[str, str]], places: list[str], client: list[str], report: dict[str, object] | None = None
+) -> int:
+    """Serves by these options until a signal or the client's end. `report` gets its fields, if one is asked for.
+    Returns the status."""
+    options, begun = dict(given), time.monotonic()
     idle, limit = (seconds(it, options[it]) if it in options else None for it in ("--idle", "--timeout"))
     door, chip, parts = door_of(places, options, idle, client), options.get("--chip"), options.get("--parts")
-    traffic = Traffic(given) if {"--log", *FAULTS, *REFUSED} & set(options) else None
+    traffic = Traffic(given) if {"--log", "--json", *FAULTS, *REFUSED} & set(options) else None
     if chip is None:
         raise Fault("no chip file given (--chip)")
     if re.search(r"[\udc80-\udcff]", chip):
@@ -434,8 +477,14 @@ def main(help_text: str) -> int:
     if "--locked" in options and fails(built(), *words, "-q", "-q", "-U", "lock:w:0xFC:m"):
         return 1
     heed_signals()
+    server, status = Server(door, command, idle, traffic), 1
     try:
-        return Server(door, command, idle, traffic).serve_all(client, limit)
+        status = server.serve_all(client, limit)
+        return status
     finally:
         # (while Python ends, another signal would end it by that signal)
         ignore_signals()
+        if report is not None and traffic:
+            faults = [{"fault": fault, "struck": traffic.struck[fault]} for fault in traffic.given]
+            report.update({"status": status, "seed": traffic.seed, "faults": faults, "sessions": server.sessions})
+            report["seconds"] = round(time.monotonic() - begun, 3)

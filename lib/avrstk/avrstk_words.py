@@ -17,6 +17,7 @@ from pathlib import Path
 from typing import TYPE_CHECKING, Mapping, NamedTuple, Sequence
 
 if TYPE_CHECKING:
+    from avrstk_each import Each
     from avrstk_report import Report
 
 FUSES = ["lfuse", "hfuse", "efuse", "lock"]
@@ -45,6 +46,7 @@ PACKED = {
 # options of AVRDUDE and of avrstk
 SHORT = "p:c:P:U:b:C:l:B:E:i:x:T:Y:OtysueDVnFAqvh?"
 LONG = ["parts=", "serve=", "chip=", "wait=", "retry=", "backup=", "restore=", "json=", "version", "help"]
+LONG += ["each=", "from=", "rows=", "counter="]
 
 IGNORED = {"-C", "-s", "-u"}
 
@@ -76,6 +78,11 @@ def plan_of(options: tuple[str, ...]) -> Plan:
     return Plan(int(rows[0][1]), pages) if rows else UNKNOWN
 
 
+def is_port(device: str | None) -> bool:
+    """Whether this is a port of avrstk's own, which needs no device."""
+    return bool(re.match(r"stdio:|emu:|net:", device or ""))
+
+
 def rows_of(name: str) -> list[tuple[str, str]]:
     """Returns the rows of a data file: words, and a text after them; none if it is not there."""
     rows = [row.partition(": ") for row in Path(data_file(name)).read_text("ascii").splitlines()]
@@ -104,13 +111,18 @@ class Words:
         self.unproved = given[:1] == ["--unproved"]
         options, others = getopt.gnu_getopt(given[self.unproved :], SHORT, LONG)
         self.last = last = dict(options)
-        judge_words(last, others)
+        judge_words(options, others)
         self.part, self.device, self.parts_file = last.get("-p"), last.get("-P"), last.get("--parts")
         self.programmer, baud = last.get("-c", "stk500v2"), last.get("-b")
         self.wait, self.retry = last.get("--wait", "0.3"), last.get("--retry", "0")
         self.backup, self.restore = last.get("--backup"), last.get("--restore")
-        # avrstk's own ports need no device
-        self.has_port = bool(re.match(r"stdio:|emu:|net:", self.device or ""))
+        # all devices of the command. A station has several boards, or all that are there
+        self.devices = [value for name, value in options if name == "-P"]
+        self.is_station = len(self.devices) > 1 or self.devices == ["all"]
+        self.has_port = is_port(self.device)
+        # what is written for each board
+        self.each: Each | None = None
+        self.each_given = [value for name, value in options if name == "--each"]
         self.is_wiring = self.programmer.lower() == "wiring"
         self.is_version1 = self.programmer.lower() in SPEEDS
         # whether the chip's own bootloader is meant, which a reset starts
@@ -120,7 +132,7 @@ class Words:
         self.speeds = known if baud is None else (int(baud),) if re.fullmatch(r"0*[1-9][0-9]{0,8}", baud) else ()
         self.given = [value for name, value in options if name == "-U"]
         self.updates = [Update(update) for update in self.given]
-        for name, excluded in [("--backup", "-U -e --restore"), ("--restore", "-U -e -D -V -n -F")]:
+        for name, excluded in [("--backup", "-U -e --each --restore"), ("--restore", "-U -e -D -V -n -F")]:
             found = [option for option in excluded.split() if name in last and option in last]
             if found:
                 raise Fault(f"{name} is for all memories, and verifies: leave out {' and '.join(found)}")
@@ -221,16 +233,16 @@ class Words:
         return [at for at, _ in pages] == ends[:-1]
 
 
-def judge_words(last: Mapping[str, str], others: Sequence[str]) -> None:
-    """Refuses options without a value, and words without an option. (`last` has the last value of each option.)"""
-    for option in ("-p", "-P", "-b"):
-        if last.get(option, "").startswith("-"):
-            raise Fault(f"{option} has no value before {last[option]}")
+def judge_words(options: Sequence[tuple[str, str]], others: Sequence[str]) -> None:
+    """Refuses options without a value, and words without an option."""
+    for option, value in options:
+        if option in ("-p", "-P", "-b") and value.startswith("-"):
+            raise Fault(f"{option} has no value before {value}")
     if not others:
         return
-    other = others[0]
-    if last.get("-U") in MEMORIES:
-        raise Fault(f"an update is one word: give -U {':'.join([last['-U'], *others[:3]])}")
+    other, update = others[0], dict(options).get("-U", "")
+    if update in MEMORIES:
+        raise Fault(f"an update is one word: give -U {':'.join([update, *others[:3]])}")
     if re.match(r"[a-z]+:[rwv]:", other):
         raise Fault(f"{other} has no option before it: give -U {other}")
     raise Fault(f"{other} has no option before it: a file is given as -U flash:w:{other}")
@@ -397,8 +409,11 @@ class Update:
         detected = {b":": "i", b"S": "s"}.get(self.front.lstrip()[:1], "r")
         return detected if self.format in (None, "a") else self.format
 
+    def writes(self, memory: str) -> bool:
+        return self.operation == "w" and self.memory == memory
+
     def writes_flash(self) -> bool:
-        return self.operation == "w" and self.memory == "flash"
+        return self.writes("flash")
 
 
 def read_whole(file: str) -> bytes | None:
