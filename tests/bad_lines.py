@@ -241,8 +241,8 @@ def words_of(flash):
 
 
 class SmallPlan:
-    """A plan that is drawn for the small part: it writes, compares and reads memories. `given` has its files, `read` the
-    files that it reads, and `chip` and `left` the chip before and after it."""
+    """A plan that is drawn for the small part: it writes, compares and reads memories. `given` has its files, `read`
+    the files that it reads, and `chip` and `left` the chip before and after it."""
 
     def __init__(self, seed):
         draw = random.Random(f"small plan {seed}")
@@ -274,8 +274,8 @@ class SmallPlan:
         self.left = bytes(left)
 
     def run(self, fates):
-        """Makes a run over a link with these fates. Returns its status and lines, the chip and the files that it read, and
-        the number of frames."""
+        """Makes a run over a link with these fates. Returns its status and lines, the chip and the files that it read,
+        and the number of frames."""
         room = Room()
         for name, content in (self.given | {"served.bin": self.chip}).items():
             room.put(name, content)

@@ -43,7 +43,8 @@ SKETCHES = [TOP / "out/ArduinoISP.ino", Path("/usr/share/doc/arduino/examples/11
 SKETCH = next((it for it in SKETCHES if it.exists()), None)
 FLASH, EEPROM, PAGE = 32_768, 1_024, 128
 FUSES = bytes([0x62, 0xD9, 0xFF, 0xFF])
-TINY = '[parts.tiny]\nsignature = "1E950F"\nflash_size = 2048\nflash_page = 128\neeprom_size = 64\neeprom_page = 4\neesave_bit = 3\n'
+TINY = '[parts.tiny]\nsignature = "1E950F"\nflash_size = 2048\nflash_page = 128\neeprom_size = 64\neeprom_page = 4\n'
+TINY += "eesave_bit = 3\n"
 # of each kind: where its code starts, and its speed
 KINDS = {
     "optiboot": (0x7E00, 115_200),
@@ -359,8 +360,8 @@ def damaged_erases():
 
 
 def lost_end():
-    """The reply to the last command of a session with an Uno is lost or damaged. The command is repeated, and the status
-    is 0."""
+    """The reply to the last command of a session with an Uno is lost or damaged. The command is repeated, and the
+    status is 0."""
     words, size, old = ["-D"], 300, random.Random(9).randbytes(FLASH)
     prepare("optiboot-fast", size)
 
@@ -446,10 +447,10 @@ FUSES_TYPED = (
 )
 STAND_IN = """import os, signal, sys
 sys.path[:1], sys.dont_write_bytecode, sys.argv[0] = [{lib!r}], True, {script!r}
-__doc__ = ""
 import avrstk_serial
+from avrstk_common import run
 avrstk_serial.Device.pulse = lambda self: os.kill({pid}, signal.SIGUSR1)
-avrstk_serial.run(avrstk_serial.main, needs_lines=True)
+run(avrstk_serial.main, "", needs_lines=True)
 """
 
 
@@ -530,7 +531,8 @@ class Leaving(serial.Bootloader):
 
 
 def lost_end_of_wiring():
-    """With -c wiring a lost reply to LEAVE doesn't fail a run whose image is there: a reset starts the bootloader again."""
+    """With -c wiring a lost reply to LEAVE doesn't fail a run whose image is there: a reset starts the bootloader
+    again."""
     board = Leaving(b"\xff" * FLASH)
     at = serial.Board(server=board)
     room.put("image.hex", hex_of([(0, bytes(256))]))

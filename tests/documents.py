@@ -1,8 +1,8 @@
 #!/usr/bin/env python3
 """Compares what docs/CHECK and CONTRIBUTING quote with the sources, and the logic's checksum in documents with that of
-the kit. Checks that each worked row has its test.
+the kit. Checks that each worked row has its test, and the form of Python.
 
-Not proved: No proof covers documents.
+Not proved: No proof covers documents and scripts.
 
     tests/documents.py
 """
@@ -25,6 +25,11 @@ def text(name):
     return (TOP / name).read_text()
 
 
+def words(text):
+    """Returns a text with single blanks between its words."""
+    return " ".join(text.split())
+
+
 def what_check_quotes():
     """docs/CHECK quotes a law, mutants, files and lines of code as they are, and its command has the mutant's crate."""
     page = text("docs/CHECK.md")
@@ -36,7 +41,6 @@ def what_check_quotes():
         see(f"there is {file}", (TOP / file).exists())
     tried = re.search(r"^    \$ rt must-fail (\w+)$", page, re.M)[1]
     see("the mutant is of that crate", f"crates/{tried}/must-fail/any_sequence.edit" in files, files)
-    words = lambda it: " ".join(it.split())
     quoted = [it for it in page.splitlines() if it.startswith("    ") and not it.startswith(("    $", "    fn "))]
     # (the drawing quotes nothing)
     drawn = page[page.index("    the chip holds your images") : page.index("    your board")] + "    your board"
@@ -72,7 +76,7 @@ def what_check_quotes():
 
 def the_first_change():
     """CONTRIBUTING's first change can be made: the text is once in the script, and once in the test's table."""
-    begun = re.search(r"replace `([^`]*)`\s+by", " ".join(text("CONTRIBUTING.md").split()))[1]
+    begun = re.search(r"replace `([^`]*)`\s+by", words(text("CONTRIBUTING.md")))[1]
     for file in ("lib/avrstk/avrstk_hints.py", "tests/tables/refused.txt"):
         same(f"{file}: {begun}", text(file).count(begun), 1)
 
@@ -97,13 +101,13 @@ CONDITIONS = (
 def the_conditions():
     """Each document that states the promise states all of its conditions, and what needs none, in the same words."""
     for page in sorted([TOP / "README.md", *TOP.glob("docs/*.md"), *TOP.glob("crates/*/README.md")]):
-        words = " ".join(page.read_text().split()).lower()
+        held = words(page.read_text()).lower()
         if (
-            CONDITIONS[0] in words
+            CONDITIONS[0] in held
             or page.name in ("PROOFS.md", "TROUBLESHOOTING.md", "WHY.md")
             or page == TOP / "README.md"
         ):
-            same(f"{page.name} has all conditions", [it for it in CONDITIONS if it.lower() not in words], [])
+            same(f"{page.name} has all conditions", [it for it in CONDITIONS if it.lower() not in held], [])
 
 
 def files_of_recipes():
@@ -156,7 +160,20 @@ def worked_rows():
             see(f"{name}: {file} has {part}", len(bare(part)) > 3 and bare(part) in known)
 
 
-CASES = named(what_check_quotes, the_first_change, the_hint, the_conditions, files_of_recipes, the_logic, worked_rows)
+def python():
+    """black would lay out no file of Python differently, and flake8 and mypy find no fault. (Their settings are in
+    pyproject.toml and .flake8: mypy checks what is installed.)"""
+    for command in (["black", "--check", "."], ["flake8"], ["mypy"]):
+        if not shutil.which(command[0]):
+            leave_out(" ".join(command), f"{command[0]} is not installed")
+            continue
+        ran = subprocess.run(command, cwd=TOP, capture_output=True, text=True)
+        see(" ".join(command), ran.returncode == 0, ran.stdout + ran.stderr)
+
+
+CASES = named(
+    what_check_quotes, the_first_change, the_hint, the_conditions, files_of_recipes, the_logic, worked_rows, python
+)
 
 if __name__ == "__main__":
     sys.exit(run_cases(CASES, __doc__))

@@ -218,7 +218,7 @@ def speed(line):
 
 
 def over(words, board=None, **more):
-    """Runs these options over a board. Returns what `run` does, and the chip. The run's report has to fit its schema."""
+    """Runs these options over a board. Returns what `run` does, and the chip. The run's report must fit its schema."""
     it, name = Board(**(board or {})), f"report{next(boards)}.json"
     found = *run([*words, "-P", it.device, "--json", name], **more), it.end()
     if it.opened:
@@ -434,8 +434,8 @@ def piped(words, content, **more):
 
 
 def no_firmware():
-    """A text without records, an archive, a page and an image without a byte are refused, also from a pipe; a text as raw
-    bytes (:r) is not."""
+    """A text without records, an archive, a page and an image without a byte are refused, also from a pipe; a text as
+    raw bytes (:r) is not."""
     why = {
         **dict.fromkeys(TEXTS, "is text without records: name its format"),
         **dict.fromkeys(EMPTY, "is empty (did its build fail?)"),
@@ -636,8 +636,8 @@ def lists():
 
 
 class Boards:
-    """One chip behind one device, named `device` in the room: a board for each time that it is opened. Each has a pseudo
-    terminal of its own, so that it sees the end of its run even if the next one opens the device at once."""
+    """One chip behind one device, named `device` in the room: a board for each time that it is opened. Each has a
+    pseudo terminal of its own, so that it sees the end of its run even if the next one opens the device at once."""
 
     def __init__(self, *each, chip=None):
         self.chip, self.each, self.device = (
@@ -798,11 +798,11 @@ def progress():
         see(text, f"\ravrstk-serial: {text}, {100 * sent // count} %" in got, (count, got))
     left = re.search(r"\ravrstk-serial: reading flash: 1,\d+ bytes, \d+ %, (\d+) s left", got)
     see("the time that is left", left and int(left[1]) > 5, got)
-    names = lambda: re.findall(r"\ravrstk-serial: (\w+ \w+)", got)
     updates = ["flash:r:back.hex:i", "eeprom:w:whole.bin:r", "flash:w:blink.hex", "eeprom:r:back.bin"]
     got, status, _ = on_a_terminal(["-p", "m328p", *(word for it in updates for word in ("-U", it))])
     wanted = ["reading flash", "writing eeprom", "reading eeprom", "reading flash", "writing flash"]
-    same("each has its name", (status, set(names())), (0, set(wanted)))
+    names = set(re.findall(r"\ravrstk-serial: (\w+ \w+)", got))
+    same("each has its name", (status, names), (0, set(wanted)))
     got, status, _ = on_a_terminal([*FLASH, "-q"])
     same("-q", (status, got), (0, ""))
 
@@ -848,7 +848,10 @@ def backups():
     old = bytes(it % 241 for it in range(700)).ljust(32_768, b"\xff") + bytes(it % 239 for it in range(200)).ljust(
         1024, b"\xff"
     )
-    told = lambda words, board: over(["-p", "m328p", *words], board)[::3]
+
+    def told(words, board):
+        return over(["-p", "m328p", *words], board)[::3]
+
     for fuses, name in [("E2D1FDFF", "a backup"), ("62D907FE", "-x")]:
         room.put("old.bin", old + bytes.fromhex(fuses))
         status, output, _, own, _ = over(["-p", "m328p", "--wait", "0.4", "--backup", name], {"chip": "old.bin"})
@@ -869,8 +872,14 @@ def backups():
     for words in [["--backup", "none"], ["--restore", "none"]]:
         same("an erased chip", run(["-p", "m328p", "-P", "emu:old.bin", *words])[0], 0)
     loader = "a bootloader can't write fuses and the lock, or read the calibration: use a programmer"
-    written = lambda answer: see("no write", answer[5] not in (0x12, 0x13, 0x15, 0x17, 0x19)) and answer
-    refused = lambda answer: frame(answer[1], b"\x1c\xc0") if answer[5] == 0x1C else written(answer)
+
+    def written(answer):
+        see("no write", answer[5] not in (0x12, 0x13, 0x15, 0x17, 0x19))
+        return answer
+
+    def refused(answer):
+        return frame(answer[1], b"\x1c\xc0") if answer[5] == 0x1C else written(answer)
+
     fails = [
         ({"answer": refused}, ["--backup", "gone"], loader),
         ({"answer": refused}, ["--restore", "a backup"], loader),
@@ -1016,7 +1025,10 @@ def files_of_one_command():
         (room.folder / name).symlink_to(end)
     kept = {it.name: it.read_bytes() for it in room.folder.iterdir() if it.is_file()}
     line, device = terminal()
-    meant = lambda text: text.replace("DEVICE", device).replace("CLASSIC", CLASSIC[1])
+
+    def meant(text):
+        return text.replace("DEVICE", device).replace("CLASSIC", CLASSIC[1])
+
     for words, wanted in table("files"):
         status, _, told, own = run(["-p", "m328p", *shlex.split(meant(words))])
         same(words, (status, told, own), (1, b"", [f"{meant(wanted)}: {UNOPENED}"]))
@@ -1162,7 +1174,10 @@ def elf_files():
         return leave_out("ELF", "avr-gcc is not installed")
     linked("main.elf", ELF)
     others = [it for name in ["eeprom", "fuse", "lock", "signature"] for it in ("-R", f".{name}")]
-    take = lambda *words: subprocess.run(["avr-objcopy", "-O", "binary", *words], cwd=room.folder, check=True)
+
+    def take(*words):
+        subprocess.run(["avr-objcopy", "-O", "binary", *words], cwd=room.folder, check=True)
+
     take(*others, "main.elf", "flash.bin")
     take("-j", ".eeprom", "main.elf", "eeprom.bin")
     flash, eeprom = room.read("flash.bin"), room.read("eeprom.bin")
@@ -1217,8 +1232,8 @@ def elf_files():
     same("too high", high[2], lines("error: high.elf: address 0001FFFF out of range"))
     room.put("both.hex", b"".join(room.read("blink.hex").splitlines(True)[:-1]) + hex_of([(0x810000, b"eeprom")]))
     for memory, at, held in [("flash", 0, flash), ("eeprom", 32_768, eeprom)]:
-        there = lambda chip: chip[:at] + held + chip[at + len(held) :]
-        walk(memory, ["-p", "m328p", "-U", f"{memory}:w:both.hex"], there)
+        words = ["-p", "m328p", "-U", f"{memory}:w:both.hex"]
+        walk(memory, words, lambda chip: chip[:at] + held + chip[at + len(held) :])
 
 
 def mutated(elf, chance):
@@ -1339,7 +1354,8 @@ FOLLOWED = [
         changed("^flash:.*", "flash:w:blink.hex:i"),
     ),
     (
-        r"there is no such file|it is a symbolic link to a missing file|you may not read it|the system refuses to open it",
+        r"there is no such file|it is a symbolic link to a missing file|you may not read it"
+        r"|the system refuses to open it",
         changed("^flash:.*", "flash:w:blink.hex:i"),
     ),
     (r"a format is one letter: give -U (\S+);", changed("^flash:.*", r"\1")),
@@ -1363,39 +1379,41 @@ FOLLOWED = [
     (r"give one value$|two images overlap: give one$", lambda words, *_: words[:-2]),
     (r"^ended by SIG|^no reply; the chip is unchanged. Check: |^the device sends data, but no valid reply", mended),
     (
-        r"^the programmer (finds no chip|can't reach the chip|stopped replying)|^the device is gone|^something else sends data",
+        r"^the programmer (finds no chip|can't reach the chip|stopped replying)|^the device is gone"
+        r"|^something else sends data",
         mended,
     ),
     (r"only the last command got no reply. Power-cycle the board", mended),
     (r"^check the folder and free space|^standard output is closed", changed(":(/dev/full|-):h", ":read.txt:h")),
     (r"run the same command again$", lambda words, *_: words),
     (
-        r"holds something else than [^;]*$|: use a programmer$|: power-cycle the board$|is worn$|is worn, or a lock|damaged$",
+        r"holds something else than [^;]*$|: use a programmer$|: power-cycle the board$|is worn$|is worn, or a lock"
+        r"|damaged$",
         lambda *_: None,
     ),
     (r"use another one$|which is not known here|is not supported: .* Use avrdude", lambda *_: None),
 ]
 
-# Runs avrstk-serial, and notes each row of its hints that is chosen: where it is, how many rows are there, and its text
-TRACED = """__doc__ = ""
-import json, os, re, runpy, sys
+# Runs avrstk-serial, and notes each row of its hints that is chosen: the function or table, the row's line or number,
+# and its text
+TRACED = """import json, os, re, runpy, sys
 sys.argv[:1], sys.path[:0] = [], [LIB]
 import avrstk_hints as hints
 def note(*row):
     with open(os.environ["TRACE"], "a") as file:
         file.write(json.dumps(row) + "\\n")
-def first(*rows, first=hints.first):
-    at = next((at for at, row in enumerate(rows) if row[0]), None)
-    note(sys._getframe(1).f_code.co_name, len(rows), at, str(at is not None and rows[at][1]))
-    return first(*rows)
+def returned(frame, event, value):
+    if event == "return" and frame.f_code.co_filename == hints.__file__ and isinstance(value, str):
+        note(frame.f_code.co_name, frame.f_lineno, value)
 def matched(table, error, words, matched=hints.matched, **fields):
     found, name = matched(table, error, words, **fields), next(it for it in vars(hints) if vars(hints)[it] is table)
     at = next((at for at, begin in enumerate(table) if re.match(begin, error)), None)
-    note(name, len(table), at, *found or [""])
+    note(name, at, found)
     for at, (kind, text) in enumerate(hints.KINDS.items() if name == "REFUSALS" else []):
-        note("KINDS", len(hints.KINDS), at, text)
+        note("KINDS", at, text)
     return found
-hints.first, hints.matched = first, matched
+hints.matched = matched
+sys.setprofile(returned)
 runpy.run_path(sys.argv[0], run_name="__main__")
 """.replace(
     "LIB", repr(str(SHARED / "avrstk"))
@@ -1405,19 +1423,16 @@ seen = set()
 
 
 def rows_of_hints():
-    """Returns the rows of the sources' hints as TRACED notes them, each with its line there."""
+    """Returns the rows of the sources' hints as TRACED notes them, each with its text there: what functions return, and
+    the rows of tables."""
     text, found = (SHARED / "avrstk/avrstk_hints.py").read_text(), {}
     for it in ast.parse(text).body:
-        calls = [
-            call for call in ast.walk(it) if isinstance(call, ast.Call) and getattr(call.func, "id", "") == "first"
-        ]
-        places = [(it.name, call.args) for call in calls if isinstance(it, ast.FunctionDef)]
-        if isinstance(it, ast.Assign) and isinstance(it.value, ast.Dict):
-            places.append((it.targets[0].id, it.value.keys))
-        for name, rows in places:
-            found.update(
-                {(name, len(rows), at): text.splitlines()[row.lineno - 1].strip() for at, row in enumerate(rows)}
-            )
+        if isinstance(it, ast.FunctionDef) and ast.unparse(it.returns) == "str" and it.name != "matched":
+            returns = [row for row in ast.walk(it) if isinstance(row, ast.Return)]
+            found.update({(it.name, row.lineno): ast.unparse(row.value) for row in returns})
+        if isinstance(it, (ast.Assign, ast.AnnAssign)) and isinstance(it.value, ast.Dict):
+            name = ast.unparse(it.target if isinstance(it, ast.AnnAssign) else it.targets[0])
+            found.update({(name, at): ast.unparse(row) for at, row in enumerate(it.value.keys)})
     return found
 
 
@@ -1443,7 +1458,7 @@ def followed(name, words, **case):
             break
         see(f"{name}: no other format", not re.search(r":[ar](?![\w:])|(?<!with) -V", own[-1]), own)
         rows = [json.loads(row) for row in trace.read_text().splitlines()] if trace.exists() else []
-        chosen |= {tuple(row[:3]) for row in rows if row[3] and row[3] in own[-1] and row[2] is not None}
+        chosen |= {tuple(row[:2]) for row in rows if row[2] and row[2] in own[-1] and row[1] is not None}
         # (what it says of a second time is followed then)
         hint, _, later = re.split(
             r"(; if it (?:fails again|always fails at the same address|refuses again), |$)", own[-1], 1
@@ -1493,7 +1508,10 @@ OLD = bytes(it % 241 for it in range(32_768)) + bytes(1024) + b"\xe1\xd0"
 
 def kind_of(name):
     """Returns the case of a board by its name, or as board_of has it."""
-    loads = lambda **more: {"loads": 1, "again": lambda: None, "board": {"server": Bootloader(OLD[:32_768], **more)}}
+
+    def loads(**more):
+        return {"loads": 1, "again": lambda: None, "board": {"server": Bootloader(OLD[:32_768], **more)}}
+
     lacks = {"lacks": 1, "board": {"answer": without_bits}}
     known = {
         "served": lambda: {},
@@ -1521,7 +1539,13 @@ def kind_of(name):
     kind, _, when = name.partition(" ")
     if kind == "signal":
         reached = threading.Event()
-        held = lambda answer: reached.set() or b"" if when == f"{answer[5]:02X}" else answer
+
+        def held(answer):
+            if when != f"{answer[5]:02X}":
+                return answer
+            reached.set()
+            return b""
+
         halts = {} if when != "early" else stand_in("open('told', 'w')\ntime.sleep(60)\n")
 
         def begun(_, started):
@@ -1642,7 +1666,10 @@ def hints_that_are_followed():
     image = bytes(it % 251 for it in range(700))
     old = bytes(it % 241 for it in range(32_768))
     rows = good.splitlines(True)
-    flash = lambda file, *more: ["-p", "m328p", "-U", f"flash:w:{file}", *more]
+
+    def flash(file, *more):
+        return ["-p", "m328p", "-U", f"flash:w:{file}", *more]
+
     bad = {
         "sum.hex": good.replace(rows[1][9:11], b"00" if rows[1][9:11] != b"00" else b"01", 1),
         "cut.hex": good[:-25],
@@ -1664,8 +1691,11 @@ def hints_that_are_followed():
     for number, (name, (form, *words)) in enumerate(sampled("hints of damaged files", 7, ways)):
         follows(name, flash(f"{number}{name}{form}", *words), file=f"{number}{name}", text=bad[name])
     late, merged = hex_of([(0x1000, image)]), b"\xff" * 0x1000 + image
-    # (with the lock, as for each bootloader's chip)
-    wanted = lambda chip: merged[: 0x1000 + 768].ljust(0x1300, b"\xff") + old[0x1300:] + b"\xff"
+
+    def wanted(_):
+        # (with the lock, as for each bootloader's chip)
+        return merged[: 0x1000 + 768].ljust(0x1300, b"\xff") + old[0x1300:] + b"\xff"
+
     for number, words in enumerate([[], ["-D"], ["-e"], ["-c", "wiring"], ["-c", "wiring", "-D"]]):
         own = {"file": f"late{number}.hex", "text": late, "again": hex_of([(0, merged)])}
         follows(
@@ -1706,7 +1736,7 @@ def signals():
 
 
 def reports():
-    """--json writes what a run did: kinds of failures, the chip, each update; also after a signal, and on the output."""
+    """--json writes what a run did: kinds of failures, the chip, each update; after a signal too, and to the output."""
     try:
         import jsonschema  # noqa: F401
     except ModuleNotFoundError:

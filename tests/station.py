@@ -314,8 +314,12 @@ def numbers_given_once():
             command = [*front, PYTHON, str(folder / "avrstk-serial"), *words]
             return subprocess.Popen(command, start_new_session=True, umask=0, **how)
 
-        rows = lambda: noted.read_bytes().count(b"\n:00000001FF\n")
-        given = lambda: int((folder / "number").read_text()) - 5 if (folder / "number").exists() else 0
+        def rows():
+            return noted.read_bytes().count(b"\n:00000001FF\n")
+
+        def given():
+            return int((folder / "number").read_text()) - 5 if (folder / "number").exists() else 0
+
         stations = 0
         while given() < count:
             begun, some = rows(), draw.randrange(60)

@@ -58,7 +58,8 @@ SHAPES = {
 }
 STYLE = """
 body { max-width: 62em; margin: 0 auto 4em; padding: 0 1em; font: 16px/1.5 sans-serif; color: #222; background: #fff }
-nav { padding: .8em 0; border-bottom: 1px solid #ccc } nav a { margin-right: .8em } nav input { float: right; font: inherit }
+nav { padding: .8em 0; border-bottom: 1px solid #ccc } nav a { margin-right: .8em }
+nav input { float: right; font: inherit }
 #found a { display: block; padding: .1em 0 } #found { background: #f6f6f6; padding: 0 .6em }
 pre { background: #f6f6f6; padding: .6em; overflow: auto; font-size: 14px } table { border-collapse: collapse }
 svg { background: #f6f6f6; padding: .6em; width: 100%; max-height: 30em; box-sizing: border-box }
@@ -139,9 +140,9 @@ def drawn(block):
     for y, row in enumerate(rows):
         for run in re.finditer("[─]+|[^─│▶◀▼▲╳ ]+(?: [^─│▶◀▼▲╳ ]+)*|[│▶◀▼▲╳]", row):
             x, top, width = run.start() * 9, y * 20, len(run[0]) * 9
-            at = lambda shape: re.sub(r"(-?\d+),(-?\d+)", lambda it: f"{x + int(it[1])},{top + int(it[2])}", shape)
             if run[0] in SHAPES:
-                made.append(f'<path d="{at(SHAPES[run[0]])}"/>')
+                shape = re.sub(r"(-?\d+),(-?\d+)", lambda it: f"{x + int(it[1])},{top + int(it[2])}", SHAPES[run[0]])
+                made.append(f'<path d="{shape}"/>')
             elif run[0].startswith("─"):
                 made.append(f'<path d="M{x},{top + 10}h{width}"/>')
             else:
@@ -215,9 +216,11 @@ def whole(name, body):
     up = "../" * name.count("/")
     bar = "".join(f'<a href="{up}{it}.html">{title}</a>' for title, it in BAR)
     return (
-        f'<!doctype html><html lang="en"><meta charset="utf-8"><title>{Path(name).name} - avrstk</title><style>{STYLE}</style>'
+        f'<!doctype html><html lang="en"><meta charset="utf-8"><title>{Path(name).name} - avrstk</title>'
+        f"<style>{STYLE}</style>"
         f'<nav>{bar}<input placeholder="search" aria-label="search"></nav><div id="found"></div>{body}'
-        f'<script>const top_folder = "{up}"</script><script src="{up}entries.js"></script><script src="{up}search.js"></script></html>'
+        f'<script>const top_folder = "{up}"</script><script src="{up}entries.js"></script>'
+        f'<script src="{up}search.js"></script></html>'
     )
 
 
