@@ -441,10 +441,10 @@ FUSES_TYPED = (
 )
 STAND_IN = """import os, signal, sys
 sys.path[:1], sys.dont_write_bytecode, sys.argv[0] = [{lib!r}], True, {script!r}
-__doc__ = ""
 import avrstk_serial
+from avrstk_common import run
 avrstk_serial.Device.pulse = lambda self: os.kill({pid}, signal.SIGUSR1)
-avrstk_serial.run(avrstk_serial.main, needs_lines=True)
+run(avrstk_serial.main, "", needs_lines=True)
 """
 
 

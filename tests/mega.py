@@ -216,9 +216,6 @@ def bodies(draw):
     """Yields bodies of commands in their order, each with the bytes of its reply that are compared, if not all: simavr
     doesn't model fuses and locks."""
 
-    def page():
-        return draw.randbytes(256)
-
     def load(word):
         return b"\x06" + (word | 1 << 31).to_bytes(4, "big"), None
 
@@ -239,11 +236,17 @@ def bodies(draw):
     yield from [(bytes.fromhex(it), None) for it in ("17ACA000E2", "1C0438000000", "77", "120900AC800000")]
     # (each page that is written follows those that are erased, or is empty)
     for word in (0, 0x80, 0x100, 0x7F80, 0x180, 0x10000):
-        yield from [load(word), write(page() if word < 0x200 else b"\xff" * 256)]
+        yield from [load(word), write(draw.randbytes(256) if word < 0x200 else b"\xff" * 256)]
     for word in (0, 0x80, 0x1C0, 0x7F80, 0x10000):
         yield from [load(word), read(0x14, 256), read(0x14, draw.randrange(2, 256, 2))]
     # (the refused erase begins again with the first page)
-    yield from [(bytes.fromhex("120900AC800000"), None), load(0x280), write(b"\xff" * 256), load(0), write(page())]
+    yield from [
+        (bytes.fromhex("120900AC800000"), None),
+        load(0x280),
+        write(b"\xff" * 256),
+        load(0),
+        write(draw.randbytes(256)),
+    ]
     yield from [load(0), read(0x14, 256), read(0x14, 256), load(0x280), read(0x14, 256)]
     for at in (0, 3, 250, 1_000):
         held = draw.randbytes(draw.randrange(1, 40))

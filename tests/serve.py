@@ -307,9 +307,9 @@ def refused():
         same(f"{words}: its messages", messages, wanted)
         see(f"{words}: it doesn't serve", "serving at 127.0.0.1:" not in output, output)
     taken.close()
-    # (Python 3.7 gets as far as the line that names the version it needs)
-    for it in [SCRIPT, TOP / "avrstk-serial", *(TOP / "lib/avrstk").glob("*.py")]:
-        ast.parse(it.read_text(), feature_version=(3, 7))
+    # (Python 3.6 gets as far as the line that names the version it needs)
+    for it in [SCRIPT, TOP / "avrstk-serial"]:
+        ast.parse(it.read_text(), feature_version=(3, 6))
     # (Python keeps no docstrings then)
     see("--help without docstrings", "avrstk-serve PORT" in ran(["--help"], PYTHONOPTIMIZE="2")[2])
     for closed, status in [(">&-", 1), (">/dev/full", 1), ("<&- 2>&-", 0)]:
