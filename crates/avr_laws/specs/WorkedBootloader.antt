@@ -1,4 +1,4 @@
--- A worked run over a bootloader that erases elsewhere: `-p tiny -D -U flash:w:a.hex:i -U flash:w:b.hex:i`. Before it
+-- A worked run over a bootloader that erases elsewhere: `-p loss_part -D -U flash:w:a.hex:i -U flash:w:b.hex:i`. Before it
 -- writes a page it erases the page that it counts, so the second image's page costs the first one's.
 use Rattle.std.specs.Prelude.{ℕ, zero, suc, Bool, true, false, ◌+◌, ◌*◌, ◌%◌, ◌/◌, ◌^◌, ◌==◌, ◌&&◌, List, [], ◌∷◌, ◌++◌, None, Some, codes, drop, replicate, slice_index, take, if◌then◌else◌}
 use Rattle.std.specs.List.{concat}
@@ -9,7 +9,7 @@ use Rattle.avr_part.specs.declared.part.Mem.TheVariants.{Flash, Signature}
 use Rattle.avr_plan.specs.Plan.{Plan}
 use Rattle.avr_plan.specs.declared.planned.Task.TheVariants.{Write}
 use Rattle.avr_laws.specs.Worked.{worked_settings}
-use Rattle.avr_laws.specs.WorkedLoss.{tiny}
+use Rattle.avr_laws.specs.WorkedLoss.{loss_part}
 use Rattle.stk_emu.specs.Device.{Device}
 use Rattle.stk_emu.specs.Effect.{Image, Memories, effect}
 use Rattle.stk_emu.specs.Effect as item
@@ -115,7 +115,7 @@ second_image = replicate 4 None ++ Some 0x56 ∷ Some 0x78 ∷ replicate 2 None
 
 abbrev pub boot_plan : Plan
 boot_plan = record {
-  part = tiny;
+  part = loss_part;
   tasks = Write Flash first_image ∷ Write Flash second_image ∷ [];
   switches = record worked_settings.switches { keep_flash = true };
 }

@@ -9,7 +9,7 @@ ghost use Rattle.avr_laws.specs.Reader.{IsReader, LastIsThere};
 ghost use Rattle.avr_laws.specs.Sheet.{IsVouched};
 ghost use Rattle.avr_laws.specs.Table.{IsProgrammer};
 ghost use Rattle.avr_laws.specs.WorkedBootloader.{FitsBoot, IsRead, boot_before, boot_executions, boot_frames, boot_plan, boot_replies, bootloader};
-ghost use Rattle.avr_laws.specs.WorkedLoss.{tiny};
+ghost use Rattle.avr_laws.specs.WorkedLoss.{loss_part};
 ghost use Rattle.avr_part.specs.declared.part.Mem.{Mem};
 ghost use Rattle.avr_session.specs.Session.{session};
 ghost use Rattle.avr_tool.specs.Sockets.{IsOverAddress};
@@ -71,14 +71,14 @@ pub fn a_program_with_status_0_left_what_it_compared_last<
 /// cost the first one's.
 // Proof: the lemmas of Rows/Bootloader, and `counter_refused` (Rows/PageCounter).
 pub fn a_run_over_a_bootloader_meets_all_premises()
-    ensures reads { IsReader tiny (bootloader tiny) (λ b. b.memories) (FitsBoot tiny) IsRead }
-    ensures unlike { IsProgrammer tiny (bootloader tiny) (λ b. b.memories) (FitsBoot tiny) (FitsBoot tiny)
-        (IsVouched (λ mem byte. byte) tiny) → ⊥ }
+    ensures reads { IsReader loss_part (bootloader loss_part) (λ b. b.memories) (FitsBoot loss_part) IsRead }
+    ensures unlike { IsProgrammer loss_part (bootloader loss_part) (λ b. b.memories) (FitsBoot loss_part) (FitsBoot loss_part)
+        (IsVouched (λ mem byte. byte) loss_part) → ⊥ }
     ensures ends { (played (session boot_plan) 1 boot_replies).outcome ≡ Some (0, 15, []) }
     ensures sends { frames_in (played (session boot_plan) 1 boot_replies).events ≡ boot_frames }
-    ensures starts { FitsBoot tiny boot_before }
+    ensures starts { FitsBoot loss_part boot_before }
     ensures came { ReceivedSentFrames (concat boot_frames) [] boot_frames boot_executions }
-    ensures forged { NoneForged (bootloader tiny) boot_frames boot_replies boot_before boot_executions [] }
-    ensures left { (after_received_bytes (bootloader tiny) (concat boot_frames) [] boot_before).memories.flash
+    ensures forged { NoneForged (bootloader loss_part) boot_frames boot_replies boot_before boot_executions [] }
+    ensures left { (after_received_bytes (bootloader loss_part) (concat boot_frames) [] boot_before).memories.flash
         ≡ 0xFF ∷ 0xFF ∷ 0xFF ∷ 0xFF ∷ 0x56 ∷ 0x78 ∷ 0xFF ∷ 0xFF ∷ [] }
 {}

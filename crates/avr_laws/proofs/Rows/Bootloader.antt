@@ -27,7 +27,7 @@ use Rattle.stk_host.specs.Tape.{answer}
 use Rattle.avr_laws.proofs.Rows.Loss.{by_test}
 use Rattle.avr_laws.specs.AnyTape.{ReceivedSentFrames, after_received_bytes}
 use Rattle.avr_laws.specs.Kept.{NoneForged}
-use Rattle.avr_laws.specs.WorkedLoss.{tiny}
+use Rattle.avr_laws.specs.WorkedLoss.{loss_part}
 use Rattle.avr_laws.specs.Reader.{IsReader, ReadsOneOf}
 use Rattle.avr_laws.specs.Table.{IsDoneOrNot, IsRow, Row, reading, ErasesChip, WritesFlashPage, WritesEepromRun, WritesFuse, WritesLock, ReadsFlash, ReadsEeprom, ReadsFuse, ReadsLock, ReadsSignature, ReadsCalibration}
 use Rattle.avr_laws.specs.WorkedBootloader.{Bootloader, FitsBoot, boot_before, boot_executions, boot_frames, boot_plan, boot_replies, IsRead, after_body, bootloader, erased, first_image, with_page, writes_page}
@@ -161,11 +161,11 @@ module _ (part : Part) (sound : IsPart part) where
 
 -- ---- the run over it
 
-is_part : IsPart tiny
+is_part : IsPart loss_part
 is_part = search rules
 
-pub tiny_reads : IsReader tiny (bootloader tiny) (λ b. b.memories) (FitsBoot tiny) IsRead
-tiny_reads = boot_reads tiny is_part
+pub tiny_reads : IsReader loss_part (bootloader loss_part) (λ b. b.memories) (FitsBoot loss_part) IsRead
+tiny_reads = boot_reads loss_part is_part
 
 pub ends : (played (session boot_plan) 1 boot_replies).outcome ≡ Some (0, 15, [])
 unfolding session opening handshake operation closing play attempts_or_fault attempt exchange answer
@@ -175,17 +175,17 @@ pub sends : frames_in (played (session boot_plan) 1 boot_replies).events ≡ boo
 unfolding session opening handshake operation closing play attempts_or_fault attempt exchange answer
 sends = refl
 
-pub starts : FitsBoot tiny boot_before
+pub starts : FitsBoot loss_part boot_before
 starts = search (rules, All-cons, All-nil)
 
 pub came : ReceivedSentFrames (concat boot_frames) [] boot_frames boot_executions
 came = record { good = refl }
 
-pub none_is_forged : NoneForged (bootloader tiny) boot_frames boot_replies boot_before boot_executions []
+pub none_is_forged : NoneForged (bootloader loss_part) boot_frames boot_replies boot_before boot_executions []
 unfolding answer
-none_is_forged = by_test (bootloader tiny) boot_frames boot_replies boot_before boot_executions [] refl
+none_is_forged = by_test (bootloader loss_part) boot_frames boot_replies boot_before boot_executions [] refl
 
-pub flash_is : (after_received_bytes (bootloader tiny) (concat boot_frames) [] boot_before).memories.flash
+pub flash_is : (after_received_bytes (bootloader loss_part) (concat boot_frames) [] boot_before).memories.flash
     ≡ 0xFF ∷ 0xFF ∷ 0xFF ∷ 0xFF ∷ 0x56 ∷ 0x78 ∷ 0xFF ∷ 0xFF ∷ []
 flash_is = refl
 

@@ -7,7 +7,7 @@ use Rattle.stk_emu.specs.Settled.{FitsPart}
 use Rattle.avr_laws.specs.Sheet.{IsVouched}
 use Rattle.avr_laws.specs.Table.{IsProgrammer, WritesFlashPage}
 use Rattle.avr_laws.specs.WorkedBootloader.{Bootloader, boot_before, bootloader}
-use Rattle.avr_laws.specs.WorkedLoss.{tiny}
+use Rattle.avr_laws.specs.WorkedLoss.{loss_part}
 
 -- page 0 is written while the counter is at page 1
 abbrev start : Bootloader
@@ -16,11 +16,11 @@ start = record boot_before {
   memories = record boot_before.memories { flash = 1 ∷ 2 ∷ 3 ∷ 4 ∷ 5 ∷ 6 ∷ 7 ∷ 8 ∷ [] };
 }
 
-pub fits : FitsPart tiny start.memories
+pub fits : FitsPart loss_part start.memories
 fits = record { flash = refl; eeprom = refl; bytes = search arith }
 
 pub counter_refused : (IsIn IsReady : Bootloader → Type 0) → IsReady start
-    → IsProgrammer tiny (bootloader tiny) (λ b. b.memories) IsIn IsReady (IsVouched (λ mem byte. byte) tiny) → ⊥
+    → IsProgrammer loss_part (bootloader loss_part) (λ b. b.memories) IsIn IsReady (IsVouched (λ mem byte. byte) loss_part) → ⊥
 counter_refused IsIn IsReady ready t =
     let d = t.rows _ start (WritesFlashPage 0 (0 ∷ 0 ∷ 0 ∷ 0 ∷ []) refl (omega arith) refl) tt fits ready in
     elim (d.either refl) [

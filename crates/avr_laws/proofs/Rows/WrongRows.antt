@@ -9,14 +9,14 @@ use Rattle.stk_emu.specs.Effect.{Memories, Write}
 use Rattle.stk_emu.specs.Programmer.{Programmer, fresh_programmer}
 use Rattle.avr_laws.specs.EmulatedStates.{HasEmptyBuffers, chip_memories}
 use Rattle.avr_laws.specs.Table.{IsDoneOrNot, Row, reading, writing}
-use Rattle.avr_laws.specs.WorkedLoss.{tiny}
+use Rattle.avr_laws.specs.WorkedLoss.{loss_part}
 
 -- in programming mode, with two bytes of EEPROM
 abbrev ready : Programmer
-ready = record (fresh_programmer (record (fresh_state tiny) { eeprom = 9 ∷ 10 ∷ [] })) { mode = true }
+ready = record (fresh_programmer (record (fresh_state loss_part) { eeprom = 9 ∷ 10 ∷ [] })) { mode = true }
 
 abbrev Keeps : Row → Type 0
-Keeps row = IsDoneOrNot device chip_memories (HasEmptyBuffers tiny) tiny row ready
+Keeps row = IsDoneOrNot device chip_memories (HasEmptyBuffers loss_part) loss_part row ready
 
 -- the lock's byte goes to the high fuse
 pub lock_to_fuse : Keeps (writing None (0x19 ∷ 0xAC ∷ 0xE0 ∷ 0x00 ∷ 0 ∷ []) (Write Hfuse (Some 0 ∷ [])) (0x19 ∷ 0 ∷ 0
