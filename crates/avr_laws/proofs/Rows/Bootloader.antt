@@ -24,7 +24,7 @@ use Rattle.stk_host.specs.Dialog.{frames_in, played}
 use Rattle.stk_host.specs.Operations.{handshake, opening, closing, operation}
 use Rattle.stk_host.specs.Steps.{exchange, attempt, attempts_or_fault, play}
 use Rattle.stk_host.specs.Tape.{answer}
-use Rattle.avr_laws.proofs.Rows.Loss.{by_test}
+use Rattle.avr_laws.proofs.Lines.NoneForgedTest.{by_test}
 use Rattle.avr_laws.specs.AnyTape.{ReceivedSentFrames, after_received_bytes}
 use Rattle.avr_laws.specs.Kept.{NoneForged}
 use Rattle.avr_laws.specs.WorkedLoss.{loss_part}
