@@ -184,7 +184,7 @@ def write(folder):
     """Writes the site, and returns Sphinx's warnings."""
     with tempfile.TemporaryDirectory() as made:
         copied = write_sources(Path(made, "pages"))
-        words = ["sphinx-build", "-q", "-b", "html", "-j", "auto", "-c", SITE, "-d", f"{made}/trees", f"{made}/pages"]
+        words = ["sphinx-build", "-q", "-b", "html", "-c", SITE, "-d", f"{made}/trees", f"{made}/pages"]
         ran = subprocess.run([*words, folder], stderr=subprocess.PIPE, text=True)
     for it in (".buildinfo", "objects.inv"):
         Path(folder, it).unlink(missing_ok=True)
