@@ -2,11 +2,11 @@
 """Measures the tool on large images, beside avr-objcopy and srec_cat if they are installed.
 
     (cd crates/avrstk && rt run < stdin > /dev/null)    builds crates/avrstk/out/avrstk
-    bench/run.py [RUNS]                                 the best of RUNS runs of each command (default 5), in milliseconds
-    bench/run.py --count                                instructions, the same on every machine (needs valgrind); fails if a
-                                                        figure is more than 2 % above the one in bench/figures.json
-    bench/run.py --count --write                        also writes these figures into the file
-    bench/run.py --calls                                system calls per frame, on both sides of a link (needs strace)
+    bench/run.py [RUNS]             the best of RUNS runs of each command (default 5), in milliseconds
+    bench/run.py --count            instructions, the same on every machine (needs valgrind); fails if a figure is more
+                                    than 2 % above the one in bench/figures.json
+    bench/run.py --count --write    also writes these figures into the file
+    bench/run.py --calls            system calls per frame, on both sides of a link (needs strace)
 
 Every figure is for a whole process. The images are the same in each run of this script.
 """
@@ -18,7 +18,6 @@ import re
 import shutil
 import subprocess
 import sys
-import tempfile
 import time
 from pathlib import Path
 
@@ -174,9 +173,7 @@ def time_line(room, runs):
     subprocess.run(["cc", "-O2", "-o", str(client), str(TOP / "bench/least_client.c")], check=True)
     room.given |= {"frames", "least_client"}
     least = best_over_line(room, runs, lambda port: [str(client), str(port), "frames"])
-    print(
-        f"{least:9.1f} ms  {'':9}  the smallest client with the same frames (the tool takes {taken / least:.2f} times this)"
-    )
+    print(f"{least:9.1f} ms  {'':9}  the smallest client, same frames (the tool takes {taken / least:.2f} times this)")
 
 
 # ---- counts

@@ -168,7 +168,10 @@ def script(name, kind="", before=(), **environment):
     path = TOP / f"{'tools' if name in CHECKED else 'tests'}/{file}.py"
     command = [TOP / "bench/run.py", f"--{file}"] if file in BENCH else [path, *words]
     command = [*before, *command]
-    once = lambda more=(), again="": run(f"{kind}{name}{again}", [*command, *more], PYTHONUNBUFFERED="1", **environment)
+
+    def once(more=(), again=""):
+        return run(f"{kind}{name}{again}", [*command, *more], PYTHONUNBUFFERED="1", **environment)
+
     done = once()
     late = next(filter(None, map(LATE_CASES.fullmatch, done.lines)), None)
     done.again = late and (lambda: once(late[1].split(" | "), f": {late[1]}{AGAIN}"))
@@ -358,15 +361,14 @@ def chosen(names):
 
 def machine():
     """Returns what the times depend on."""
-    says = lambda word: subprocess.run(["rt", word], capture_output=True, text=True)
-    kit, told = says("version").stdout.strip(), says("help")
+    kit, told = (subprocess.run(["rt", word], capture_output=True, text=True) for word in ("version", "help"))
     # (a kit whose rt ci takes names remembers what passed)
     keeps = (
         "keeps what passed"
         if re.search(r"rt ci \[?NAME", told.stdout + told.stderr)
         else "proves everything anew in each rt ci"
     )
-    return f"{LANES} processors, {free_memory() / 1e6:.0f} GB free; {kit}, which {keeps}"
+    return f"{LANES} processors, {free_memory() / 1e6:.0f} GB free; {kit.stdout.strip()}, which {keeps}"
 
 
 def costs(done, checks):
@@ -399,7 +401,8 @@ def summary(done, checks=None):
     again = [it.what for it in done if it.what.endswith(AGAIN)]
     print(f"scripts that were run again, at most {MOST_AGAIN}: {', '.join(again) or 'none'}")
     wrong = sum(it.status != 0 for it in done)
-    took = f"{(time.monotonic() - BEGUN) / 60:.0f} minutes on {LANES} processors, {sum(it.processor for it in done):.0f} s of one"
+    processor = sum(it.processor for it in done)
+    took = f"{(time.monotonic() - BEGUN) / 60:.0f} minutes on {LANES} processors, {processor:.0f} s of one"
     print(f"{len(done)} steps in {took}; {wrong} of them failed")
     passed, failed = (sum(counts) for counts in zip(*(it.counts() for it in done)))
     print(f"{passed} passed, {failed} failed")

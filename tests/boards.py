@@ -17,7 +17,6 @@ import contextlib
 import ctypes
 import os
 import random
-import select
 import shutil
 import signal
 import socket
@@ -42,8 +41,8 @@ CORE = Path("/usr/share/arduino/hardware/arduino/avr")
 SKETCHES = [TOP / "out/ArduinoISP.ino", Path("/usr/share/doc/arduino/examples/11.ArduinoISP/ArduinoISP/ArduinoISP.ino")]
 SKETCH = next((it for it in SKETCHES if it.exists()), None)
 FLASH, EEPROM, PAGE = 32_768, 1_024, 128
-FUSES = bytes([0x62, 0xD9, 0xFF, 0xFF])
-TINY = '[parts.tiny]\nsignature = "1E950F"\nflash_size = 2048\nflash_page = 128\neeprom_size = 64\neeprom_page = 4\neesave_bit = 3\n'
+TINY = '[parts.tiny]\nsignature = "1E950F"\nflash_size = 2048\nflash_page = 128\neeprom_size = 64\neeprom_page = 4\n'
+TINY += "eesave_bit = 3\n"
 # of each kind: where its code starts, and its speed
 KINDS = {
     "optiboot": (0x7E00, 115_200),
@@ -251,10 +250,7 @@ def clean():
         flash = board.flash()
         wanted = (image + b"\xff" * FLASH if board.is_sketch else image + b"\xff" * 120 + old[5_120:])[: len(flash)]
         same(f"{kind}: its flash", flash, wanted)
-        see(
-            f"{kind}: what was read",
-            room.read("back.bin")[: len(flash)] == flash.rstrip(b"\xff") or not board.is_sketch,
-        )
+        same(f"{kind}: what was read", room.read("back.bin").ljust(len(flash), b"\xff")[: len(flash)], flash)
         if board.is_sketch:
             same(f"{kind}: EEPROM and fuses", board.rest(), (image[:64] + b"\xff" * 960, b"\xe2\xd9\xff\xff"))
             same(f"{kind}: instructions that came too early", board.lib.target_ignored(), 0)
@@ -330,7 +326,7 @@ def sessions(what, kind, size, words, fates, old=b""):
 
 def each_byte():
     """One byte on the way to an Uno is lost, doubled or has one bit flipped: each byte of a short run."""
-    places = share("each_byte", 12, 129, range(516))
+    places = share("each_byte", 12, 172, range(516))
     fates = [(Fates({it: WHATS[it % len(WHATS)]}), Fates()) for it in places]
     sessions("a fault to the board", "optiboot-fast", 300, ["-D"], fates, random.Random(9).randbytes(FLASH))
 
@@ -353,14 +349,14 @@ def damaged_erases():
     over(board, ["--parts", "tiny.toml", "-p", "tiny", "-U", "flash:w:image200.bin:r"])
     at = next(at for at, held in sent if held[:3] == b"V\xac\x80")
     bits = [(at + place, bit) for place in range(1, 5) for bit in range(8)]
-    fates = [(Fates({place: bit}), Fates()) for place, bit in share("damaged_erases", 4, 16, bits)]
+    fates = [(Fates({place: bit}), Fates()) for place, bit in share("damaged_erases", 4, 11, bits)]
     found = sessions("a damaged erase", "ArduinoISP-fast", 200, [], fates, random.Random(9).randbytes(2_048))
     see("status 0: nothing is left beside the image", not any(it[0] == 0 and not it[2] for it in found), str(found))
 
 
 def lost_end():
-    """The reply to the last command of a session with an Uno is lost or damaged. The command is repeated, and the status
-    is 0."""
+    """The reply to the last command of a session with an Uno is lost or damaged. The command is repeated, and the
+    status is 0."""
     words, size, old = ["-D"], 300, random.Random(9).randbytes(FLASH)
     prepare("optiboot-fast", size)
 
@@ -394,7 +390,7 @@ class Terminal:
     def live(self):
         was_open, begun = False, time.monotonic() - self.board.time
         while not self.ends.is_set():
-            opened = not any(what & select.POLLHUP for _, what in polled(self.line))
+            opened = serial.is_open(self.line)
             if self.wants_reset or opened and not was_open:
                 self.wants_reset, was_open = False, opened
                 if not self.board.is_sketch:
@@ -413,12 +409,6 @@ class Terminal:
         self.thread.join(PATIENCE)
         os.close(self.line)
         return self.board
-
-
-def polled(line):
-    look = select.poll()
-    look.register(line)
-    return look.poll(0)
 
 
 # what Arduino IDE and PlatformIO type, and users
@@ -475,40 +465,34 @@ def typed():
 
 
 def avrdude_beside():
-    """AVRDUDE 7.1 over the same boards: EEPROM over ArduinoISP lands at other addresses, compares as equal, and the
-    status is 0; eeprom:w at an Uno overwrites its flash. avrstk-serial writes the one right, and refuses the other."""
+    """Over the same boards AVRDUDE 7.1 writes EEPROM to wrong addresses, or over the flash; avrstk-serial doesn't. Over
+    ArduinoISP its status is 0 then. At an Uno avrstk-serial refuses EEPROM."""
     if not has_avrdude():
         return leave_out("AVRDUDE over these boards", "AVRDUDE 7.1 is not installed")
     data, old = bytes(range(1, 65)), random.Random(9).randbytes(FLASH)
     room.put("data.bin", data)
     if SKETCH:
         at = Terminal("ArduinoISP", old)
-        words = f"-p m328p -c stk500v1 -P {at.device} -b 19200 -D -q -q -U eeprom:w:data.bin:r"
-        ran = subprocess.run(["avrdude", *words.split()], cwd=room.folder, capture_output=True, timeout=PATIENCE)
+        words = "-p m328p -c stk500v1 -P {} -b 19200 -D -q -q -U eeprom:w:data.bin:r"
+        command = ["avrdude", *words.format(at.device).split()]
+        ran = subprocess.run(command, cwd=room.folder, capture_output=True, timeout=PATIENCE)
         held, _ = at.end().rest()
         same("avrdude, EEPROM over ArduinoISP: its status", ran.returncode, 0)
-        same(
-            "avrdude, EEPROM over ArduinoISP: the bytes",
-            held[:20],
-            data[:4] + b"\xff" * 4 + data[4:8] + b"\xff" * 4 + data[8:12],
-        )
+        wanted = data[:4] + b"\xff" * 4 + data[4:8] + b"\xff" * 4 + data[8:12]
+        same("avrdude, EEPROM over ArduinoISP: the bytes", held[:20], wanted)
         at = Terminal("ArduinoISP", old)
-        status, told = run_script(words.replace(at_of(words), at.device).split())
+        status, told = run_script(words.format(at.device).split())
         held, _ = at.end().rest()
         same("avrstk-serial, EEPROM over ArduinoISP", (status, held[:64]), (0, data))
     at = Terminal("optiboot", old)
-    words = f"-p m328p -c arduino -P {at.device} -b 115200 -D -q -q -U eeprom:w:data.bin:r"
-    ran = subprocess.run(["avrdude", *words.split()], cwd=room.folder, capture_output=True, timeout=PATIENCE)
+    words = "-p m328p -c arduino -P {} -b 115200 -D -q -q -U eeprom:w:data.bin:r"
+    command = ["avrdude", *words.format(at.device).split()]
+    ran = subprocess.run(command, cwd=room.folder, capture_output=True, timeout=PATIENCE)
     flash = at.end().flash()
     see("avrdude, eeprom:w at an Uno: its firmware is another", flash[:128] != old[:128], (ran.returncode, ran.stderr))
     at = Terminal("optiboot", old)
-    status, told = run_script(words.replace(at_of(words), at.device).split())
+    status, told = run_script(words.format(at.device).split())
     same("avrstk-serial, eeprom:w at an Uno", (status, at.end().flash()), (1, old[: KINDS["optiboot"][0]]))
-
-
-def at_of(words):
-    """Returns the device of a command."""
-    return words.split()[words.split().index("-P") + 1]
 
 
 class Leaving(serial.Bootloader):
@@ -530,7 +514,8 @@ class Leaving(serial.Bootloader):
 
 
 def lost_end_of_wiring():
-    """With -c wiring a lost reply to LEAVE doesn't fail a run whose image is there: a reset starts the bootloader again."""
+    """With -c wiring a lost reply to LEAVE doesn't fail a run whose image is there: a reset starts the bootloader
+    again."""
     board = Leaving(b"\xff" * FLASH)
     at = serial.Board(server=board)
     room.put("image.hex", hex_of([(0, bytes(256))]))

@@ -88,7 +88,10 @@ def table(name):
 
 def bytes_of(cell):
     """Returns the bytes that a cell has: digits or 'text', joined by + and with * repeated."""
-    held = lambda it: it[1:-1].encode() if it.startswith("'") else bytes.fromhex(it)
+
+    def held(part):
+        return part[1:-1].encode() if part.startswith("'") else bytes.fromhex(part)
+
     return b"".join(held(it) * int(times or 1) for it, _, times in (it.partition("*") for it in cell.split("+")))
 
 

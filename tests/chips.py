@@ -248,8 +248,12 @@ def whose_lock():
         room.put("victim", b"mine")
         NEW_FILE.symlink_to("victim")
 
-    good = lambda started: is_good("a run meanwhile", room.run(writes_fuse(0x22)), with_fuse(OLD, 0x22))
-    refused = lambda started: same("a run meanwhile", room.run(writes_fuse(0x22)), (1, b"", IN_USE))
+    def good(_):
+        is_good("a run meanwhile", room.run(writes_fuse(0x22)), with_fuse(OLD, 0x22))
+
+    def refused(_):
+        same("a run meanwhile", room.run(writes_fuse(0x22)), (1, b"", IN_USE))
+
     words, in_use, unwritable = writes_fuse(0x11), (1, IN_USE), (1, UNWRITABLE)
     opening = number_of(stale, words, "openat", "O_RDWR|O_NOCTTY|O_CLOEXEC")
     for what, prepare, call, when, act, wanted in [
@@ -309,8 +313,8 @@ def held_by_a_session():
 
 
 def without_a_lock():
-    """If a waiting run's lock file is removed, a second run can start; then only the first of the two to save ends well.
-    The other one fails: what a run with status 0 saved isn't lost."""
+    """If a waiting run's lock file is removed, a second run can start; then only the first of the two to save ends
+    well. The other one fails: what a run with status 0 saved isn't lost."""
     for prepare, old in STARTS:
         prepare()
         with waiting(["-U", "lfuse:w:0x11:m"], last=(1, UNWRITABLE)):
@@ -548,4 +552,4 @@ CASES = TRACED | named(
 
 
 if __name__ == "__main__":
-    sys.exit(run_cases(CASES, __doc__))
+    sys.exit(run_cases(CASES, __doc__, timed=["others_meanwhile", "whose_lock"]))

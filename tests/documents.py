@@ -28,6 +28,11 @@ def text(name):
     return (TOP / name).read_text()
 
 
+def words(text):
+    """Returns a text with single blanks between its words."""
+    return " ".join(text.split())
+
+
 def what_check_quotes():
     """docs/CHECK quotes a law, mutants, files and lines of code as they are, and its command has the mutant's crate."""
     page = text("docs/CHECK.md")
@@ -39,7 +44,6 @@ def what_check_quotes():
         see(f"there is {file}", (TOP / file).exists())
     tried = re.search(r"^    \$ rt must-fail (\w+)$", page, re.M)[1]
     see("the mutant is of that crate", f"crates/{tried}/must-fail/any_sequence.edit" in files, files)
-    words = lambda it: " ".join(it.split())
     quoted = [it for it in page.splitlines() if it.startswith("    ") and not it.startswith(("    $", "    fn "))]
     # (the drawing quotes nothing)
     drawn = page[page.index("    the chip holds your images") : page.index("    your board")] + "    your board"
@@ -75,7 +79,7 @@ def what_check_quotes():
 
 def the_first_change():
     """CONTRIBUTING's first change can be made: the text is once in the script, and once in the test's table."""
-    begun = re.search(r"replace `([^`]*)`\s+by", " ".join(text("CONTRIBUTING.md").split()))[1]
+    begun = re.search(r"replace `([^`]*)`\s+by", words(text("CONTRIBUTING.md")))[1]
     for file in ("lib/avrstk/avrstk_hints.py", "tests/tables/refused.txt"):
         same(f"{file}: {begun}", text(file).count(begun), 1)
 
@@ -100,13 +104,13 @@ CONDITIONS = (
 def the_conditions():
     """Each document that states the promise states all of its conditions, and what needs none, in the same words."""
     for page in sorted([TOP / "README.md", *TOP.glob("docs/*.md"), *TOP.glob("crates/*/README.md")]):
-        words = " ".join(page.read_text().split()).lower()
+        held = words(page.read_text()).lower()
         if (
-            CONDITIONS[0] in words
+            CONDITIONS[0] in held
             or page.name in ("PROOFS.md", "TROUBLESHOOTING.md", "WHY.md")
             or page == TOP / "README.md"
         ):
-            same(f"{page.name} has all conditions", [it for it in CONDITIONS if it.lower() not in words], [])
+            same(f"{page.name} has all conditions", [it for it in CONDITIONS if it.lower() not in held], [])
 
 
 def files_of_recipes():
@@ -169,10 +173,21 @@ def what_is_trusted():
     statements, axioms = trusted()
     section = text("docs/CHECK.md").split("\n## What is trusted\n")[1]
     same("the crates", set(re.findall(r"`(\w+)`", section.split("A check lists")[0])), statements - STANDARD)
-    same("the axioms", re.search(r"takes (\d+): (\d+)\s+of crate `(\w+)` and (\d+) of `(\w+)`", section).groups(), axioms)
+    same(
+        "the axioms", re.search(r"takes (\d+): (\d+)\s+of crate `(\w+)` and (\d+) of `(\w+)`", section).groups(), axioms
+    )
 
 
-CASES = named(what_check_quotes, what_is_trusted, the_first_change, the_hint, the_conditions, files_of_recipes, the_logic, worked_rows)
+CASES = named(
+    what_check_quotes,
+    what_is_trusted,
+    the_first_change,
+    the_hint,
+    the_conditions,
+    files_of_recipes,
+    the_logic,
+    worked_rows,
+)
 
 if __name__ == "__main__":
     sys.exit(run_cases(CASES, __doc__))

@@ -18,7 +18,7 @@ import sys
 import traceback
 from concurrent.futures import ThreadPoolExecutor
 
-from cases import named, run_cases, same, see
+from cases import named, run_cases, see
 from line import Peer, frames_of
 from model import BUILT_IN, MEMORIES, READ_ONLY, Ended, Part, Programmer, Run, size_of
 from program import Room, frame, lines
@@ -253,7 +253,10 @@ def words_of(draw, part, port, updates):
         wrong = "-c arduino|-P usb|-P net:h:0|-P emu:-|-p m9|--parts none.toml|--parts=-|--chip -"
         asked.append(draw.choice(wrong.split("|")).split())
     fixed = draw.random() < 0.5
-    joined = lambda it: ["".join(it)] if len(it) == 2 and len(it[0]) == 2 and draw.random() < 0.2 else it
+
+    def joined(words):
+        return ["".join(words)] if len(words) == 2 and len(words[0]) == 2 and draw.random() < 0.2 else words
+
     return [word for it in (asked if fixed else draw.sample(asked, len(asked))) for word in joined(it)]
 
 

@@ -24,6 +24,7 @@ import subprocess
 import sys
 import time
 from collections import Counter
+from functools import partial
 from pathlib import Path
 
 from cases import leave_out, run_cases, same, see
@@ -265,8 +266,8 @@ def cases_of(room, shim):
 
 def main():
     if not shutil.which("cc"):
-        left_out = lambda name: leave_out(name, "there is no C compiler")
-        return run_cases({name: lambda name=name: left_out(name) for name in cases_of(None, None)}, __doc__)
+        cases = {name: partial(leave_out, name, "there is no C compiler") for name in cases_of(None, None)}
+        return run_cases(cases, __doc__)
     return run_cases(cases_of(*prepared()), __doc__)
 
 

@@ -4,9 +4,9 @@
 Not proved: No proof covers documents and man pages.
 
     tests/manual.py [CASE ..]  docs/*.1 and *.7 have a man page's sections, and most options of --help;
-                               mandoc and groff give no warning; USAGE, the completions and docs/PART name the options and
-                               parts of the program's --help; runs over `emu:` print what README and the manual show; USAGE's
-                               differences from AVRDUDE are true: needs a built program (program.py)
+                               mandoc and groff give no warning; USAGE, the completions and docs/PART name the options
+                               and parts of the program's --help; runs over `emu:` print what README and the manual
+                               show; USAGE's differences from AVRDUDE are true: needs a built program (program.py)
 """
 
 import os
@@ -22,7 +22,7 @@ from cases import VERSION, leave_out, named, run_cases, same, see, table as rows
 from program import PROGRAM, TOP
 
 sys.path.append(str(TOP / "tools"))
-from man_pages import HERE_ALONE, MANUAL, PAGES, SECTIONS, blocks_of, cells, escaped
+from man_pages import HERE_ALONE, MANUAL, PAGES, SECTIONS, blocks_of, cells, escaped  # noqa: E402
 
 USAGE = MANUAL[0]
 
@@ -111,7 +111,8 @@ def pages_are_whole():
     """Each page has its headings and the version, and names no folder or script of a clone."""
     for name, file in PAGES.items():
         text = file.read_text()
-        head = rf'\.TH {re.escape(escaped(name.upper()))} {SECTIONS[name]} \d{{4}}-\d\d-\d\d "avrstk {re.escape(VERSION)}" '
+        title = re.escape(escaped(name.upper()))
+        head = rf'\.TH {title} {SECTIONS[name]} \d{{4}}-\d\d-\d\d "avrstk {re.escape(VERSION)}" '
         see(f"{name} has its name, a date and the version", re.match(head, text), text.splitlines()[0])
         headings = [it for it in re.findall(r"^\.SH (.*)", text, re.M) if it in HEADINGS]
         same(f"{name} has its headings", headings, HEADINGS if SECTIONS[name] == 1 else COMMON)

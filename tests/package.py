@@ -43,7 +43,10 @@ esac
 DOCUMENTS = ["BOARDS", "EMULATOR", "FORMATS", "PART", "PARTS", "PROTOCOL", "README", "TROUBLESHOOTING", "USAGE", "WHY"]
 UNPROVED = "UNPROVED: this build was compiled without its proofs"
 PROVED = "Its behaviour is proved"
-PROGRAMS_PROVED = "The behaviour of avrstk and avrstk_session is proved. The scripts avrstk-serial and avrstk-serve are tested. Proved"
+PROGRAMS_PROVED = (
+    "The behaviour of avrstk and avrstk_session is proved. "
+    "The scripts avrstk-serial and avrstk-serve are tested. Proved"
+)
 DEVELOPMENT = [f"usr/{it}" for it, in table("library") if "NUMBER" not in it]
 
 
@@ -205,10 +208,8 @@ def packages_hold_what_is_installed():
         environment = os.environ | {"AVRSTK": str(PROGRAM)}
         subprocess.run([TOP / "install.sh", prefix], env=environment, check=True, stdout=subprocess.DEVNULL)
         (prefix / "share/avrstk/manifest").unlink()
-        placed = lambda it: it.replace("zsh/site-functions", "zsh/vendor-completions") + ".gz" * it.endswith(
-            (".1", ".7")
-        )
-        wanted = [f"usr/{placed(it)}" for it in files(prefix)]
+        placed = [it.replace("zsh/site-functions", "zsh/vendor-completions") for it in files(prefix)]
+        wanted = [f"usr/{it}{'.gz' if it.endswith(('.1', '.7')) else ''}" for it in placed]
         docs = ["built-from", "changelog.gz", "copyright"]
         own = [*docs, "examples/blink.hex", *(f"{it}.md" for it in DOCUMENTS)]
         found = unpacked("avrstk", Path(folder, "avrstk"))
@@ -246,6 +247,11 @@ def runs(prefix, folder):
     see("avrstk-serial finds the part file", "ATmega32U4" in ran.stdout, ran)
 
 
+def slug(heading):
+    """Returns what a link to a heading has after its #."""
+    return re.sub(r"[^\w -]", "", heading.lower()).replace(" ", "-")
+
+
 def documents_are_the_packages_own():
     """The package's README has about twenty lines, and its commands work outside a clone. Every link leads to a
     document of the package, and to a heading there."""
@@ -253,10 +259,7 @@ def documents_are_the_packages_own():
     with tempfile.TemporaryDirectory() as folder:
         unpacked("avrstk", Path(folder, "root"))
         docs = Path(folder, "root/usr/share/doc/avrstk")
-        slug = lambda it: re.sub(r"[^\w -]", "", it.lower()).replace(" ", "-")
-        headings = {
-            it.name: {slug(head) for head in re.findall(r"^#+ (.*)$", it.read_text(), re.M)} for it in docs.glob("*.md")
-        }
+        headings = {it.name: set(map(slug, re.findall(r"^#+ (.*)$", it.read_text(), re.M))) for it in docs.glob("*.md")}
         for name in headings:
             for target in re.findall(r"\]\(([^)]*)\)", (docs / name).read_text()):
                 file, _, heading = target.partition("#")

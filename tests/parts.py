@@ -42,8 +42,8 @@ HEAD = """\
 
 HEAD_OF_BITS = """\
 # The bits that the fuses and the lock of the parts in classic.toml have: lfuse, hfuse, efuse, lock. Made by
-# tests/parts.py --write of the write instructions in the configuration of AVRDUDE 7.1. A part reads its other bits as 1.
-# A dash stands for a memory whose other bits are read as 0.
+# tests/parts.py --write of the write instructions in the configuration of AVRDUDE 7.1. A part reads its other bits
+# as 1. A dash stands for a memory whose other bits are read as 0.
 """
 HEAD_OF_UNSUPPORTED = """\
 # Parts that classic.toml doesn't have, with the reason. Made by tests/parts.py --write of docs/PARTS.
@@ -148,7 +148,10 @@ def by_headers(name):
     if ran.returncode:
         return None
     defined = dict(re.findall(r"^#define (\w+) +(.*)$", ran.stdout, re.M))
-    value = lambda it: int(re.sub(r"[()UuLl]", "", defined[it].split("/*")[0]).strip(), 0)
+
+    def value(name):
+        return int(re.sub(r"[()UuLl]", "", defined[name].split("/*")[0]).strip(), 0)
+
     included = re.findall(r'^# \d+ "[^"]*/avr/(io[^"/]+\.h)"', ran.stdout, re.M)
     device = next((it for it in included if it != "io.h"), None)
     try:

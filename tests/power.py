@@ -4,7 +4,7 @@ as done is there.
 
 Not proved: The proofs assume what a file system and a disk keep after a sync.
 
-    tests/power.py [CASE ..]        needs root, loop devices, python3-fusepy and mkfs.xfs, or leaves out what it can't make
+    tests/power.py [CASE ..]    needs root, loop devices, python3-fusepy and mkfs.xfs, or leaves out what it can't make
 
 recorder.py records the writes and flushes of a loop device. At a power cut a disk has all writes before the last flush,
 and any of the later ones, whole or in part. File systems are also shut down during a run (FS_IOC_SHUTDOWN), as after an
@@ -139,7 +139,10 @@ def recording(folder, image, record):
 def recorded_runs(folder, image):
     """Saves chips on a recorded disk: one that each run replaces, and a new one for each. Returns the record."""
     with recording(folder, image, folder / "record") as recorded:
-        mark = lambda text: (recorded / "mark").write_bytes(text.encode())
+
+        def mark(text):
+            (recorded / "mark").write_bytes(text.encode())
+
         with mounted(recorded / "disk", folder) as disk:
             mark("begun")
             for value in range(1, RUNS + 1):
@@ -238,6 +241,10 @@ def shut_down(system):
                     for name in ["chip.bin", f"new{tried}-{value % 4}.bin"]:
                         marks.append(f"tried {name} {value}")
                         marks += [f"done {name} {value}"] if save(disk, name, value) else []
+                timer.join()
+                value += 1
+                marks.append(f"tried chip.bin {value}")
+                see(f"{system}, shut down {tried}: no run ends well then", not save(disk, "chip.bin", value))
             with mounted(image, folder) as disk:
                 value += 1
                 is_kept(f"{system}, shut down {tried}", disk, marks, value)
@@ -252,8 +259,8 @@ CASES |= {f"{name}_shut_down": partial(shut_down, name) for name in SYSTEMS}
 
 
 def alone():
-    """Enters a mount namespace of its own: whatever ends this script, the system unmounts what it has mounted, and frees
-    the loop devices."""
+    """Enters a mount namespace of its own: whatever ends this script, the system unmounts what it has mounted, and
+    frees the loop devices."""
     new_namespace = 0x20000
     if os.geteuid() == 0 and ctypes.CDLL(None).unshare(new_namespace) == 0:
         command("mount", "--make-rprivate", "/")

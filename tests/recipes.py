@@ -4,8 +4,8 @@ Each ends with status 0, none starts a build, and git sees no file that they mad
 
 Not proved: No proof covers documents and the shell.
 
-    tests/recipes.py [CASE ..]      needs a built program (program.py), used as the clone's unproved program; commands with
-                                    AVRDUDE are left out without AVRDUDE 7.1, and those with srec_cmp without srecord
+    tests/recipes.py [CASE ..]    needs a built program (program.py), used as the clone's unproved program; commands
+                                  with AVRDUDE are left out without AVRDUDE 7.1, those with srec_cmp without srecord
 
 Only the user's own things differ: the port, the home folder, the firmware, and the board. The board is a pseudo
 terminal with the emulated programmer behind it."""
@@ -176,13 +176,15 @@ def in_place_of_avrdude(clone):
         "\n".join(it.strip() for it in found.splitlines()) for found in re.findall(r"(?:^    .*\n)+", text, re.M)
     ]
     clone.types(["./install.sh ~/.local"])
-    installed = lambda it: it.replace("/usr/bin/", f"{clone.folder}/home/.local/bin/")
+
+    def installed(text):
+        return text.replace("/usr/bin/", f"{clone.folder}/home/.local/bin/")
+
     settings = dict(re.findall(r"^(\w+) = (.*)$", project, re.M))
     variables = {"$UPLOAD_PORT": settings["upload_port"], "$SOURCE": "examples/blink.hex"}
     commands = [re.sub(r"\$\w+", lambda it: variables[it[0]], settings["upload_command"])]
-    commands.append(
-        f"cd ~ && {installed(link)} && cd - && ~/avrdude -patmega2560 -cwiring -P/dev/ttyACM0 -D -Uflash:w:examples/blink.hex:i"
-    )
+    upload = "~/avrdude -patmega2560 -cwiring -P/dev/ttyACM0 -D -Uflash:w:examples/blink.hex:i"
+    commands.append(f"cd ~ && {installed(link)} && cd - && {upload}")
     if PLATFORM.exists():
         commands.append(uploads(installed(local)))
     else:

@@ -218,7 +218,7 @@ def speed(line):
 
 
 def over(words, board=None, **more):
-    """Runs these options over a board. Returns what `run` does, and the chip. The run's report has to fit its schema."""
+    """Runs these options over a board. Returns what `run` does, and the chip. The run's report must fit its schema."""
     it, name = Board(**(board or {})), f"report{next(boards)}.json"
     found = *run([*words, "-P", it.device, "--json", name], **more), it.end()
     if it.opened:
@@ -366,11 +366,11 @@ TEXTS = {
 }
 
 
-def archive(opened, text=b"firmware"):
-    """Returns the bytes of a tar or zip archive with a file of this text."""
+def archive(opened):
+    """Returns the bytes of a tar or zip archive with a file."""
     held = io.BytesIO()
     with opened(held) as it:
-        it.writestr("main.hex", text) if isinstance(it, zipfile.ZipFile) else it.addfile(tarfile.TarInfo("main.hex"))
+        it.writestr("main.hex", "") if isinstance(it, zipfile.ZipFile) else it.addfile(tarfile.TarInfo("main.hex"))
     return held.getvalue()
 
 
@@ -433,8 +433,8 @@ def piped(words, content, **more):
 
 
 def no_firmware():
-    """A text without records, an archive, a page and an image without a byte are refused, also from a pipe; a text as raw
-    bytes (:r) is not."""
+    """A text without records, an archive, a page and an image without a byte are refused, also from a pipe; a text as
+    raw bytes (:r) is not."""
     why = {
         **dict.fromkeys(TEXTS, "is text without records: name its format"),
         **dict.fromkeys(EMPTY, "is empty (did its build fail?)"),
@@ -635,8 +635,8 @@ def lists():
 
 
 class Boards:
-    """One chip behind one device, named `device` in the room: a board for each time that it is opened. Each has a pseudo
-    terminal of its own, so that it sees the end of its run even if the next one opens the device at once."""
+    """One chip behind one device, named `device` in the room: a board for each time that it is opened. Each has a
+    pseudo terminal of its own, so that it sees the end of its run even if the next one opens the device at once."""
 
     def __init__(self, *each, chip=None):
         self.chip, self.each, self.device = (
@@ -797,11 +797,11 @@ def progress():
         see(text, f"\ravrstk-serial: {text}, {100 * sent // count} %" in got, (count, got))
     left = re.search(r"\ravrstk-serial: reading flash: 1,\d+ bytes, \d+ %, (\d+) s left", got)
     see("the time that is left", left and int(left[1]) > 5, got)
-    names = lambda: re.findall(r"\ravrstk-serial: (\w+ \w+)", got)
     updates = ["flash:r:back.hex:i", "eeprom:w:whole.bin:r", "flash:w:blink.hex", "eeprom:r:back.bin"]
     got, status, _ = on_a_terminal(["-p", "m328p", *(word for it in updates for word in ("-U", it))])
     wanted = ["reading flash", "writing eeprom", "reading eeprom", "reading flash", "writing flash"]
-    same("each has its name", (status, set(names())), (0, set(wanted)))
+    names = set(re.findall(r"\ravrstk-serial: (\w+ \w+)", got))
+    same("each has its name", (status, names), (0, set(wanted)))
     got, status, _ = on_a_terminal([*FLASH, "-q"])
     same("-q", (status, got), (0, ""))
 
@@ -847,7 +847,10 @@ def backups():
     old = bytes(it % 241 for it in range(700)).ljust(32_768, b"\xff") + bytes(it % 239 for it in range(200)).ljust(
         1024, b"\xff"
     )
-    told = lambda words, board: over(["-p", "m328p", *words], board)[::3]
+
+    def told(words, board):
+        return over(["-p", "m328p", *words], board)[::3]
+
     for fuses, name in [("E2D1FDFF", "a backup"), ("62D907FE", "-x")]:
         room.put("old.bin", old + bytes.fromhex(fuses))
         status, output, _, own, _ = over(["-p", "m328p", "--wait", "0.4", "--backup", name], {"chip": "old.bin"})
@@ -868,8 +871,14 @@ def backups():
     for words in [["--backup", "none"], ["--restore", "none"]]:
         same("an erased chip", run(["-p", "m328p", "-P", "emu:old.bin", *words])[0], 0)
     loader = "a bootloader can't write fuses and the lock, or read the calibration: use a programmer"
-    written = lambda answer: see("no write", answer[5] not in (0x12, 0x13, 0x15, 0x17, 0x19)) and answer
-    refused = lambda answer: frame(answer[1], b"\x1c\xc0") if answer[5] == 0x1C else written(answer)
+
+    def written(answer):
+        see("no write", answer[5] not in (0x12, 0x13, 0x15, 0x17, 0x19))
+        return answer
+
+    def refused(answer):
+        return frame(answer[1], b"\x1c\xc0") if answer[5] == 0x1C else written(answer)
+
     fails = [
         ({"answer": refused}, ["--backup", "gone"], loader),
         ({"answer": refused}, ["--restore", "a backup"], loader),
@@ -1015,7 +1024,10 @@ def files_of_one_command():
         (room.folder / name).symlink_to(end)
     kept = {it.name: it.read_bytes() for it in room.folder.iterdir() if it.is_file()}
     line, device = terminal()
-    meant = lambda text: text.replace("DEVICE", device).replace("CLASSIC", CLASSIC[1])
+
+    def meant(text):
+        return text.replace("DEVICE", device).replace("CLASSIC", CLASSIC[1])
+
     for words, wanted in table("files"):
         status, _, told, own = run(["-p", "m328p", *shlex.split(meant(words))])
         same(words, (status, told, own), (1, b"", [f"{meant(wanted)}: {UNOPENED}"]))
@@ -1161,7 +1173,10 @@ def elf_files():
         return leave_out("ELF", "avr-gcc is not installed")
     linked("main.elf", ELF)
     others = [it for name in ["eeprom", "fuse", "lock", "signature"] for it in ("-R", f".{name}")]
-    take = lambda *words: subprocess.run(["avr-objcopy", "-O", "binary", *words], cwd=room.folder, check=True)
+
+    def take(*words):
+        subprocess.run(["avr-objcopy", "-O", "binary", *words], cwd=room.folder, check=True)
+
     take(*others, "main.elf", "flash.bin")
     take("-j", ".eeprom", "main.elf", "eeprom.bin")
     flash, eeprom = room.read("flash.bin"), room.read("eeprom.bin")
@@ -1216,8 +1231,8 @@ def elf_files():
     same("too high", high[2], lines("error: high.elf: address 0001FFFF out of range"))
     room.put("both.hex", b"".join(room.read("blink.hex").splitlines(True)[:-1]) + hex_of([(0x810000, b"eeprom")]))
     for memory, at, held in [("flash", 0, flash), ("eeprom", 32_768, eeprom)]:
-        there = lambda chip: chip[:at] + held + chip[at + len(held) :]
-        walk(memory, ["-p", "m328p", "-U", f"{memory}:w:both.hex"], there)
+        words = ["-p", "m328p", "-U", f"{memory}:w:both.hex"]
+        walk(memory, words, lambda chip: chip[:at] + held + chip[at + len(held) :])
 
 
 def mutated(elf, chance):
@@ -1265,7 +1280,8 @@ def elf_files_with_faults():
     from avrstk_elf import sections_of
 
     linked("main.elf", ELF)
-    main, chance, slowest, read = room.read("main.elf"), random.Random(int(os.environ.get("SAMPLE") or 1)), 0.0, 0
+    main, chance = room.read("main.elf"), random.Random(os.environ.get("SAMPLE") or 1)
+    slowest, read, compared = 0.0, 0, 0
     count = int(os.environ.get("MUTANTS", "300" if os.environ.get("SAMPLE") else "4000"))
     for number in range(count):
         elf, begun = mutated(main, chance), time.process_time()
@@ -1278,12 +1294,14 @@ def elf_files_with_faults():
             read += 1
             room.put("mutated.elf", elf)
             command = ["avr-objcopy", "-O", "ihex", "mutated.elf", "mutated.hex"]
-            ran = subprocess.run(command, cwd=room.folder, capture_output=True)
             # (it refuses some others, too)
-            wanted = found if ran.stderr else image_of(room.read("mutated.hex"))
-            see(f"mutant {number}", found == wanted, (sorted(set(found) ^ set(wanted))[:9], ran.stderr))
-    see(f"{count} mutants, {read} are read, the slowest in {slowest:.2f} s", slowest < 1 and 0 < read < count)
-    print(f"{count} mutants, {read} are read, the slowest in {slowest:.3f} s", flush=True)
+            if not subprocess.run(command, cwd=room.folder, capture_output=True).stderr:
+                compared += 1
+                wanted = image_of(room.read("mutated.hex"))
+                see(f"mutant {number}", found == wanted, sorted(set(found) ^ set(wanted))[:9])
+    told = f"{count} mutants, {read} are read, {compared} compared, the slowest in {slowest:.3f} s"
+    see(told, slowest < 1 and 0 < compared <= read < count)
+    print(told, flush=True)
 
 
 def mended(words, case, *_):
@@ -1338,7 +1356,8 @@ FOLLOWED = [
         changed("^flash:.*", "flash:w:blink.hex:i"),
     ),
     (
-        r"there is no such file|it is a symbolic link to a missing file|you may not read it|the system refuses to open it",
+        r"there is no such file|it is a symbolic link to a missing file|you may not read it"
+        r"|the system refuses to open it",
         changed("^flash:.*", "flash:w:blink.hex:i"),
     ),
     (r"a format is one letter: give -U (\S+);", changed("^flash:.*", r"\1")),
@@ -1362,14 +1381,16 @@ FOLLOWED = [
     (r"give one value$|two images overlap: give one$", lambda words, *_: words[:-2]),
     (r"^ended by SIG|^no reply; the chip is unchanged. Check: |^the device sends data, but no valid reply", mended),
     (
-        r"^the programmer (finds no chip|can't reach the chip|stopped replying)|^the device is gone|^something else sends data",
+        r"^the programmer (finds no chip|can't reach the chip|stopped replying)|^the device is gone"
+        r"|^something else sends data",
         mended,
     ),
     (r"only the last command got no reply. Power-cycle the board", mended),
     (r"^check the folder and free space|^standard output is closed", changed(":(/dev/full|-):h", ":read.txt:h")),
     (r"run the same command again$", lambda words, *_: words),
     (
-        r"holds something else than [^;]*$|: use a programmer$|: power-cycle the board$|is worn$|is worn, or a lock|damaged$",
+        r"holds something else than [^;]*$|: use a programmer$|: power-cycle the board$|is worn$|is worn, or a lock"
+        r"|damaged$",
         lambda *_: None,
     ),
     (r"use another one$|which is not known here|is not supported: .* Use avrdude", lambda *_: None),
@@ -1492,7 +1513,10 @@ OLD = bytes(it % 241 for it in range(32_768)) + bytes(1024) + b"\xe1\xd0"
 
 def kind_of(name):
     """Returns the case of a board by its name, or as board_of has it."""
-    loads = lambda **more: {"loads": 1, "again": lambda: None, "board": {"server": Bootloader(OLD[:32_768], **more)}}
+
+    def loads(**more):
+        return {"loads": 1, "again": lambda: None, "board": {"server": Bootloader(OLD[:32_768], **more)}}
+
     lacks = {"lacks": 1, "board": {"answer": without_bits}}
     known = {
         "served": lambda: {},
@@ -1520,7 +1544,13 @@ def kind_of(name):
     kind, _, when = name.partition(" ")
     if kind == "signal":
         reached = threading.Event()
-        held = lambda answer: reached.set() or b"" if when == f"{answer[5]:02X}" else answer
+
+        def held(answer):
+            if when != f"{answer[5]:02X}":
+                return answer
+            reached.set()
+            return b""
+
         halts = {} if when != "early" else stand_in("open('told', 'w')\ntime.sleep(60)\n")
 
         def begun(_, started):
@@ -1641,7 +1671,10 @@ def hints_that_are_followed():
     image = bytes(it % 251 for it in range(700))
     old = bytes(it % 241 for it in range(32_768))
     rows = good.splitlines(True)
-    flash = lambda file, *more: ["-p", "m328p", "-U", f"flash:w:{file}", *more]
+
+    def flash(file, *more):
+        return ["-p", "m328p", "-U", f"flash:w:{file}", *more]
+
     bad = {
         "sum.hex": good.replace(rows[1][9:11], b"00" if rows[1][9:11] != b"00" else b"01", 1),
         "cut.hex": good[:-25],
@@ -1663,8 +1696,11 @@ def hints_that_are_followed():
     for number, (name, (form, *words)) in enumerate(sampled("hints of damaged files", 7, ways)):
         follows(name, flash(f"{number}{name}{form}", *words), file=f"{number}{name}", text=bad[name])
     late, merged = hex_of([(0x1000, image)]), b"\xff" * 0x1000 + image
-    # (with the lock, as for each bootloader's chip)
-    wanted = lambda chip: merged[: 0x1000 + 768].ljust(0x1300, b"\xff") + old[0x1300:] + b"\xff"
+
+    def wanted(_):
+        # (with the lock, as for each bootloader's chip)
+        return merged[: 0x1000 + 768].ljust(0x1300, b"\xff") + old[0x1300:] + b"\xff"
+
     for number, words in enumerate([[], ["-D"], ["-e"], ["-c", "wiring"], ["-c", "wiring", "-D"]]):
         own = {"file": f"late{number}.hex", "text": late, "again": hex_of([(0, merged)])}
         follows(
@@ -1705,7 +1741,7 @@ def signals():
 
 
 def reports():
-    """--json writes what a run did: kinds of failures, the chip, each update; also after a signal, and on the output."""
+    """--json writes what a run did: kinds of failures, the chip, each update; after a signal too, and to the output."""
     try:
         import jsonschema  # noqa: F401
     except ModuleNotFoundError:
@@ -1734,7 +1770,7 @@ def reports():
     same("its digest", wrote["sha256"], hashlib.sha256(held).hexdigest())
     same("a file", (read["read"], read["sha256"]), (228, hashlib.sha256(room.read("back.hex")).hexdigest()))
     same("one lost reply", (found["repeated"], found["retries"], found["signature"]), (1, 0, "1E 95 0F"))
-    same("all commands", found["commands"], len(list(frames_of_stream(it.heard))))
+    same("all commands", found["commands"], frames_in(it.heard))
     reached = threading.Event()
     it = Board(answer=lambda reply: reached.set() or b"" if reply[5] == 0x13 else reply)
     started = start([*FLASH, "-P", it.device, "--json", "report.json"])
@@ -1744,16 +1780,7 @@ def reports():
     it.end()
     found = report_of("report.json")
     same("after a signal", (found["kind"], found["chip"]), ("interrupted", "erased or partly written"))
-    room.put("report.json", b"old")
     same("a folder that isn't there", run([*FLASH, "-P", "emu:c.bin", "--json", "no/report.json"])[0], 1)
-
-
-def frames_of_stream(heard):
-    """Yields the frames of these bytes."""
-    while heard:
-        size = 6 + int.from_bytes(heard[2:4], "big")
-        yield heard[:size]
-        heard = heard[size:]
 
 
 def cut_lines():
@@ -2061,6 +2088,8 @@ TIMED += [
     "names_and_interrupts",
     "recipe_of_a_plain_bridge",
     "recipe_of_ser2net",
+    "elf_files",
+    "elf_files_with_faults",
 ]
 
 if __name__ == "__main__":

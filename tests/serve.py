@@ -416,7 +416,7 @@ def a_job_ends():
         held[options, before] = subprocess.Popen([SCRIPT, *words], **how), int(status), told
     try:
         for name, (it, status, told) in held.items():
-            found = it.communicate(timeout=60)[1]
+            found = it.communicate(timeout=PATIENCE)[1]
             same(f"{name}: the status", it.returncode, status)
             see(
                 f"{name}: its messages",
@@ -620,10 +620,10 @@ def logs_that_take_no_more():
     pipe = room.folder / "pipe"
     os.mkfifo(pipe)
     told = "avrstk-serve: pipe: nobody reads this pipe\n"
-    same("nobody reads it", ran(["0", *M328P, "--log", "pipe"], timeout=20), (1, told, ""))
+    same("nobody reads it", ran(["0", *M328P, "--log", "pipe"]), (1, told, ""))
     reader = os.open(pipe, os.O_RDONLY | os.O_NONBLOCK)
     with Serving("--log", "pipe") as it, it.call() as client:
-        client.settimeout(60)
+        client.settimeout(PATIENCE)
         for _ in range(1_500):
             see("a reply", begins(client))
         held = os.read(reader, 1 << 20)
@@ -687,13 +687,13 @@ def faults():
                 ("--seed 7 makes the same faults again" in told) == ("%" in options),
                 told,
             )
-    for words, status, lines in [
+    for words, status, count in [
         (["--lose", "1000"], 0, 1),
         (["--lose", "1000", "--strict"], 1, 1),
         (["--strict"], 0, 0),
     ]:
         found, told, _ = ran(["0", *M328P, "--log", "log", *words, "--", "true"])
-        same(f"{words}: it never struck", (found, told), (status, "avrstk-serve: --lose 1000 never struck\n" * lines))
+        same(f"{words}: it never struck", (found, told), (status, "avrstk-serve: --lose 1000 never struck\n" * count))
     if not clients[1]:
         leave_out("faults with AVRDUDE", "AVRDUDE 7.1 is not installed")
 

@@ -13,6 +13,7 @@ import socket
 import subprocess
 import sys
 import time
+from pathlib import Path
 
 from cases import PATIENCE, leave_out, named, run_cases, same, see
 from line import BadLine
@@ -149,6 +150,12 @@ def no_answer():
         see("four attempts to sign on, four to leave", wanted in heard, heard)
 
 
+def used_by(process):
+    """Returns the hundredths of processor seconds that a process has used."""
+    fields = Path(f"/proc/{process}/stat").read_text().rpartition(")")[2].split()
+    return int(fields[11]) + int(fields[12])
+
+
 def closed_connection():
     """Checks what avrstk and AVRDUDE do once the other side has closed the connection, as README says."""
     see(
@@ -180,12 +187,11 @@ def closed_connection():
                 same(f"`link {told}`", (started.returncode, messages), (1, lines(f"error: link {told}")))
                 see("at once", time.monotonic() - begun < 2, time.monotonic() - begun)
                 continue
-            used = lambda: sum(map(int, open(f"/proc/{started.pid}/stat").read().rpartition(")")[2].split()[11:13]))
             time.sleep(5)
-            before = used()
+            before = used_by(started.pid)
             time.sleep(10)
             see("AVRDUDE goes on after 15 s", started.poll() is None, started.poll())
-            see("and uses the processor", used() - before > 10, used() - before)
+            see("and uses the processor", used_by(started.pid) - before > 10)
             started.kill()
             started.communicate()
 

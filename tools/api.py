@@ -12,8 +12,8 @@ from collections import namedtuple
 from pathlib import Path
 
 sys.path.append(str(Path(__file__).resolve().parent.parent / "tests"))
-from rattle import EXPORT, MORE, TOP
-from reach import FILES, File, named_in
+from rattle import EXPORT, MORE, TOP  # noqa: E402
+from reach import FILES, File, named_in  # noqa: E402
 
 CRATES = "avr_image avr_records avr_part stk_frame stk_host stk_emu avr_desk avr_plan avr_session avr_tool".split()
 

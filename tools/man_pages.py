@@ -3,8 +3,8 @@
 TROUBLESHOOTING, BOARDS).
 
     tools/man_pages.py             fails if a page is out of date
-    tools/man_pages.py --write     writes these parts: each is between a comment with its page, its section (and the kind of
-                                   block, if only one kind is taken) and `.\\" end`
+    tools/man_pages.py --write     writes these parts: each is between a comment with its page, its section (and the
+                                   kind of block, if only one kind is taken) and `.\\" end`
 """
 
 import re
@@ -46,7 +46,10 @@ def inline(text):
         else:
             piece = re.sub(r"\[([^]]*)\]\([^)]*\)", r"\1", piece)
             made.append(escaped(piece).replace("\\(ga", ""))
-    strong = lambda it: "\\fB" + it[1].replace("\\fB", "").replace("\\fR", "\\fB") + "\\fR"
+
+    def strong(found):
+        return "\\fB" + found[1].replace("\\fB", "").replace("\\fR", "\\fB") + "\\fR"
+
     text = re.sub(r"\*\*(.*?)\*\*", strong, "".join(made))
     return re.sub(r"(?<![\w*])\*(\w[^*]*?)\*(?!\w)", r"\\fI\1\\fR", text)
 

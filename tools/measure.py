@@ -164,7 +164,8 @@ def with_sums(readme, page):
     code, proofs = (
         round(int(it), -2) for it in re.search(r"^\| in all \| (\d+) \| \d+ \| \d+ \| (\d+) ", page, re.M).groups()
     )
-    told = f"About {code:,} lines of code, with {proofs:,} of proofs; {len(list(TOP.glob('crates/*/must-fail/*.edit')))} mutants"
+    mutants = len(list(TOP.glob("crates/*/must-fail/*.edit")))
+    told = f"About {code:,} lines of code, with {proofs:,} of proofs; {mutants} mutants"
     return re.sub(r"About [\d,]+ lines of code, with [\d,]+ of proofs; \d+ mutants", told, readme)
 
 

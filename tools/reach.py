@@ -4,10 +4,10 @@
     tools/reach.py FILE.NAME ..      for these definitions of specs/; CRATE.FILE.NAME if several crates have one; a name
                                      alone is a law or another function, for all that its clauses name
     tools/reach.py -v ..             also lists them, file by file
-    tools/reach.py --check           compares the table of docs/PROOFS with the figures; --write writes them there. It also
-                                     looks for each definition (`File.name`) and law that the documents name, for the
-                                     lemmas of avr_laws that show that the promise isn't empty, and for each clause of
-                                     `Folder` in the model that shows that the laws of a crash aren't
+    tools/reach.py --check           compares the table of docs/PROOFS with the figures; --write writes them there. It
+                                     also looks for each definition (`File.name`) and law that the documents name, for
+                                     the lemmas of avr_laws that show that the promise isn't empty, and for each clause
+                                     of `Folder` in the model that shows that the laws of a crash aren't
 
 A definition reaches the definitions that its text names, in its own file or brought in by `use` lines. Definitions of
 std, of other libraries and of Rust (an enum, a struct) are listed but not counted. A variable with the name of a
@@ -183,8 +183,8 @@ def lacking():
 
 
 def unshown(page):
-    """Yields what is wrong in the table of worlds. A lemma has to be there and to name the definition of its row; one that
-    refuses a world ends in `→ ⊥`. The promise has to reach the definition."""
+    """Yields what is wrong in the table of worlds. A lemma has to be there and to name the definition of its row; one
+    that refuses a world ends in `→ ⊥`. The promise has to reach the definition."""
     head = re.compile(r"^(?:pub )?(\w+) :\s(.*?)\n(?=unfolding |\1 )", re.M | re.S)
     rows = {
         f"Rows.{it.stem}": dict(head.findall(it.read_text())) for it in TOP.glob("crates/avr_laws/proofs/Rows/*.antt")
@@ -202,8 +202,8 @@ def unshown(page):
 
 
 def unmet():
-    """Yields the calls and clauses of `Folder` that its model doesn't have as they are in the trait. The clauses of a call
-    are the fields of a record of its name, and a lemma shows that the call meets them."""
+    """Yields the calls and clauses of `Folder` that its model doesn't have as they are in the trait. The clauses of a
+    call are the fields of a record of its name, and a lemma shows that the call meets them."""
     model = MODEL.read_text()
     records = dict(re.findall(r"^  record (\w+)Clauses\b.*? where\n(.*?)\n\n", model, re.M | re.S))
     for call, text in re.findall(r"^    fn (\w+)\b(.*?);$", TRAIT.read_text(), re.M | re.S):

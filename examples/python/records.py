@@ -80,7 +80,7 @@ def fault_text(library, fault, line=0, address=0):
 
 
 def read(library, text, size):
-    """Reads a record file. Returns the bytes of a memory of this size, its bitmap, and whether there was an end record."""
+    """Reads a record file. Returns the bytes of a memory of this size, its bitmap, and whether an end record came."""
     text, data, present = bytearray(text), bytearray(size), bytearray((size + 7) // 8)
     kind = library.avr_records_detect(*lent(text))
     outcome = library.avr_records_read(kind, *lent(text), *lent(data), *lent(present))

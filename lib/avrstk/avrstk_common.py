@@ -114,8 +114,7 @@ messages = Messages()
 
 def readable(text):
     """Returns a text that is safe to print: control bytes, and bytes that are not UTF-8, become \\xNN."""
-    shown = lambda it: "".join(f"\\x{byte:02x}" for byte in os.fsencode(it))
-    return "".join(it if it.isprintable() else shown(it) for it in text)
+    return "".join(it if it.isprintable() else "".join(f"\\x{byte:02x}" for byte in os.fsencode(it)) for it in text)
 
 
 def say(text):

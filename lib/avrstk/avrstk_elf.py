@@ -97,9 +97,13 @@ def sections_of(elf: bytes) -> Tuple[List[tuple], Optional[str]]:
     return found, made and made[1].decode()
 
 
+def record(body: bytes) -> str:
+    """Returns a record of Intel HEX: its sum ends it."""
+    return f":{(body + bytes([-sum(body) & 255])).hex().upper()}\n"
+
+
 def hex_rows(runs: List[tuple]) -> Iterator[str]:
     """Yields the rows of an Intel HEX file with these bytes at these addresses, each row after one with its base."""
-    record = lambda it: f":{(it + bytes([-sum(it) & 255])).hex().upper()}\n"
     for begin, held, place in ((it, held, to) for it, held in runs for to in range(-(it % 16), len(held), 16)):
         at, row = begin + max(place, 0), bytes(held[max(place, 0) : place + 16])
         yield record(b"\2\0\0\4" + (at >> 16).to_bytes(2, "big"))

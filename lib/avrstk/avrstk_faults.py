@@ -106,7 +106,10 @@ class Traffic:
         seed, each = last.get("--seed", str(random.randrange(1_000_000))), {"--drop": ["--lose", "--lose-reply"]}
         refuse((not re.fullmatch("[0-9]{1,18}", seed), f"--seed {seed}: not a number"))
         chance = random.Random(seed).random
-        meant = lambda name, value: which(value.partition(":")[0] if name == "--late" else value, chance)
+
+        def meant(name, value):
+            return which(value.partition(":")[0] if name == "--late" else value, chance)
+
         self.given = [f"{name} {value}" for name, value in given]
         self.faults = [
             (it, meant(name, value), f"{name} {value}") for name, value in given for it in each.get(name, [name])
@@ -129,7 +132,10 @@ class Traffic:
         self.client, self.has_erased = self.client + 1, False
         # the commands without a reply so far: each has its line, or None if it is no client's, and its faults
         self.waiting = collections.deque()
-        changed = lambda act, pieces: lambda more: b"".join(act(it) if is_frame(it) else it for it in pieces(more))
+
+        def changed(act, pieces):
+            return lambda more: b"".join(act(it) if is_frame(it) else it for it in pieces(more))
+
         return changed(self.command, Frames().pieces), changed(self.reply, Frames().pieces)
 
     def unstruck(self) -> list:

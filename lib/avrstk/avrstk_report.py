@@ -11,7 +11,7 @@ import re
 import sys
 import tempfile
 import time
-from typing import List, Optional
+from typing import Optional
 
 OPERATIONS = {"w": "write", "v": "verify", "r": "read"}
 

@@ -1,7 +1,21 @@
 """avrstk-serial: the command line, and runs of avrstk with a programmer on a serial device."""
 
-from avrstk_common import BRIEF, BUILT_IN, HELP, READ, WRITE, Fault, Frames, Way, asked, came, data_file, ended_by, first
-from avrstk_common import heed_signals, is_frame, messages, parts, ready, refuse, run, say, session_program, show
+from avrstk_common import (
+    BRIEF,
+    BUILT_IN,
+    HELP,
+    READ,
+    WRITE,
+    Fault,
+    Frames,
+    Way,
+    asked,
+    came,
+    data_file,
+    ended_by,
+    first,
+)
+from avrstk_common import heed_signals, is_frame, messages, parts, ready, refuse, say, session_program, show
 from avrstk_common import version, wait
 from avrstk_backup import asking, back_up, restored
 from avrstk_report import Report, write

@@ -1,7 +1,7 @@
 """avrstk-serve: the clients at a port or a terminal, and the runs of avrstk_session for them."""
 
 from avrstk_common import BRIEF, ENDING, HELP, READ, Fault, Way, built, came, ended_by, heed_signals, noted, part_words
-from avrstk_common import readable, ready, refuse, run, say, session_program, show, version, wait
+from avrstk_common import readable, ready, refuse, say, session_program, show, version, wait
 from avrstk_faults import FAULTS, REFUSED, Traffic, seconds
 
 import atexit
@@ -152,10 +152,13 @@ class Job:
         command = [it.replace("{}", where) for it in command]
         self.ran = subprocess.Popen(command, env={**os.environ, "AVRSTK_PORT": where})
         # its end ends the server, as a signal does, and so does the end of its time
-        notes_end = lambda: (self.ran.wait(), noted.send(bytes([signal.SIGCHLD])))
-        threading.Thread(target=notes_end, daemon=True).start()
+        threading.Thread(target=self.note_end, daemon=True).start()
         signal.signal(signal.SIGALRM, lambda *_: None)
         signal.setitimer(signal.ITIMER_REAL, limit or 0)
+
+    def note_end(self) -> None:
+        self.ran.wait()
+        noted.send(bytes([signal.SIGCHLD]))
 
     def end(self) -> None:
         """Ends it with all that it has started: by SIGTERM, and what is left after PATIENCE by SIGKILL."""
@@ -342,6 +345,11 @@ def stray(words: List[str]) -> Optional[str]:
     return next(filter(shutil.which, others), None)
 
 
+def fails(*command):
+    """Runs a program that gets no input, and whose output is not shown."""
+    return subprocess.run(command, stdin=subprocess.DEVNULL, stdout=subprocess.DEVNULL).returncode != 0
+
+
 def main():
     at = sys.argv.index("--") if "--" in sys.argv else len(sys.argv)
     client, program = sys.argv[at + 1 :], stray(sys.argv[1:at])
@@ -366,7 +374,6 @@ def main():
     words = [*part_words(options.get("-p"), parts), "-P", f"emu:{chip}"]
     command = [session_program(), *words]
     # runs that serve nobody check the options and set the lock. They report why they fail
-    fails = lambda *it: subprocess.run(it, stdin=subprocess.DEVNULL, stdout=subprocess.DEVNULL).returncode
     if fails(*command, "-n"):
         return 1
     if traffic:
