@@ -15,7 +15,7 @@ import sys
 from cases import TOP, leave_out, named, run_cases, same, see
 
 sys.path.append(str(TOP / "tools"))
-from evidence import trusted
+from evidence import trusted  # noqa: E402
 
 # the line at the end of a crate's check, as docs/CHECK has it
 PROVED = (

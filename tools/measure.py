@@ -190,8 +190,8 @@ def words_of(name, anchor=None):
     if anchor is None:
         return len(text.split())
     titles = [(it[1], it[2], it.start()) for it in re.finditer(r"^(#+) (.*)$", text, re.M)]
-    slug = lambda title: re.sub(r"[^\w\- ]", "", title.lower()).replace(" ", "-")
-    at = next(i for i, it in enumerate(titles) if slug(it[1]) == anchor)
+    slugs = [re.sub(r"[^\w\- ]", "", it[1].lower()).replace(" ", "-") for it in titles]
+    at = slugs.index(anchor)
     ends = (it[2] for it in titles[at + 1 :] if len(it[0]) <= len(titles[at][0]))
     return len(text[titles[at][2] : next(ends, None)].split())
 
