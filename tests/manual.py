@@ -9,6 +9,7 @@ Not proved: No proof covers documents and man pages.
                                show; USAGE's differences from AVRDUDE are true: needs a built program (program.py)
 """
 
+import os
 import re
 import shlex
 import shutil
@@ -66,7 +67,8 @@ def shown_runs(file):
             printed = ran.stdout.splitlines()
             # (tests/recipes.py runs the commands without shown output)
             if wanted:
-                see(f"{file}: {row}", not ran.returncode and wanted == printed, printed)
+                failed = any(it.startswith("avrstk: error: ") for it in wanted)
+                see(f"{file}: {row}", ran.returncode == failed and wanted == printed, printed)
 
 
 def differences_hold():
@@ -267,9 +269,44 @@ def each_word_of_help():
         see(f"there is the case {case}", re.search(rf"^def {function}\(\):", text, re.M))
 
 
+# the program that the scripts run
+AVRSTK = {"AVRSTK": str(PROGRAM)}
+# a value for each option that takes one
+VALUES = {"-b": "9600", "-c": "stk500v2", "-p": "m328p", "-P": "emu:chip.bin", "-U": "lfuse:r:-:h", "-l": "log"}
+VALUES |= {"-C": "avrdude.conf", "-B": "10", "-E": "reset", "-i": "1", "-T": "erase", "-x": "help", "-Y": "1"}
+
+
+def letters_of_avrdude():
+    """USAGE's table has each option of the installed AVRDUDE, and what avrstk and avrstk-serial do with it."""
+    rows = USAGE.read_text().split("| Option of AVRDUDE 7.1 |")[1].split("\n\n")[0].splitlines()[2:]
+    told = {letter: cells(row)[1:] for row in rows for letter in re.findall(r"(?<=`)-\S", cells(row)[0])}
+    if shutil.which("avrdude"):
+        shown = subprocess.run(["avrdude", "-?"], capture_output=True, text=True).stderr
+        wanted = set(re.findall(r"^  (-\S) ", shown, re.M))
+        see("AVRDUDE has options", len(wanted) > 20, shown)
+        same("the options of AVRDUDE that the table lacks", wanted - set(told), set())
+    else:
+        leave_out("the options of AVRDUDE", "it is not installed")
+    with tempfile.TemporaryDirectory() as folder:
+        for letter, kinds in told.items():
+            for program, kind in zip([PROGRAM, TOP / "avrstk-serial"], kinds):
+                own = {"-p": "m328p", "-P": "emu:chip.bin"} | ({letter: VALUES[letter]} if letter in VALUES else {})
+                words = [program, *(it for pair in own.items() for it in pair), *([] if letter in own else [letter])]
+                ran = subprocess.run(words, cwd=folder, capture_output=True, text=True, env=os.environ | AVRSTK)
+                found = "refused" if ran.returncode else "ignored" if "ignored: " in ran.stderr else "accepted"
+                same(f"{program.name} {letter}", found, re.match(r"\w+", kind)[0])
+
+
 PAGES_HOLD = [pages_are_whole, pages_have_the_options, pages_are_clean, examples_run]
 CASES = named(
-    *PAGES_HOLD, each_word_of_help, names_agree, version_agrees, runs_of_readme, runs_of_manual, differences_hold
+    *PAGES_HOLD,
+    each_word_of_help,
+    letters_of_avrdude,
+    names_agree,
+    version_agrees,
+    runs_of_readme,
+    runs_of_manual,
+    differences_hold,
 )
 
 

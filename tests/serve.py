@@ -767,7 +767,17 @@ CASES = named(
 )
 
 # an idle time, or AVRDUDE's own timeouts
-TIMED = ["idle_clients", "devices", "logged", "avrdudes_in_a_row", "faults", "a_command", "a_job_ends"]
+TIMED = [
+    "idle_clients",
+    "listens",
+    "mega",
+    "devices",
+    "logged",
+    "avrdudes_in_a_row",
+    "faults",
+    "a_command",
+    "a_job_ends",
+]
 
 if __name__ == "__main__":
     sys.exit(run_cases({name: lambda it=it: (room.clear(), it()) for name, it in CASES.items()}, __doc__, timed=TIMED))

@@ -35,6 +35,8 @@ GROUPS = {
     "Build on it": "docs/LIBRARY examples/README docs/api/README docs/definitions/README crates/README "
     "Architecture=docs/ARCHITECTURE docs/DECISIONS CONTRIBUTING CHANGELOG tests/README tests/rattle/README",
 }
+# pages that are in lists of their own
+LISTED = ("docs/api/", "docs/definitions/", "crates/")
 # the picture that a page has in place of its drawing
 PICTURES = {"docs/BOARDS": "way", "docs/PROOFS": "link", "docs/CHECK": "status"}
 
@@ -162,8 +164,12 @@ def write_sources(folder):
     """Writes what Sphinx reads, and returns the files of the repository that it links to."""
     pages, copied = sources(), set()
     pages["index"] = pages.pop("README")
+    named = {it for listed in GROUPS.values() for _, it in titled(listed)}
+    others = [it for it in pages if it not in named and it != "index" and not it.startswith(LISTED)]
     for caption, listed in GROUPS.items():
         names = [f"{title} <{it}>" if title else it for title, it in titled(listed) if it in pages]
+        # (a page that no group names comes last)
+        names += others if caption == list(GROUPS)[-1] else []
         pages["index"] += "\n" + contents(names, f":caption: {caption}", ":hidden:")
     for name, text in list(pages.items()):
         pages[name], files = linked(name, text, pages)
@@ -184,7 +190,7 @@ def write(folder):
     """Writes the site, and returns Sphinx's warnings."""
     with tempfile.TemporaryDirectory() as made:
         copied = write_sources(Path(made, "pages"))
-        words = ["sphinx-build", "-q", "-b", "html", "-j", "auto", "-c", SITE, "-d", f"{made}/trees", f"{made}/pages"]
+        words = ["sphinx-build", "-q", "-b", "html", "-c", SITE, "-d", f"{made}/trees", f"{made}/pages"]
         ran = subprocess.run([*words, folder], stderr=subprocess.PIPE, text=True)
     for it in (".buildinfo", "objects.inv"):
         Path(folder, it).unlink(missing_ok=True)
