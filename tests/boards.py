@@ -324,7 +324,7 @@ def sessions(what, kind, size, words, fates, old=b""):
     totals = collections.Counter("none" if it is None else it[:2] for it in found)
     wrong = [at for at, it in enumerate(found) if it is None or it[0] == 0 and not it[1]]
     see(f"{what}: status 0 has the image", not wrong, f"not in sessions {wrong[:20]}: {totals}")
-    see(f"{what}: faults struck", sum(it[3] for it in found if it) > len(found) // 3, str(totals))
+    see(f"{what}: faults struck", sum(it[3] for it in found if it) > len(found) // 6, str(totals))
     print(f"{what}: {len(found)} sessions, {sum(it[3] for it in found if it)} faults, {dict(totals)}", flush=True)
     return found
 
