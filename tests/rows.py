@@ -30,6 +30,7 @@ from serial import room
 sys.path[:0] = [str(TOP / "lib/avrstk")]
 import avrstk_rows  # noqa: E402
 import avrstk_version1  # noqa: E402
+from avrstk_report import Report  # noqa: E402
 from avrstk_words import Words  # noqa: E402
 
 KEPT = ["SIGN_ON", "ENTER", "LEAVE", "damaged frame", "restart"]
@@ -422,7 +423,7 @@ def over_version1(kind, programmer, words):
     rows, own = [], []
     avrstk_rows.Programmer, avrstk_rows.show, avrstk_rows.say = Direct, rows.append, own.append
     os.chdir(room.folder)
-    given = Words([*TINY, "-c", programmer, "-P", "/dev/null", *words])
+    given = Words([*TINY, "-c", programmer, "-P", "/dev/null", *words], Report())
     status = avrstk_rows.try_rows(given, lambda: open(os.devnull, "rb"))
     is_kept = board.flash()[:FLASH] == old[:FLASH]
     rest = bytes(board.rest()[0][:EEPROM]) + board.rest()[1] if board.is_sketch else b""
