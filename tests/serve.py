@@ -701,7 +701,7 @@ def faults():
 
 def reports():
     """--json writes each session: commands, faults, and whether the chip was saved; also for refused options."""
-    with Serving("--json", "report.json", "--drop", "SIGN_ON#2", "--lose", "CHIP_ERASE", "--idle", "1") as it:
+    with Serving("--json", "report.json", "--drop", "SIGN_ON#2", "--lose", "CHIP_ERASE", "--idle", "8") as it:
         with it.call() as client:
             see("a session", begins(client))
             client.sendall(FRAMES[1])
@@ -767,7 +767,7 @@ CASES = named(
 )
 
 # an idle time, or AVRDUDE's own timeouts
-TIMED = ["idle_clients", "devices", "logged", "avrdudes_in_a_row", "faults", "a_command", "a_job_ends"]
+TIMED = ["idle_clients", "devices", "logged", "avrdudes_in_a_row", "faults", "a_command", "a_job_ends", "reports"]
 
 if __name__ == "__main__":
     sys.exit(run_cases({name: lambda it=it: (room.clear(), it()) for name, it in CASES.items()}, __doc__, timed=TIMED))
