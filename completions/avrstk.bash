@@ -93,7 +93,7 @@ _avrstk() {
     script=${line%%[[:blank:]]*}
     script=${script##*/}
     case $script in
-        avrstk-serial) options="-p -c -P -U -e -D -V -n -F -A -q -b -v -C -l --parts --wait --retry --backup --restore --json --each --counter --from --rows --version -h --help" ;;
+        avrstk-serial) options="-p -c -P -U -e -D -V -n -F -A -q -b -v -C -l --parts --wait --retry --backup --restore --try-rows --yes --json --each --counter --from --rows --version -h --help" ;;
         avrstk-serve) options="-p --chip --parts --idle --timeout --listen --pty --log --log-limit --json --lose --lose-reply --corrupt --corrupt-reply --late --drop --seed --strict --bootloader --mega --locked --no-chip --version -h --help" ;;
         *) script=avrstk ;;
     esac

@@ -74,6 +74,8 @@ complete -c avrstk-serial -s C -r -F -d ignored
 complete -c avrstk-serial -s l -r -F -d 'file of messages'
 complete -c avrstk-serial -l backup -r -F -d 'folder for a backup'
 complete -c avrstk-serial -l restore -r -F -d 'folder of a backup'
+complete -c avrstk-serial -l try-rows -d 'try what the promise asks of a programmer'
+complete -c avrstk-serial -l yes -d 'this chip is to spare'
 complete -c avrstk-serial -l json -r -F -d 'file of a report'
 complete -c avrstk-serial -l each -x -d 'text for each board'
 complete -c avrstk-serial -l counter -r -F -d 'file of the next number'

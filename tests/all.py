@@ -36,7 +36,13 @@ PROVED = TOP / "crates/avrstk/out/avrstk"
 PROGRAMS = {it.parent.parent.name: it.parent.parent / "out" for it in TOP.glob("crates/*/src/main.rt")}
 
 # scripts of tools/, which only read
-CHECKED = ("measure --check", "reach --check", "site --check", "man_pages", "promises", "tests_page")
+CHECKED = (
+    "measure --check",
+    "reach --check",
+    "site --check",
+    "evidence --check",
+    *("man_pages", "promises", "tests_page"),
+)
 # scripts that run no program of this project, or compile it themselves; the longest first
 SOURCES = (
     "rattle tests",
@@ -60,7 +66,7 @@ BOTH = ("runs", "lines")
 # counts of bench/run.py
 BENCH = ("calls", "count")
 # scripts that --all runs with the proved program (mutants builds one of its own); the longest first
-PROGRAM = ("faults", "mutants", "mega", "vendor proof", "package", "power", *BENCH, *QUICK)
+PROGRAM = ("faults", "mutants", "mega", "rows", "vendor proof", "package", "power", *BENCH, *QUICK)
 
 LANES = len(os.sched_getaffinity(0))
 # scripts that no proof waits for give way to rt ci (but not what `rt try` starts, in a session of its own)

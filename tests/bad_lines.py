@@ -26,6 +26,7 @@ from dataclasses import dataclass
 
 from cases import named, run_cases, same, sampled, see
 from line import BadLine, Link, frame_size, frames_of
+from model import trimmed
 from program import CHIP_FILE, Room, Server, xor
 
 AT_ONCE = 24
@@ -234,12 +235,6 @@ MEMORIES = {"flash": slice(0, 256), "eeprom": slice(256, 272), "lfuse": slice(27
 ERASED = 272
 
 
-def words_of(flash):
-    """Returns flash without the words of FF at its end."""
-    held = bytes(flash).rstrip(b"\xff")
-    return held + b"\xff" * (len(held) % 2)
-
-
 class SmallPlan:
     """A plan that is drawn for the small part: it writes, compares and reads memories. `given` has its files, `read`
     the files that it reads, and `chip` and `left` the chip before and after it."""
@@ -262,7 +257,7 @@ class SmallPlan:
                 # (flash that was written takes no other bytes without an erase)
                 operation = "v"
             if operation == "r":
-                self.read[name] = words_of(left[place]) if memory == "flash" else bytes(left[place])
+                self.read[name] = trimmed(bytes(left[place])) if memory == "flash" else bytes(left[place])
             else:
                 size = draw.randint(1, place.stop - place.start)
                 # no image ends with FF, because FF at the end of a flash image is cut off

@@ -17,7 +17,6 @@ import contextlib
 import ctypes
 import os
 import random
-import select
 import shutil
 import signal
 import socket
@@ -32,7 +31,7 @@ import serial
 from cases import PATIENCE, leave_out, named, put_program, run_cases, same, sampled, see
 from line import frames_of
 from program import PROGRAM, TOP, Room, frame, has_avrdude, lines
-from records import hex_of
+from records import hex_of, image_of
 
 sys.path[:0] = [str(TOP / "lib/avrstk")]
 from avrstk_common import Frames, is_frame  # noqa: E402
@@ -149,7 +148,9 @@ class Board:
 
     def __init__(self, kind, flash=b"", up=Fates(), down=Fates()):
         self.kind, self.is_sketch, self.up, self.down = kind, kind.startswith("ArduinoISP"), up, down
-        self.time, self.held, self.sent = 0.0, b"", 0
+        self.time, self.held, self.sent, self.got = 0.0, b"", 0, 0
+        # when the first byte was sent to the board, and when the last one came
+        self.begun = self.ended = None
         self.lib = ctypes.CDLL(str(library()))
         self.lib.board_run.restype, self.lib.board_run.argtypes = ctypes.c_double, [ctypes.c_double, ctypes.c_uint]
         for it in ("board_flash", "target_flash", "target_eeprom", "target_fuses"):
@@ -165,7 +166,9 @@ class Board:
 
     def take(self):
         """Returns what the board has sent."""
-        return self.down(bytes(self.taken[: self.lib.board_take(self.taken)]))
+        held = self.down(bytes(self.taken[: self.lib.board_take(self.taken)]))
+        self.got, self.ended = self.got + len(held), self.time if held else self.ended
+        return held
 
     def run(self, seconds, wanted=1):
         passed = self.lib.board_run(seconds * 1e6, wanted) / 1e6
@@ -176,7 +179,7 @@ class Board:
         """(In its own time a board takes each byte.)"""
 
     def send(self, held):
-        self.sent += len(held)
+        self.sent, self.begun = self.sent + len(held), self.begun or (self.time if held else None)
         held = self.up(held)
         self.lib.board_put(held, len(held))
 
@@ -252,10 +255,7 @@ def clean():
         flash = board.flash()
         wanted = (image + b"\xff" * FLASH if board.is_sketch else image + b"\xff" * 120 + old[5_120:])[: len(flash)]
         same(f"{kind}: its flash", flash, wanted)
-        see(
-            f"{kind}: what was read",
-            room.read("back.bin")[: len(flash)] == flash.rstrip(b"\xff") or not board.is_sketch,
-        )
+        same(f"{kind}: what was read", room.read("back.bin").ljust(len(flash), b"\xff")[: len(flash)], flash)
         if board.is_sketch:
             same(f"{kind}: EEPROM and fuses", board.rest(), (image[:64] + b"\xff" * 960, b"\xe2\xd9\xff\xff"))
             same(f"{kind}: instructions that came too early", board.lib.target_ignored(), 0)
@@ -324,14 +324,14 @@ def sessions(what, kind, size, words, fates, old=b""):
     totals = collections.Counter("none" if it is None else it[:2] for it in found)
     wrong = [at for at, it in enumerate(found) if it is None or it[0] == 0 and not it[1]]
     see(f"{what}: status 0 has the image", not wrong, f"not in sessions {wrong[:20]}: {totals}")
-    see(f"{what}: faults struck", sum(it[3] for it in found if it) > len(found) // 3, str(totals))
+    see(f"{what}: faults struck", sum(it[3] for it in found if it) > len(found) // 6, str(totals))
     print(f"{what}: {len(found)} sessions, {sum(it[3] for it in found if it)} faults, {dict(totals)}", flush=True)
     return found
 
 
 def each_byte():
     """One byte on the way to an Uno is lost, doubled or has one bit flipped: each byte of a short run."""
-    places = share("each_byte", 12, 129, range(516))
+    places = share("each_byte", 12, 172, range(516))
     fates = [(Fates({it: WHATS[it % len(WHATS)]}), Fates()) for it in places]
     sessions("a fault to the board", "optiboot-fast", 300, ["-D"], fates, random.Random(9).randbytes(FLASH))
 
@@ -354,7 +354,7 @@ def damaged_erases():
     over(board, ["--parts", "tiny.toml", "-p", "tiny", "-U", "flash:w:image200.bin:r"])
     at = next(at for at, held in sent if held[:3] == b"V\xac\x80")
     bits = [(at + place, bit) for place in range(1, 5) for bit in range(8)]
-    fates = [(Fates({place: bit}), Fates()) for place, bit in share("damaged_erases", 4, 16, bits)]
+    fates = [(Fates({place: bit}), Fates()) for place, bit in share("damaged_erases", 4, 11, bits)]
     found = sessions("a damaged erase", "ArduinoISP-fast", 200, [], fates, random.Random(9).randbytes(2_048))
     see("status 0: nothing is left beside the image", not any(it[0] == 0 and not it[2] for it in found), str(found))
 
@@ -395,7 +395,7 @@ class Terminal:
     def live(self):
         was_open, begun = False, time.monotonic() - self.board.time
         while not self.ends.is_set():
-            opened = not any(what & select.POLLHUP for _, what in polled(self.line))
+            opened = serial.is_open(self.line)
             if self.wants_reset or opened and not was_open:
                 self.wants_reset, was_open = False, opened
                 if not self.board.is_sketch:
@@ -414,12 +414,6 @@ class Terminal:
         self.thread.join(PATIENCE)
         os.close(self.line)
         return self.board
-
-
-def polled(line):
-    look = select.poll()
-    look.register(line)
-    return look.poll(0)
 
 
 # what Arduino IDE and PlatformIO type, and users
@@ -476,40 +470,135 @@ def typed():
 
 
 def avrdude_beside():
-    """AVRDUDE 7.1 over the same boards: EEPROM over ArduinoISP lands at other addresses, compares as equal, and the
-    status is 0; eeprom:w at an Uno overwrites its flash. avrstk-serial writes the one right, and refuses the other."""
+    """Over the same boards AVRDUDE 7.1 writes EEPROM to wrong addresses, or over the flash; avrstk-serial doesn't. Over
+    ArduinoISP its status is 0 then. At an Uno avrstk-serial refuses EEPROM."""
     if not has_avrdude():
         return leave_out("AVRDUDE over these boards", "AVRDUDE 7.1 is not installed")
     data, old = bytes(range(1, 65)), random.Random(9).randbytes(FLASH)
     room.put("data.bin", data)
     if SKETCH:
         at = Terminal("ArduinoISP", old)
-        words = f"-p m328p -c stk500v1 -P {at.device} -b 19200 -D -q -q -U eeprom:w:data.bin:r"
-        ran = subprocess.run(["avrdude", *words.split()], cwd=room.folder, capture_output=True, timeout=PATIENCE)
+        words = "-p m328p -c stk500v1 -P {} -b 19200 -D -q -q -U eeprom:w:data.bin:r"
+        command = ["avrdude", *words.format(at.device).split()]
+        ran = subprocess.run(command, cwd=room.folder, capture_output=True, timeout=PATIENCE)
         held, _ = at.end().rest()
         same("avrdude, EEPROM over ArduinoISP: its status", ran.returncode, 0)
-        same(
-            "avrdude, EEPROM over ArduinoISP: the bytes",
-            held[:20],
-            data[:4] + b"\xff" * 4 + data[4:8] + b"\xff" * 4 + data[8:12],
-        )
+        wanted = data[:4] + b"\xff" * 4 + data[4:8] + b"\xff" * 4 + data[8:12]
+        same("avrdude, EEPROM over ArduinoISP: the bytes", held[:20], wanted)
         at = Terminal("ArduinoISP", old)
-        status, told = run_script(words.replace(at_of(words), at.device).split())
+        status, told = run_script(words.format(at.device).split())
         held, _ = at.end().rest()
         same("avrstk-serial, EEPROM over ArduinoISP", (status, held[:64]), (0, data))
     at = Terminal("optiboot", old)
-    words = f"-p m328p -c arduino -P {at.device} -b 115200 -D -q -q -U eeprom:w:data.bin:r"
-    ran = subprocess.run(["avrdude", *words.split()], cwd=room.folder, capture_output=True, timeout=PATIENCE)
+    words = "-p m328p -c arduino -P {} -b 115200 -D -q -q -U eeprom:w:data.bin:r"
+    command = ["avrdude", *words.format(at.device).split()]
+    ran = subprocess.run(command, cwd=room.folder, capture_output=True, timeout=PATIENCE)
     flash = at.end().flash()
     see("avrdude, eeprom:w at an Uno: its firmware is another", flash[:128] != old[:128], (ran.returncode, ran.stderr))
     at = Terminal("optiboot", old)
-    status, told = run_script(words.replace(at_of(words), at.device).split())
+    status, told = run_script(words.format(at.device).split())
     same("avrstk-serial, eeprom:w at an Uno", (status, at.end().flash()), (1, old[: KINDS["optiboot"][0]]))
 
 
-def at_of(words):
-    """Returns the device of a command."""
-    return words.split()[words.split().index("-P") + 1]
+# runs that docs/BOARDS gives the time of: a kind of board, AVRDUDE's name of it, and what is written
+RUNS = {
+    "an Uno, 228 bytes": ("optiboot", "arduino", "-D -U flash:w:blink.hex:i"),
+    "an Uno, 5,000 bytes": ("optiboot", "arduino", "-D -U flash:w:image5000.bin:r"),
+    "an Uno, 30,000 bytes": ("optiboot", "arduino", "-D -U flash:w:image30000.bin:r"),
+    "an old Nano, 5,000 bytes": ("ATmegaBOOT", "arduino", "-D -U flash:w:image5000.bin:r"),
+    "Arduino as ISP, 228 bytes and an erase": ("ArduinoISP", "stk500v1", "-U flash:w:blink.hex:i"),
+    "Arduino as ISP, 64 bytes of EEPROM": ("ArduinoISP", "stk500v1", "-D -U eeprom:w:data.bin:r"),
+}
+
+
+def run_measured(name, is_avrdude):
+    """Makes such a run. Returns what docs/BOARDS has of it: status and chip, bytes, and seconds."""
+    kind, programmer, words = RUNS[name]
+    old, words = random.Random(9).randbytes(FLASH), words.split()
+    if is_avrdude:
+        at = Terminal(kind, old)
+        front = ["-qq", "-p", "m328p", "-c", programmer, "-P", at.device, "-b", str(KINDS[kind][1])]
+        with room.start([*front, *words], program=["avrdude"]) as tool:
+            tool.communicate(timeout=PATIENCE)
+        status, board = tool.returncode, at.end()
+    else:
+        board = Board(kind, old)
+        status, _ = over(board, ["-p", "m328p", *words])
+    memory, _, file, form = words[-1].split(":")
+    image = room.read(file) if form == "r" else bytes(image_of(room.read(file)).values())
+    held = board.rest()[0] if memory == "eeprom" else board.flash()
+    chip = "right" if held[: len(image)] == image else "wrong"
+    return f"{status}, {chip}", f"{board.sent:,}, {board.got:,}", f"{board.ended - board.begun:.1f}"
+
+
+def measured():
+    """Runs have the status, the chip and the bytes that docs/BOARDS says, and take about as long. With FULL=1 these are
+    all runs, and AVRDUDE's; else one."""
+    is_full = os.environ.get("FULL") == "1"
+    table = (TOP / "docs/BOARDS.md").read_text()
+    rows = [[cell.strip() for cell in it.strip("| ").split("|")] for it in table.splitlines() if it[:1] == "|"]
+    for size in 5_000, 30_000:
+        room.put(f"image{size}.bin", random.Random(77).randbytes(size))
+    room.put("data.bin", bytes(range(1, 65)))
+    for name, (kind, _, _) in list(RUNS.items())[: None if is_full else 1]:
+        for is_avrdude in (False, True) if is_full and has_avrdude() else (False,):
+            if kind == "ArduinoISP" and not SKETCH:
+                continue
+            (firmware(kind), library(), silence())
+            found = apart(lambda: run_measured(name, is_avrdude))
+            client = "AVRDUDE 7.1" if is_avrdude else "`avrstk-serial`"
+            print("|", " | ".join([name, client, *found]), "|", flush=True)
+            row = next((it[2:] for it in rows if it[:2] == [name, client]), ["", "", "0"])
+            # (how often AVRDUDE asks for the board depends on the time)
+            count = 1 if is_avrdude else 2
+            same(f"{name}, {client}", row[:count], list(found[:count]))
+            see(f"{name}, {client}: seconds", is_avrdude or abs(float(found[2]) - float(row[2])) < 0.5, (found, row))
+
+
+class LosesInPage:
+    """Loses a byte of the first page on its way to a board."""
+
+    def __init__(self):
+        self.passed, self.has_lost = b"", False
+
+    def __call__(self, held):
+        kept = b""
+        for byte in held:
+            self.passed += bytes([byte])
+            if not self.has_lost and self.passed[-14:-10] == b"d\0\x80F":
+                self.has_lost = True
+            else:
+                kept += bytes([byte])
+        return kept
+
+
+def lost_byte_of_a_page():
+    """A byte of a page is lost on the way to an Uno: avrstk-serial resets the board and ends with the right chip.
+    AVRDUDE 7.1 hasn't ended after 80 seconds (with FULL=1; else 20)."""
+    image, old = random.Random(5).randbytes(700), random.Random(9).randbytes(FLASH)
+    room.put("image.hex", hex_of([(0, image)]))
+    (firmware("optiboot"), library(), silence())
+
+    def ours():
+        board = Board("optiboot", old, LosesInPage())
+        status, _ = over(board, "-p m328p -D -U flash:w:image.hex:i".split())
+        return status, board.up.has_lost, board.flash()[:700] == image, round(board.ended - board.begun)
+
+    found = apart(ours)
+    same("a lost byte: avrstk-serial", found[:3], (0, True, True))
+    see("a lost byte: its seconds", found[3] in (5, 6, 7), found)
+    if not has_avrdude():
+        return leave_out("a lost byte: AVRDUDE", "AVRDUDE 7.1 is not installed")
+    at = Terminal("optiboot", old)
+    at.board.up, has_ended = LosesInPage(), True
+    words = ["-p", "m328p", "-c", "arduino", "-b", "115200", "-D", "-U", "flash:w:image.hex:i", "-P", at.device]
+    with room.start(words, program=["avrdude"]) as tool:
+        try:
+            tool.communicate(timeout=80 if os.environ.get("FULL") == "1" else 20)
+        except subprocess.TimeoutExpired:
+            has_ended = tool.kill()
+    board = at.end()
+    same("a lost byte: AVRDUDE", (has_ended, board.up.has_lost, board.flash()[:700] == image), (None, True, False))
 
 
 class Leaving(serial.Bootloader):
@@ -586,19 +675,25 @@ def leaves_to_another():
 CASES = named(
     *(clean, refused, each_byte, lossy, damaged_erases, lost_end),
     *(typed, avrdude_beside, lost_end_of_wiring, leaves_to_another),
+    *(measured, lost_byte_of_a_page),
 )
 
 
-def main():
+def missing():
+    """Returns what isn't installed of what all boards need, in words; none if all is."""
     needed = [CORE, Path("/usr/include/simavr/sim_avr.h"), Path("/usr/include/libelf.h")]
-    missing = [str(it) for it in needed if not it.exists()]
-    missing += [it for it in ("cc", "avr-gcc", "avr-g++", "avr-objcopy") if shutil.which(it) is None]
-    if missing:
-        leave_out("boards that speak version 1", f"{' and '.join(missing)} is not installed")
+    found = [str(it) for it in needed if not it.exists()]
+    found += [it for it in ("cc", "avr-gcc", "avr-g++", "avr-objcopy") if shutil.which(it) is None]
+    return " and ".join(found)
+
+
+def main():
+    if missing():
+        leave_out("boards that speak version 1", f"{missing()} is not installed")
         return run_cases({}, __doc__)
     if not SKETCH:
         leave_out("ArduinoISP", f"{' and '.join(map(str, SKETCHES))} is not there")
-    return run_cases(CASES, __doc__, timed=["typed", "avrdude_beside"])
+    return run_cases(CASES, __doc__, timed=["typed", "avrdude_beside", "lost_byte_of_a_page"])
 
 
 if __name__ == "__main__":

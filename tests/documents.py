@@ -14,6 +14,9 @@ import sys
 
 from cases import TOP, leave_out, named, run_cases, same, see
 
+sys.path.append(str(TOP / "tools"))
+from evidence import trusted  # noqa: E402
+
 # the line at the end of a crate's check, as docs/CHECK has it
 PROVED = (
     "logic=proved functions=.. sum=.. native=nat,char,string logic-built=trusted libraries-built=trusted"
@@ -160,6 +163,21 @@ def worked_rows():
             see(f"{name}: {file} has {part}", len(bare(part)) > 3 and bare(part) in known)
 
 
+# crates of the kit that CHECK calls Rattle's standard library
+STANDARD = {"core", "io", "std", "std_alloc", "std_collections", "std_heap", "std_io"}
+
+
+def what_is_trusted():
+    """CHECK names each crate of the kit whose statements the program's check trusts, and the counts of contracts of C
+    functions, as a gate's log has them (docs/EVIDENCE). Each kind of function is named in docs/EVIDENCE."""
+    statements, axioms = trusted()
+    section = text("docs/CHECK.md").split("\n## What is trusted\n")[1]
+    same("the crates", set(re.findall(r"`(\w+)`", section.split("A check lists")[0])), statements - STANDARD)
+    same(
+        "the axioms", re.search(r"takes (\d+): (\d+)\s+of crate `(\w+)` and (\d+) of `(\w+)`", section).groups(), axioms
+    )
+
+
 def python():
     """black would lay out no file of Python differently, and flake8 and mypy find no fault. (Their settings are in
     pyproject.toml and .flake8: mypy checks what is installed.)"""
@@ -172,7 +190,15 @@ def python():
 
 
 CASES = named(
-    what_check_quotes, the_first_change, the_hint, the_conditions, files_of_recipes, the_logic, worked_rows, python
+    what_check_quotes,
+    what_is_trusted,
+    the_first_change,
+    the_hint,
+    the_conditions,
+    files_of_recipes,
+    the_logic,
+    worked_rows,
+    python,
 )
 
 if __name__ == "__main__":

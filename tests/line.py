@@ -16,7 +16,10 @@ def frame_size(begin):
 
 def frames_in(sent):
     """Returns the number of frames in these bytes."""
-    return 1 + frames_in(sent[frame_size(sent) :]) if sent else 0
+    count = 0
+    while sent:
+        count, sent = count + 1, sent[frame_size(sent) :]
+    return count
 
 
 def frames_of(stream):

@@ -9,6 +9,7 @@ Not proved: No proof covers documents and man pages.
                                show; USAGE's differences from AVRDUDE are true: needs a built program (program.py)
 """
 
+import os
 import re
 import shlex
 import shutil
@@ -66,7 +67,8 @@ def shown_runs(file):
             printed = ran.stdout.splitlines()
             # (tests/recipes.py runs the commands without shown output)
             if wanted:
-                see(f"{file}: {row}", not ran.returncode and wanted == printed, printed)
+                failed = any(it.startswith("avrstk: error: ") for it in wanted)
+                see(f"{file}: {row}", ran.returncode == failed and wanted == printed, printed)
 
 
 def differences_hold():
@@ -210,8 +212,8 @@ def version_agrees():
     for C.)"""
     _, shown = of_help()
     see("--help shows the version", f"This is avrstk {VERSION}." in " ".join(shown.split()), shown[-200:])
-    newest = re.search(r"^## ([0-9.]+)", (TOP / "CHANGELOG.md").read_text(), re.M)[1]
-    same("the newest changes are its own", newest, VERSION)
+    newest = re.search(r"^## ([0-9.]+)|^No version .* will be ([0-9.]+\d)", (TOP / "CHANGELOG.md").read_text(), re.M)
+    same("the newest changes are its own", newest[1] or newest[2], VERSION)
 
 
 def runs_of_readme():
@@ -225,8 +227,87 @@ def runs_of_manual():
         shown_runs(file.relative_to(TOP))
 
 
+# what fits on a screen, with the prompt below it
+COLUMNS, LINES = 78, 23
+
+
+def stated_by(text):
+    """Yields what the text of --help states: each option or argument with its own text, and each sentence. The second
+    text of an option begins with "In full: "."""
+    seen = set()
+    for block in text.split("\n\n")[2:]:
+        if block.startswith("  "):
+            for it in re.split(r"\n(?=  \S)", block):
+                name = re.split(" {2,}", it.strip())[0]
+                yield f"In full: {name}" if name in seen else name
+                seen.add(name)
+        elif block != "In full:":
+            yield from re.split(r"(?<=[.:]) (?=[A-Z])", " ".join(block.split()))
+
+
+def each_word_of_help():
+    """-h of the scripts fits a screen, and --help begins with it. Each option and sentence has a row that names the
+    case of a test; there is such a case, and no row is left."""
+    rows = rows_of("claims")
+    for name, needed in [("avrstk-serial", ["-p ", "-P "]), ("avrstk-serve", ["-p ", "--chip "])]:
+        brief, whole = (
+            subprocess.run([TOP / name, it], capture_output=True, text=True).stdout for it in ("-h", "--help")
+        )
+        same(f"{name} --help has {COLUMNS} columns", [it for it in whole.splitlines() if len(it) > COLUMNS], [])
+        see(f"{name} -h fits a screen", 10 < len(brief.splitlines()) <= LINES, brief)
+        see(f"{name} --help begins with -h", whole.startswith(brief), brief)
+        for it in needed:
+            see(f"{name} -h says that {it}is needed", re.search(rf"^  {it}.*required", brief, re.M), brief)
+        own = [it.removeprefix(f"{name} ") for it, _ in rows if it.startswith(f"{name} ")]
+        for said in stated_by(whole):
+            see(f"{name} --help: a row has: {said}", any(said.startswith(it) for it in own))
+        for it in own:
+            see(f"{name} --help has: {it}", any(said.startswith(it) for said in stated_by(whole)))
+    for _, case in rows:
+        script, function = case.split()
+        text = (TOP / f"tests/{script}.py").read_text()
+        see(f"there is the case {case}", re.search(rf"^def {function}\(\):", text, re.M))
+
+
+# the program that the scripts run
+AVRSTK = {"AVRSTK": str(PROGRAM)}
+# a value for each option that takes one
+VALUES = {"-b": "9600", "-c": "stk500v2", "-p": "m328p", "-P": "emu:chip.bin", "-U": "lfuse:r:-:h", "-l": "log"}
+VALUES |= {"-C": "avrdude.conf", "-B": "10", "-E": "reset", "-i": "1", "-T": "erase", "-x": "help", "-Y": "1"}
+
+
+def letters_of_avrdude():
+    """USAGE's table has each option of the installed AVRDUDE, and what avrstk and avrstk-serial do with it."""
+    rows = USAGE.read_text().split("| Option of AVRDUDE 7.1 |")[1].split("\n\n")[0].splitlines()[2:]
+    told = {letter: cells(row)[1:] for row in rows for letter in re.findall(r"(?<=`)-\S", cells(row)[0])}
+    if shutil.which("avrdude"):
+        shown = subprocess.run(["avrdude", "-?"], capture_output=True, text=True).stderr
+        wanted = set(re.findall(r"^  (-\S) ", shown, re.M))
+        see("AVRDUDE has options", len(wanted) > 20, shown)
+        same("the options of AVRDUDE that the table lacks", wanted - set(told), set())
+    else:
+        leave_out("the options of AVRDUDE", "it is not installed")
+    with tempfile.TemporaryDirectory() as folder:
+        for letter, kinds in told.items():
+            for program, kind in zip([PROGRAM, TOP / "avrstk-serial"], kinds):
+                own = {"-p": "m328p", "-P": "emu:chip.bin"} | ({letter: VALUES[letter]} if letter in VALUES else {})
+                words = [program, *(it for pair in own.items() for it in pair), *([] if letter in own else [letter])]
+                ran = subprocess.run(words, cwd=folder, capture_output=True, text=True, env=os.environ | AVRSTK)
+                found = "refused" if ran.returncode else "ignored" if "ignored: " in ran.stderr else "accepted"
+                same(f"{program.name} {letter}", found, re.match(r"\w+", kind)[0])
+
+
 PAGES_HOLD = [pages_are_whole, pages_have_the_options, pages_are_clean, examples_run]
-CASES = named(*PAGES_HOLD, names_agree, version_agrees, runs_of_readme, runs_of_manual, differences_hold)
+CASES = named(
+    *PAGES_HOLD,
+    each_word_of_help,
+    letters_of_avrdude,
+    names_agree,
+    version_agrees,
+    runs_of_readme,
+    runs_of_manual,
+    differences_hold,
+)
 
 
 if __name__ == "__main__":

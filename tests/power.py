@@ -241,6 +241,10 @@ def shut_down(system):
                     for name in ["chip.bin", f"new{tried}-{value % 4}.bin"]:
                         marks.append(f"tried {name} {value}")
                         marks += [f"done {name} {value}"] if save(disk, name, value) else []
+                timer.join()
+                value += 1
+                marks.append(f"tried chip.bin {value}")
+                see(f"{system}, shut down {tried}: no run ends well then", not save(disk, "chip.bin", value))
             with mounted(image, folder) as disk:
                 value += 1
                 is_kept(f"{system}, shut down {tried}", disk, marks, value)

@@ -58,6 +58,8 @@ class Clone:
             (self.top / "out/unproved" / name).chmod(0o755)
         self.stamp("unproved")
         put_program(self.folder / "bin/rt", RT)
+        # (tools/site.py --check makes the site; here that would only take time)
+        put_program(self.folder / "bin/sphinx-build", "#!/bin/sh\nexit 1\n")
 
     def stamp(self, kind):
         """Stamps the programs there as built from the clone's sources."""
@@ -129,8 +131,9 @@ def in_a_clone(case):
 def readme(clone):
     """Runs the commands of README, without those that test or prove."""
     found = blocks("README.md")
-    first = found[0][0]
-    see("the first command needs no proof", first.startswith("./avrstk --unproved "), first)
+    first = next(it for commands in found for it in commands if it.startswith("./"))
+    see("the first command in a clone needs no proof", first.startswith("./avrstk --unproved "), first)
+    clone.types(["./install.sh ~/.local"])
     for commands in found:
         clone.tries(commands)
 
@@ -139,7 +142,9 @@ def usage(clone):
     """Runs the commands of docs/USAGE and EMULATOR that are in no list; those for an installed avrstk use one that
     install.sh has installed."""
     clone.types(["./install.sh ~/.local"])
-    for commands in blocks("docs/USAGE.md") + blocks("docs/EMULATOR.md"):
+    of_examples = re.findall(r"\| `(\./avrstk .*?)`", (TOP / "examples/README.md").read_text())
+    see("examples/README has commands", len(of_examples) > 3, of_examples)
+    for commands in [*blocks("docs/USAGE.md"), *blocks("docs/EMULATOR.md"), *([it] for it in of_examples)]:
         clone.tries(commands)
 
 

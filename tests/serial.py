@@ -366,11 +366,11 @@ TEXTS = {
 }
 
 
-def archive(opened, text=b"firmware"):
-    """Returns the bytes of a tar or zip archive with a file of this text."""
+def archive(opened):
+    """Returns the bytes of a tar or zip archive with a file."""
     held = io.BytesIO()
     with opened(held) as it:
-        it.writestr("main.hex", text) if isinstance(it, zipfile.ZipFile) else it.addfile(tarfile.TarInfo("main.hex"))
+        it.writestr("main.hex", "") if isinstance(it, zipfile.ZipFile) else it.addfile(tarfile.TarInfo("main.hex"))
     return held.getvalue()
 
 
@@ -1281,7 +1281,8 @@ def elf_files_with_faults():
     from avrstk_elf import sections_of
 
     linked("main.elf", ELF)
-    main, chance, slowest, read = room.read("main.elf"), random.Random(int(os.environ.get("SAMPLE") or 1)), 0.0, 0
+    main, chance = room.read("main.elf"), random.Random(os.environ.get("SAMPLE") or 1)
+    slowest, read, compared = 0.0, 0, 0
     count = int(os.environ.get("MUTANTS", "300" if os.environ.get("SAMPLE") else "4000"))
     for number in range(count):
         elf, begun = mutated(main, chance), time.process_time()
@@ -1294,12 +1295,14 @@ def elf_files_with_faults():
             read += 1
             room.put("mutated.elf", elf)
             command = ["avr-objcopy", "-O", "ihex", "mutated.elf", "mutated.hex"]
-            ran = subprocess.run(command, cwd=room.folder, capture_output=True)
             # (it refuses some others, too)
-            wanted = found if ran.stderr else image_of(room.read("mutated.hex"))
-            see(f"mutant {number}", found == wanted, (sorted(set(found) ^ set(wanted))[:9], ran.stderr))
-    see(f"{count} mutants, {read} are read, the slowest in {slowest:.2f} s", slowest < 1 and 0 < read < count)
-    print(f"{count} mutants, {read} are read, the slowest in {slowest:.3f} s", flush=True)
+            if not subprocess.run(command, cwd=room.folder, capture_output=True).stderr:
+                compared += 1
+                wanted = image_of(room.read("mutated.hex"))
+                see(f"mutant {number}", found == wanted, sorted(set(found) ^ set(wanted))[:9])
+    told = f"{count} mutants, {read} are read, {compared} compared, the slowest in {slowest:.3f} s"
+    see(told, slowest < 1 and 0 < compared <= read < count)
+    print(told, flush=True)
 
 
 def mended(words, case, *_):
@@ -1766,7 +1769,7 @@ def reports():
     same("its digest", wrote["sha256"], hashlib.sha256(held).hexdigest())
     same("a file", (read["read"], read["sha256"]), (228, hashlib.sha256(room.read("back.hex")).hexdigest()))
     same("one lost reply", (found["repeated"], found["retries"], found["signature"]), (1, 0, "1E 95 0F"))
-    same("all commands", found["commands"], len(list(frames_of_stream(it.heard))))
+    same("all commands", found["commands"], frames_in(it.heard))
     reached = threading.Event()
     it = Board(answer=lambda reply: reached.set() or b"" if reply[5] == 0x13 else reply)
     started = start([*FLASH, "-P", it.device, "--json", "report.json"])
@@ -1776,16 +1779,7 @@ def reports():
     it.end()
     found = report_of("report.json")
     same("after a signal", (found["kind"], found["chip"]), ("interrupted", "erased or partly written"))
-    room.put("report.json", b"old")
     same("a folder that isn't there", run([*FLASH, "-P", "emu:c.bin", "--json", "no/report.json"])[0], 1)
-
-
-def frames_of_stream(heard):
-    """Yields the frames of these bytes."""
-    while heard:
-        size = 6 + int.from_bytes(heard[2:4], "big")
-        yield heard[:size]
-        heard = heard[size:]
 
 
 def cut_lines():
@@ -2093,6 +2087,8 @@ TIMED += [
     "names_and_interrupts",
     "recipe_of_a_plain_bridge",
     "recipe_of_ser2net",
+    "elf_files",
+    "elf_files_with_faults",
 ]
 
 if __name__ == "__main__":

@@ -417,7 +417,7 @@ def a_job_ends():
         held[options, before] = subprocess.Popen([SCRIPT, *words], **how), int(status), told
     try:
         for name, (it, status, told) in held.items():
-            found = it.communicate(timeout=60)[1]
+            found = it.communicate(timeout=PATIENCE)[1]
             same(f"{name}: the status", it.returncode, status)
             see(
                 f"{name}: its messages",
@@ -621,10 +621,10 @@ def logs_that_take_no_more():
     pipe = room.folder / "pipe"
     os.mkfifo(pipe)
     told = "avrstk-serve: pipe: nobody reads this pipe\n"
-    same("nobody reads it", ran(["0", *M328P, "--log", "pipe"], timeout=20), (1, told, ""))
+    same("nobody reads it", ran(["0", *M328P, "--log", "pipe"]), (1, told, ""))
     reader = os.open(pipe, os.O_RDONLY | os.O_NONBLOCK)
     with Serving("--log", "pipe") as it, it.call() as client:
-        client.settimeout(60)
+        client.settimeout(PATIENCE)
         for _ in range(1_500):
             see("a reply", begins(client))
         held = os.read(reader, 1 << 20)
@@ -771,7 +771,17 @@ CASES = named(
 )
 
 # an idle time, or AVRDUDE's own timeouts
-TIMED = ["idle_clients", "devices", "logged", "avrdudes_in_a_row", "faults", "a_command", "a_job_ends", "reports"]
+TIMED = [
+    "idle_clients",
+    "listens",
+    "mega",
+    "devices",
+    "logged",
+    "avrdudes_in_a_row",
+    "faults",
+    "a_command",
+    "a_job_ends",
+]
 
 if __name__ == "__main__":
     sys.exit(run_cases({name: lambda it=it: (room.clear(), it()) for name, it in CASES.items()}, __doc__, timed=TIMED))

@@ -4,7 +4,8 @@
     tools/measure.py            prints a table of all crates, and how many names have several meanings
     tools/measure.py -v         also lists these names, and lines over 120 columns
     tools/measure.py --write    writes the sums into docs/ARCHITECTURE, and rounded into README
-    tools/measure.py --check    fails if one of them is out of date, or if a document has a sentence over 30 words
+    tools/measure.py --check    fails if one of them is out of date, if a document has a sentence over 30 words, or if
+                                what README's table "Read on" names takes a reader more minutes than it says
 
 Only files known to git are read. Code is counted in src/, without tests and contracts. Contracts are the clauses of
 functions, definitions are in specs/, and proofs in proofs/. Blank lines, comments and `use` lines are never counted.
@@ -32,6 +33,7 @@ DATA = re.compile(r"(?:pub (?:record|data)|abbrev pub(?= [A-Z]\w* : Type 0$)) ([
 TEST = re.compile(r"/src/(?:.*/)?(?:\w*tests?|examples)(?:/|\.rt)")
 
 LONG = 30
+WORDS_A_MINUTE = 220
 # code blocks, tables and titles, which aren't prose; the cells of tables are read one by one
 NO_PROSE = re.compile(r"^```.*?^```|^(?:\||#|    ).*?$", re.MULTILINE | re.DOTALL)
 PARAGRAPH = re.compile(r"\n\s*\n|\n(?=\s*(?:[-*]|\d+\.) )")
@@ -182,12 +184,35 @@ def long_sentences(name):
     return [it for it in sentences if len(it.split()) > LONG]
 
 
+def words_of(name, anchor=None):
+    """Returns how many words a document has, or its section with this anchor; code and pictures are not read."""
+    text = re.sub(r"^```.*?^```|^    .*?$", "", (TOP / name).read_text(), flags=re.M | re.S)
+    if anchor is None:
+        return len(text.split())
+    titles = [(it[1], it[2], it.start()) for it in re.finditer(r"^(#+) (.*)$", text, re.M)]
+    slugs = [re.sub(r"[^\w\- ]", "", it[1].lower()).replace(" ", "-") for it in titles]
+    at = slugs.index(anchor)
+    ends = (it[2] for it in titles[at + 1 :] if len(it[0]) <= len(titles[at][0]))
+    return len(text[titles[at][2] : next(ends, None)].split())
+
+
+def too_long():
+    """Yields the rows of README's table of readers that take more minutes than they say. Each reads README, too."""
+    table = README.read_text().split("\n## Read on\n\n")[1].split("\n\n")[0]
+    for row in table.splitlines()[2:]:
+        who, pages, minutes = row.strip("| ").split(" | ")
+        links = re.findall(r"\(([\w./]+)#([\w-]+)\)", pages)
+        count = words_of("README.md") + sum(words_of(*it) for it in links)
+        if count > WORDS_A_MINUTE * int(minutes):
+            yield f"README: who {who}s reads {count} words in {minutes} minutes, not {WORDS_A_MINUTE * int(minutes)}"
+
+
 def main():
     if sys.argv[1:] in (["--check"], ["--write"]):
         page = with_figures(PAGE.read_text())
         long = ((name, it) for name in documents() for it in long_sentences(name))
         wrong = [f"{name} has a sentence over {LONG} words: {it}" for name, it in long]
-        sys.exit(kept({PAGE: page, README: with_sums(README.read_text(), page)}, wrong))
+        sys.exit(kept({PAGE: page, README: with_sums(README.read_text(), page)}, [*wrong, *too_long()]))
     print("\n\n".join(figures()))
     if "-v" in sys.argv:
         print("\n".join(f"  {name}: {', '.join(where)}" for name, where in sorted(meanings().items())))

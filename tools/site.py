@@ -1,15 +1,15 @@
 #!/usr/bin/env python3
 """Writes all documents as a site that opens without a network, with search. It also has a page for each crate's calls
-(tools/api.py), and one for the definitions that its contracts name.
+(tools/api.py), one for its definitions, and the man pages.
 
-    tools/site.py FOLDER     writes the site; begin at FOLDER/README.html
-    tools/site.py --check    makes it in a temporary folder, looks for dead links, and searches for some names
+    tools/site.py FOLDER     writes the site; begin at FOLDER/index.html
+    tools/site.py --check    makes it in a temporary folder, looks for dead links, compares its pictures with the
+                             drawings that they replace, and opens its pages in a browser (tools/browser.py)
 
-It needs cmark-gfm. A link to another file of the repository leads to a copy of its text.
-"""
+It needs Sphinx with MyST, the theme furo and the copy button, and mandoc. docs/site has its settings, style and
+pictures. A link to another file of the repository leads to a copy of its text."""
 
 import html
-import json
 import os
 import re
 import shutil
@@ -19,94 +19,77 @@ import tempfile
 from pathlib import Path
 
 from api import CRATES, TOP, anchor, page
-from reach import FILES, USE
+from browser import looked_at
+from reach import FILES
 
-PAGES = ("*.md", "docs/*.md", "crates/*/README.md", "tests/README.md")
-BAR = (
-    ("avrstk", "README"),
-    ("Use", "docs/USAGE"),
-    ("Boards", "docs/BOARDS"),
-    ("Trouble", "docs/TROUBLESHOOTING"),
-    ("Emulator", "docs/EMULATOR"),
-    ("Proofs", "docs/PROOFS"),
-    ("Crates", "docs/LIBRARY"),
-    ("Calls", "docs/api/README"),
-    ("Definitions", "docs/definitions/README"),
-    ("Code", "docs/ARCHITECTURE"),
-)
-# what the check searches for, and a page that has to be among the results
-SOUGHT = {
-    "flash:w": "docs/USAGE.html",
-    "HostFault::Differs": "docs/api/stk_host.html",
-    "ReceivedSentFrames": "docs/definitions/avr_laws.html",
+SITE = TOP / "docs/site"
+MODULES = ("myst_parser", "furo", "sphinx_copybutton")
+PAGES = ("*.md", "docs/*.md", "crates/*/README.md", "tests/README.md", "tests/rattle/README.md", "examples/README.md")
+MANUALS = ("avrstk.1", "avrstk-serial.1", "avrstk-serve.1", "avrstk-emulator.7")
+# the pages in the left column, with their titles there if those are not the pages' own
+GROUPS = {
+    "Use": "Use avrstk=docs/USAGE Boards=docs/BOARDS Parts=docs/PARTS docs/TROUBLESHOOTING docs/FORMATS man/avrstk.1 "
+    "man/avrstk-serial.1",
+    "Emulate": "docs/EMULATOR docs/PROTOCOL docs/PART man/avrstk-serve.1 man/avrstk-emulator.7",
+    "Trust": "docs/WHY docs/CHECK docs/PROOFS Laws=docs/PROMISES docs/EVIDENCE SECURITY",
+    "Build on it": "docs/LIBRARY examples/README docs/api/README docs/definitions/README crates/README "
+    "Architecture=docs/ARCHITECTURE docs/DECISIONS CONTRIBUTING CHANGELOG tests/README tests/rattle/README",
 }
-# the words of a section that can be found
-MOST = 2_000
+# pages that are in lists of their own
+LISTED = ("docs/api/", "docs/definitions/", "crates/")
+# the picture that a page has in place of its drawing
+PICTURES = {"docs/BOARDS": "way", "docs/PROOFS": "link", "docs/CHECK": "status"}
 
-HEADING = re.compile(r"<h([1-6])>(.*?)</h\1>")
-HREF = re.compile(r'(?<=href=")(?!https?:)([^"#]*)((?:#[^"]*)?)(?=")')
-ENUM = re.compile(r"<pre><code[^>]*>(?:#\[[^\n]*\n)*pub enum (\w+).*?</code></pre>", re.S)
-CODE = re.compile(r"<pre><code>(.*?)</code></pre>", re.S)
-# the shapes of characters in a drawing, in a field of 9 by 20
-SHAPES = {
-    "│": "M4,0L4,20",
-    "▶": "M0,4L9,10L0,16z",
-    "◀": "M9,4L0,10L9,16z",
-    "▼": "M-1,6L4,18L9,6z",
-    "▲": "M-1,16L4,4L9,16z",
-    "╳": "M0,4L9,16M9,4L0,16",
-}
-STYLE = """
-body { max-width: 62em; margin: 0 auto 4em; padding: 0 1em; font: 16px/1.5 sans-serif; color: #222; background: #fff }
-nav { padding: .8em 0; border-bottom: 1px solid #ccc } nav a { margin-right: .8em }
-nav input { float: right; font: inherit }
-#found a { display: block; padding: .1em 0 } #found { background: #f6f6f6; padding: 0 .6em }
-pre { background: #f6f6f6; padding: .6em; overflow: auto; font-size: 14px } table { border-collapse: collapse }
-svg { background: #f6f6f6; padding: .6em; width: 100%; max-height: 30em; box-sizing: border-box }
-svg text { font: 15px monospace; white-space: pre } svg path { stroke: #222; fill: #222; stroke-width: 1.5 }
-td, th { border: 1px solid #ccc; padding: .2em .5em; vertical-align: top; text-align: left } img { max-width: 100% }
-"""
-SCRIPT = """
-// each entry: title, address, text in small letters; entries with the words in the title come first
-const field = document.querySelector("nav input"), found = document.querySelector("#found")
-field.oninput = () => {
-  const sought = field.value.trim().toLowerCase(), inTitle = it => it[0].toLowerCase().includes(sought)
-  const hits = sought.length > 1 ? entries.filter(it => inTitle(it) || it[2].includes(sought)) : []
-  hits.sort((a, b) => inTitle(b) - inTitle(a) || a[0].length - b[0].length)
-  found.replaceChildren(...hits.slice(0, 30).map(it => {
-    const link = document.createElement("a")
-    link.href = top_folder + it[1]
-    link.textContent = `${it[0]} (${it[1].split("#")[0].replace(".html", "")})`
-    return link
-  }))
-}
-"""
+LINK = re.compile(r"(?<!!)\[([^\]]+)\]\(([^)\s#]*)(#[^)\s]*)?\)")
+ENUM = re.compile(r"^```rust\n(?:#\[[^\n]*\n)*pub enum (\w+).*?^```$", re.S | re.M)
+SECTION = re.compile(r'<h([12]) class="S[hs]"[^>]*><a[^>]*>(.*?)</a></h\1>', re.S)
+HREF = re.compile(r'(?<=href=")(?!\w+:)([^"#?]*)(?:\?[^"#]*)?((?:#[^"]*)?)(?=")')
 
 
 def sources():
     """Returns the Markdown of each page, by its name without an ending."""
     paths = [path for it in PAGES for path in sorted(TOP.glob(it)) if path.name != "PACKAGE.md"]
-    made = {f"docs/api/{it}": page(it) for it in CRATES}
-    made |= {
-        f"docs/definitions/{it}": definitions(it)
-        for it in sorted({crate for crate, file in FILES if not file.startswith("src/")})
-    }
-    for name in ("api", "definitions"):
-        links = "\n".join(f"- [{Path(it).name}]({Path(it).name}.md)" for it in made if f"/{name}/" in it)
-        made[
-            f"docs/{name}/README"
-        ] = f"# {'The calls of each crate' if name == 'api' else 'The definitions of each crate'}\n\n{links}\n"
     pages = {str(path.relative_to(TOP).with_suffix("")): path.read_text() for path in paths}
-    for it in made:
-        readme = f"crates/{Path(it).name}/README"
-        if readme in pages:
-            kind = "Its calls" if "/api/" in it else "Its definitions"
-            pages[readme] += f"\n[{kind}](../../{it}.md)\n"
-    return pages | made
+    crates = sorted(name.split("/")[1] for name in pages if name.startswith("crates/"))
+    pages |= {f"docs/api/{it}": with_variants(page(it)) for it in CRATES}
+    defined = sorted({crate for crate, file in FILES if not file.startswith("src/")})
+    pages |= {f"docs/definitions/{it}": definitions(it) for it in defined}
+    for name in (it for it in list(pages) if f"crates/{Path(it).name}/README" in pages):
+        kind = "Its calls" if "/api/" in name else "Its definitions"
+        pages[f"crates/{Path(name).name}/README"] += f"\n[{kind}](../../{name}.md)\n"
+    pages |= {f"man/{it}": manual(it) for it in MANUALS}
+    for name, picture in PICTURES.items():
+        pages[name] = pages[name].replace(drawing(pages[name]), raw((SITE / f"{picture}.svg").read_text()))
+    pages["docs/api/README"] = listing("The calls of each crate", CRATES)
+    pages["docs/definitions/README"] = listing("The definitions of each crate", defined)
+    pages["crates/README"] = listing("The crates", [f"{it}/README" for it in crates])
+    return pages
+
+
+def listing(title, names):
+    return f"# {title}\n\n" + contents(names, ":maxdepth: 1")
+
+
+def contents(names, *options):
+    return "\n".join(["```{toctree}", *options, "", *names, "```", ""])
+
+
+def raw(body):
+    return f"``````{{raw}} html\n{body.strip()}\n``````\n"
+
+
+def with_variants(text):
+    """Returns a page of calls with an entry of the index before each enum, for each of its variants."""
+
+    def entries(enum):
+        names = re.findall(r"^    ([A-Z]\w*)", enum[0], re.M)
+        return "".join(f"```{{index}} {enum[1]}::{it}\n```\n\n" for it in names) + enum[0]
+
+    return ENUM.sub(entries, text)
 
 
 def definitions(crate):
-    """Returns the page of a crate's definitions: each file of specs/, with an anchor before each definition."""
+    """Returns the page of a crate's definitions: each file of specs/, with a heading for each definition."""
     rows = [f"# Definitions of {crate}"]
     for path in sorted((TOP / "crates" / crate / "specs").glob("*.antt")):
         named = FILES.get((crate, path.stem))
@@ -116,143 +99,117 @@ def definitions(crate):
 
 
 def blocks(path, named):
-    """Yields the blocks of a file of definitions, without its `use` lines, each in a fence behind the anchors of what
+    """Yields the blocks of a file of definitions, without its `use` lines, each in a fence below the name of what
     it defines."""
-    text = "\n".join(it for it in path.read_text().splitlines() if not USE.match(it))
+    text = "\n".join(it for it in path.read_text().splitlines() if not it.startswith("use "))
     for block in filter(None, re.split(r"\n{2,}", text.strip())):
         names = re.findall(r"^(?:(?:abbrev|unfoldable) pub|pub (?:record|data)) (\S+)", block, re.M)
-        yield from [
-            *(f'<a id="{anchor(path.stem, it)}"></a>' for it in names if it in named),
-            "",
-            "```text",
-            block,
-            "```",
-            "",
-        ]
+        for it in (it for it in names if it in named):
+            yield from [f"```{{index}} {it}", "```", "", f'<p class="name" id="{anchor(path.stem, it)}">{it}</p>', ""]
+        yield from ["```text", block, "```", ""]
 
 
-def drawn(block):
-    """Returns a block of code as a drawing, if it has arrows: lines for the characters of lines, and texts."""
-    rows = html.unescape(block[1]).splitlines()
-    if not re.search("[─│][▶▼]|[◀▲][─│]", "".join(rows)) and "▼" not in block[1]:
-        return block[0]
-    made = []
-    for y, row in enumerate(rows):
-        for run in re.finditer("[─]+|[^─│▶◀▼▲╳ ]+(?: [^─│▶◀▼▲╳ ]+)*|[│▶◀▼▲╳]", row):
-            x, top, width = run.start() * 9, y * 20, len(run[0]) * 9
-            if run[0] in SHAPES:
-                shape = re.sub(r"(-?\d+),(-?\d+)", lambda it: f"{x + int(it[1])},{top + int(it[2])}", SHAPES[run[0]])
-                made.append(f'<path d="{shape}"/>')
-            elif run[0].startswith("─"):
-                made.append(f'<path d="M{x},{top + 10}h{width}"/>')
-            else:
-                made.append(f'<text x="{x}" y="{top + 15}" textLength="{width}">{html.escape(run[0])}</text>')
-    size = f"0 0 {9 * max(map(len, rows))} {20 * len(rows)}"
-    return f'<svg viewBox="{size}" role="img">{"".join(made)}</svg>'
+def manual(name):
+    """Returns a man page, as mandoc makes it, with headings of this site."""
+    words = ["mandoc", "-T", "html", "-O", "fragment", TOP / "docs" / name]
+    made = subprocess.run(words, capture_output=True, text=True, check=True).stdout
+    body = re.sub(
+        r"<br/>\n",
+        "",
+        re.sub(r'<(table class="(?:head|foot)").*?</table>|</?section[^>]*>|</div>\s*$', "", made, flags=re.S),
+    )
+    body = body.replace('<div class="manual-text">', "")
+    first, *rest = SECTION.split(body)
+    rows = [f"# {name[:-2]}({name[-1]})", "", *([raw(first)] if first.strip() else [])]
+    for level, title, text in zip(rest[::3], rest[1::3], rest[2::3]):
+        text = re.sub(r' (?:id|href)="[^"]*"', "", text)
+        rows += [f"{'#' * (int(level) + 1)} {html.unescape(title)}", "", raw(f'<div class="manual">{text}</div>')]
+    return "\n".join(rows)
 
 
-def slug(title):
-    """Returns the anchor that a heading has."""
-    return re.sub(r"[^\w\- ]", "", html.unescape(re.sub("<[^>]*>", "", title)).strip().lower()).replace(" ", "-")
+def drawing(text):
+    """Returns the only drawing of a page, a block of code with arrows."""
+    (found,) = [it[0] for it in re.finditer(r"^(?: {4}.*\n(?:\n(?= {4}))?)+", text, re.M) if re.search("[╳▶▲├]", it[0])]
+    return found
 
 
-def plain(body):
-    """Returns the words of a part of a page."""
-    return html.unescape(re.sub(r"\s+", " ", re.sub("<[^>]*>", " ", body))).strip()
+def words_of(text):
+    return sorted(re.findall(r"[^\s─│┌├└▶◀▼▲╳]+", text))
 
 
-def with_anchors(body):
-    """Returns a page whose headings and variants of an enum have anchors."""
-    seen = {}
-
-    def heading(it):
-        name = slug(it[2])
-        seen[name] = seen.get(name, -1) + 1
-        return f'<h{it[1]} id="{name}{f"-{seen[name]}" if seen[name] else ""}">{it[2]}</h{it[1]}>'
-
-    def variants(enum):
-        return re.sub(
-            r"^(    )([A-Z]\w*)",
-            lambda it: f'{it[1]}<a id="{(enum[1] + it[2]).lower()}"></a>{it[2]}',
-            enum[0],
-            flags=re.M,
-        )
-
-    return ENUM.sub(variants, HEADING.sub(heading, body))
-
-
-def entries(name, body):
-    """Yields what search finds on a page: each section with its words, each variant and each definition."""
-    for part in re.split(r"(?=<h[1-6] id=)", body):
-        if begun := re.match(r'<h\d id="([^"]*)">(.*?)</h\d>', part):
-            yield plain(begun[2]), f"{name}.html#{begun[1]}", plain(part)[:MOST].lower()
-        for enum in ENUM.finditer(part):
-            for at, variant in re.findall(r'<a id="(\w+)"></a>(\w+)', enum[0]):
-                yield f"{enum[1]}::{variant}", f"{name}.html#{at}", ""
-    if name.startswith("docs/definitions/"):
-        for crate, file in FILES:
-            if name.endswith(f"/{crate}") and not file.startswith("src/"):
-                yield from (
-                    (it, f"{name}.html#{anchor(file, it)}", file.lower()) for it in FILES[crate, file].definitions
-                )
-
-
-def linked(name, body, known):
+def linked(name, text, pages):
     """Returns a page whose links lead to pages of the site, and the files of the repository that it links to."""
     copied = set()
 
     def address(it):
-        path = os.path.normpath(Path(name).parent / it[1]) if it[1] else name
-        if not it[1] or path.removesuffix(".md") in known or path.removesuffix(".html") in known:
-            return re.sub(r"\.md$", ".html", it[1]) + it[2]
+        shown, target, at = it[1], it[2], it[3] or ""
+        path = os.path.normpath(Path(name).parent / target)
+        if not target or ":" in target:
+            return it[0]
+        if path == "README.md":
+            return f"[{shown}]({os.path.relpath('index.md', Path(name).parent)}{at})"
+        if path.removesuffix(".md") in pages:
+            return it[0]
+        if not (TOP / path).is_file():
+            return shown
         copied.add(path)
-        return f"{it[1]}.html"
+        return f'<a href="{target}.txt">{shown}</a>'
 
-    return HREF.sub(address, body), copied
-
-
-def whole(name, body):
-    """Returns a page with its head, the links above it and the field for search."""
-    up = "../" * name.count("/")
-    bar = "".join(f'<a href="{up}{it}.html">{title}</a>' for title, it in BAR)
-    return (
-        f'<!doctype html><html lang="en"><meta charset="utf-8"><title>{Path(name).name} - avrstk</title>'
-        f"<style>{STYLE}</style>"
-        f'<nav>{bar}<input placeholder="search" aria-label="search"></nav><div id="found"></div>{body}'
-        f'<script>const top_folder = "{up}"</script><script src="{up}entries.js"></script>'
-        f'<script src="{up}search.js"></script></html>'
-    )
+    # (a link in code is none)
+    parts = re.split(r"(^ {0,3}```.*?^ {0,3}```|^(?: {4}).*?$|`[^`]*`)", text, flags=re.M | re.S)
+    return "".join(it if i % 2 else LINK.sub(address, it) for i, it in enumerate(parts)), copied
 
 
-def rendered(text):
-    ran = subprocess.run(
-        ["cmark-gfm", "--unsafe", "-e", "table"], input=text, capture_output=True, text=True, check=True
-    )
-    return with_anchors(CODE.sub(drawn, ran.stdout))
+def write_sources(folder):
+    """Writes what Sphinx reads, and returns the files of the repository that it links to."""
+    pages, copied = sources(), set()
+    pages["index"] = pages.pop("README")
+    named = {it for listed in GROUPS.values() for _, it in titled(listed)}
+    others = [it for it in pages if it not in named and it != "index" and not it.startswith(LISTED)]
+    for caption, listed in GROUPS.items():
+        names = [f"{title} <{it}>" if title else it for title, it in titled(listed) if it in pages]
+        # (a page that no group names comes last)
+        names += others if caption == list(GROUPS)[-1] else []
+        pages["index"] += "\n" + contents(names, f":caption: {caption}", ":hidden:")
+    for name, text in list(pages.items()):
+        pages[name], files = linked(name, text, pages)
+        copied |= files
+    for name, text in pages.items():
+        place = folder / f"{name}.md"
+        place.parent.mkdir(parents=True, exist_ok=True)
+        place.write_text(text)
+    return copied
+
+
+def titled(listed):
+    """Yields the title and the name of each page of a group; a title may have blanks."""
+    return re.findall(r"(?:(\w[\w ]*)=)?(\S+)", listed)
 
 
 def write(folder):
-    """Writes the site, and returns what search finds."""
-    pages, found, copied = sources(), [], set()
-    bodies = {name: rendered(text) for name, text in pages.items()}
-    for name, body in bodies.items():
-        found += entries(name, body)
-        bodies[name], files = linked(name, body, pages)
-        copied |= files
-    for path in (TOP / file for file in copied):
-        if path.is_file():
-            bodies[
-                str(path.relative_to(TOP))
-            ] = f"<h1>{path.name}</h1><pre><code>{html.escape(path.read_text())}</code></pre>"
-    for name, body in bodies.items():
-        place = folder / f"{name}.html"
+    """Writes the site, and returns Sphinx's warnings."""
+    with tempfile.TemporaryDirectory() as made:
+        copied = write_sources(Path(made, "pages"))
+        words = ["sphinx-build", "-q", "-b", "html", "-c", SITE, "-d", f"{made}/trees", f"{made}/pages"]
+        ran = subprocess.run([*words, folder], stderr=subprocess.PIPE, text=True)
+    for it in (".buildinfo", "objects.inv"):
+        Path(folder, it).unlink(missing_ok=True)
+    for name in copied:
+        place = Path(folder, f"{name}.txt")
         place.parent.mkdir(parents=True, exist_ok=True)
-        place.write_text(whole(name, body))
-    (folder / "entries.js").write_text(
-        f"const entries = {json.dumps(found, ensure_ascii=False, separators=(',', ':'))}\n"
-    )
-    (folder / "search.js").write_text(SCRIPT)
-    return found
+        shutil.copyfile(TOP / name, place)
+    return ran.stderr.splitlines() or [f"sphinx-build ends with status {ran.returncode}"] * bool(ran.returncode)
+
+
+def lacking():
+    """Returns the names of what making the site needs and is not installed."""
+    tools = [it for it in ("sphinx-build", "mandoc") if not shutil.which(it)]
+    if tools:
+        return tools
+    # (another Python than this script's may run Sphinx)
+    python = Path(shutil.which("sphinx-build")).read_text().splitlines()[0].removeprefix("#!").split()
+    looks = "import importlib.util, sys; print(*[it for it in sys.argv[1:] if not importlib.util.find_spec(it)])"
+    return subprocess.run([*python, "-c", looks, *MODULES], capture_output=True, text=True).stdout.split()
 
 
 def dead(folder):
@@ -261,32 +218,43 @@ def dead(folder):
     for path in ids:
         for file, at in HREF.findall(path.read_text()):
             place = (path.parent / file).resolve() if file else path
-            if not place.exists() or at and at[1:] not in ids.get(place, ()):
+            if not place.exists() or len(at) > 1 and at[1:] not in ids.get(place, ()):
                 yield f"{path.relative_to(folder.resolve())}: {file}{at} leads nowhere"
+
+
+def wrong_in(folder):
+    """Yields what is wrong with a site, but for how it looks."""
+    yield from write(folder)
+    yield from dead(folder)
+    for name, picture in PICTURES.items():
+        drawn, shown = ((TOP / f"{name}.md").read_text(), (SITE / f"{picture}.svg").read_text())
+        texts = html.unescape(" ".join(re.findall(r"<text[^>]*>(.*?)</text>", shown)))
+        if words_of(drawing(drawn)) != words_of(texts):
+            yield f"docs/site/{picture}.svg hasn't the words of the drawing in {name}.md"
+    library = (TOP / "docs/LIBRARY.md").read_text()
+    for it in CRATES:
+        if f"(../crates/{it}/README.md)" not in library:
+            yield f"docs/LIBRARY.md has no link to the README of {it}"
 
 
 def check():
     """Prints what is wrong with a site made anew, and returns the status."""
-    if not shutil.which("cmark-gfm"):
-        print("left out: the site: cmark-gfm is not installed\n0 passed, 0 failed, 1 left out")
+    if names := lacking():
+        print(f"left out: the site: not installed: {', '.join(names)}\n0 passed, 0 failed")
         return 0
     with tempfile.TemporaryDirectory() as made:
-        found = write(Path(made))
-        wrong = list(dead(Path(made)))
-    for sought, wanted in SOUGHT.items():
-        hits = {it[1].split("#")[0] for it in found if sought.lower() in it[0].lower() or sought.lower() in it[2]}
-        wrong += [] if wanted in hits else [f"search for {sought} finds no part of {wanted}"]
-    library = (TOP / "docs/LIBRARY.md").read_text()
-    wrong += [
-        f"docs/LIBRARY.md has no link to the README of {it}"
-        for it in CRATES
-        if f"(../crates/{it}/README.md)" not in library
-    ]
-    print("\n".join([*wrong, f"{len(SOUGHT) + len(CRATES) + 1 - min(len(wrong), 1)} passed, {len(wrong)} failed"]))
+        wrong = list(wrong_in(Path(made)))
+        good, bad = looked_at(Path(made))
+    wrong += bad
+    print(*wrong, f"{good + len(PICTURES) + len(CRATES)} passed, {len(wrong)} failed", sep="\n")
     return int(bool(wrong))
 
 
 if __name__ == "__main__":
     if len(sys.argv) != 2:
         sys.exit(__doc__)
-    sys.exit(check() if sys.argv[1] == "--check" else write(Path(sys.argv[1])) and None)
+    if sys.argv[1] == "--check":
+        sys.exit(check())
+    if names := lacking():
+        sys.exit(f"not installed: {', '.join(names)}")
+    sys.exit("\n".join(write(Path(sys.argv[1]))) or None)

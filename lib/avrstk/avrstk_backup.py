@@ -53,11 +53,16 @@ def back_up(words: Words, folder: str, runs: Callable[[], int]) -> int:
                         os.unlink(f"{folder}/{name}")
                 os.rmdir(folder)
     if is_whole:
-        kept = [option for option in ("--parts", "-c", "-b", "--wait") if option in words.last]
-        given = [word for option in kept for word in (option, words.last[option])]
-        given += ["-p", words.part or "", "-P", words.device or "", f"--restore={folder}"]
-        show(" ".join(map(shlex.quote, ["avrstk-serial", *given])))
+        show(command_again(words, f"--restore={folder}"))
     return status
+
+
+def command_again(words: Words, *more: str) -> str:
+    """Returns a command for the same programmer and chip."""
+    kept = [option for option in ("--parts", "-c", "-b", "--wait") if option in words.last]
+    given = [word for option in kept for word in (option, words.last[option])]
+    given += ["-p", words.part or "", "-P", words.device or "", *more]
+    return " ".join(map(shlex.quote, ["avrstk-serial", *given]))
 
 
 def restored(words: Words, folder: str) -> list[Update]:

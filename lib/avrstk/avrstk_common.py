@@ -176,6 +176,11 @@ def show(text: str) -> None:
         raise Fault(f"standard output cannot be written: {fault.strerror}")
 
 
+def brief(help_text: str) -> str:
+    """Returns what -h prints: the part of the help that fits on a screen."""
+    return help_text.partition("\n\nIn full:")[0]
+
+
 def text_of(fault: Exception) -> str:
     """Returns the text of the line that reports a fault."""
     return f"{fault.filename}: {fault.strerror}" if isinstance(fault, OSError) else str(fault)

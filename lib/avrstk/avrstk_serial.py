@@ -2,11 +2,13 @@
 
 from __future__ import annotations
 
-from avrstk_common import BUILT_IN, READ, WRITE, Fault, Frames, Source, Way, came, data_file, ended_by, heed_signals
-from avrstk_common import is_frame, messages, parts, ready, say, session_program, show, text_of, version, wait
+from avrstk_common import BUILT_IN, READ, WRITE, Fault, Frames, Source, Way, brief, came, data_file, ended_by
+from avrstk_common import heed_signals, is_frame, messages, parts, ready, refuse, say, session_program, show, text_of
+from avrstk_common import version, wait
 from avrstk_backup import asking, back_up, restored
 from avrstk_each import Each
 from avrstk_report import Report, write
+from avrstk_rows import try_rows
 from avrstk_hints import LEAVE, NO_CHIP, NO_SIGNATURES, ONE_IMAGE, SIGN_ON, Outcome, hint, state_of
 from avrstk_station import station
 from avrstk_version1 import SPEEDS, Bridge
@@ -223,6 +225,14 @@ class Device:
                 fcntl.ioctl(self, termios.TIOCNXCL)
         if self.file >= 0:
             os.close(self.file)
+
+
+def opened(words: Words) -> Source:
+    """Opens the device for frames, and resets a board that has DTR for that."""
+    device, wait = Device(words.device or "", words.speeds[0], True), float(words.wait)
+    time.sleep(wait)
+    fcntl.ioctl(device, termios.TCFLSH, termios.TCIFLUSH)
+    return Bridge(device, words.speeds, words.is_bootloader, wait) if words.is_version1 else device
 
 
 def settings(old: bytes, baud: int) -> bytes:
@@ -568,6 +578,21 @@ def check(words: Words) -> None:
         raise Fault(hint(Outcome(only, error=error), None))
 
 
+def judge_rows(words: Words) -> None:
+    """Refuses what --try-rows doesn't take."""
+    own = {"--try-rows", "--yes", "--parts", "--wait", "-p", "-P", "-c", "-b", "-l", "-q", "-v", "-C", "-s", "-u"}
+    other, name = next((it for it in words.last if it not in own), None), f"--try-rows={words.trial}"
+    spare = "erases and writes the chip, and clears a bit of its lock: at a chip to spare give --yes, too"
+    refuse(
+        (words.trial is None and "--yes" in words.last, "--yes is for --try-rows=all"),
+        (words.trial not in (None, "safe", "all"), f"{name}: there is --try-rows, and --try-rows=all"),
+        (words.trial and other, f"--try-rows tries a programmer, and takes no {other}"),
+        (words.trial and words.is_station, "--try-rows is for one board"),
+        (words.trial and words.has_port, f"--try-rows is for a serial device, not -P {words.device}"),
+        (words.trial == "all" and "--yes" not in words.last, f"{name} {spare}; {UNOPENED}"),
+    )
+
+
 def judge_files(words: Words, begin: str = "") -> None:
     """Refuses an output that is another file of this command, and the device as an image, before a file is opened. With
     `begin` only the outputs of options that begin so are judged."""
@@ -753,6 +778,7 @@ def prepare(words: Words) -> None:
     words.each = Each(words) if words.each_given else None
     judge_files(words)
     words.report.stage = "arguments"
+    judge_rows(words)
     judge(words)
     if "-l" in words.last:
         messages.log = open(words.last["-l"], "wb", 0)
@@ -784,6 +810,10 @@ def serve(words: Words) -> int:
 
 
 def perform(words: Words) -> int:
+    if words.trial:
+        if words.part == "auto":
+            detect(words)
+        return try_rows(words, lambda: opened(words))
     if words.backup is not None:
         return back_up(words, words.backup, lambda: execute(words))
     return execute(words)
@@ -829,8 +859,10 @@ def execute(words: Words) -> int:
 
 def main(help_text: str) -> int:
     words = Words(sys.argv[1:], Report())
-    if {"-h", "-?", "--help"} & set(words.last) or not sys.argv[1:]:
+    if "--help" in words.last:
         show(help_text)
+    elif {"-h", "-?"} & set(words.last) or not sys.argv[1:]:
+        show(brief(help_text))
     elif "--version" in words.last:
         show(version())
     elif words.device == "?":

@@ -2,7 +2,7 @@
 
 from __future__ import annotations
 
-from avrstk_common import ENDING, READ, Fault, Source, Way, built, came, ended_by, heed_signals, part_words
+from avrstk_common import ENDING, READ, Fault, Source, Way, brief, built, came, ended_by, heed_signals, part_words
 from avrstk_common import readable, ready, say, session_program, show, text_of, unchanged, version, wait
 from avrstk_faults import FAULTS, REFUSED, Traffic, seconds
 from avrstk_mega import Mega
@@ -441,7 +441,7 @@ def main(help_text: str) -> int:
     given, places = getopt.gnu_getopt(sys.argv[1:at], "p:h", LONG)
     options = dict(given)
     if {"-h", "--help", "--version"} & set(options) or not sys.argv[1:]:
-        show(version() if "--version" in options else help_text)
+        show(version() if "--version" in options else help_text if "--help" in options else brief(help_text))
         return 0
     if "--json" not in options:
         return serve(given, places, client)

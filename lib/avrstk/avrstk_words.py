@@ -45,8 +45,8 @@ PACKED = {
 
 # options of AVRDUDE and of avrstk
 SHORT = "p:c:P:U:b:C:l:B:E:i:x:T:Y:OtysueDVnFAqvh?"
-LONG = ["parts=", "serve=", "chip=", "wait=", "retry=", "backup=", "restore=", "json=", "version", "help"]
-LONG += ["each=", "from=", "rows=", "counter="]
+LONG = ["parts=", "serve=", "chip=", "wait=", "retry=", "backup=", "restore=", "json=", "try-rows=", "yes"]
+LONG += ["each=", "from=", "rows=", "counter=", "version", "help"]
 
 IGNORED = {"-C", "-s", "-u"}
 
@@ -109,13 +109,15 @@ class Words:
 
     def __init__(self, given: list[str], report: Report) -> None:
         self.unproved = given[:1] == ["--unproved"]
-        options, others = getopt.gnu_getopt(given[self.unproved :], SHORT, LONG)
+        # (getopt knows no option whose value may be left out)
+        given = [{"--try-rows": "--try-rows=safe"}.get(it, it) for it in given[self.unproved :]]
+        options, others = getopt.gnu_getopt(given, SHORT, LONG)
         self.last = last = dict(options)
         judge_words(options, others)
         self.part, self.device, self.parts_file = last.get("-p"), last.get("-P"), last.get("--parts")
         self.programmer, baud = last.get("-c", "stk500v2"), last.get("-b")
         self.wait, self.retry = last.get("--wait", "0.3"), last.get("--retry", "0")
-        self.backup, self.restore = last.get("--backup"), last.get("--restore")
+        self.backup, self.restore, self.trial = (last.get(it) for it in ("--backup", "--restore", "--try-rows"))
         # all devices of the command. A station has several boards, or all that are there
         self.devices = [value for name, value in options if name == "-P"]
         self.is_station = len(self.devices) > 1 or self.devices == ["all"]
@@ -190,13 +192,23 @@ class Words:
         """Returns the digits of the part's signature, as far as they are known here."""
         if self.parts_file is None:
             return parts().get((self.part or "").lower(), {}).get("signature", "")
-        if not os.path.isfile(self.parts_file):
-            return ""
+        return (self.of_file("signature") or "").upper()
+
+    def of_file(self, name: str) -> str | None:
+        """Returns a field of the part in the part file of one's own."""
+        if self.parts_file is None or not os.path.isfile(self.parts_file):
+            return None
         part = rf'(?:\bparts\.)?"?{re.escape(self.part or "")}"?'
-        entry = rf'^\s*(?:\[{part}\]|{part}\s*=)[^\[}}]*?\bsignature\s*=\s*["\'](\w{{6}})["\']'
+        entry = rf'^\s*(?:\[{part}\]|{part}\s*=)[^\[}}]*?\b{name}\s*=\s*["\']?(\w+)'
         with open(self.parts_file, encoding="utf-8", errors="replace") as file:
             found = re.search(entry, file.read(65_536), re.M)
-        return found[1].upper() if found else ""
+        return found[1] if found else None
+
+    def of_part(self, name: str) -> str | None:
+        """Returns a field of the part, wherever it is described."""
+        own = self.of_file(name) if self.parts_file is not None else None
+        is_here = self.parts_file is None or self.part in BUILT_IN
+        return own or (parts().get((self.part or "").lower(), {}).get(name) if is_here else None)
 
     def field(self, name: str) -> int | None:
         """Returns a number of the part, such as flash_size; None if it is not known here."""
@@ -243,6 +255,8 @@ def judge_words(options: Sequence[tuple[str, str]], others: Sequence[str]) -> No
     other, update = others[0], dict(options).get("-U", "")
     if update in MEMORIES:
         raise Fault(f"an update is one word: give -U {':'.join([update, *others[:3]])}")
+    if re.match("-.", other):
+        raise Fault(f"{other} is after --, which ends the options: leave out --")
     if re.match(r"[a-z]+:[rwv]:", other):
         raise Fault(f"{other} has no option before it: give -U {other}")
     raise Fault(f"{other} has no option before it: a file is given as -U flash:w:{other}")

@@ -1,0 +1,275 @@
+#!/usr/bin/env python3
+"""Writes docs/EVIDENCE.md from the log of a gate, for readers without the kit.
+
+    ./test --all >LOG; tools/evidence.py LOG     in the clone in which the gate ran; a log of `rt ci` serves, too
+    tools/evidence.py --check                    fails if the page's theorem isn't that of the sources; --write mends it
+
+The page has what the log and the stamp of the proved program say: verdicts, axioms, crates whose statements are
+trusted, mutants, the summary and sums. The theorem is taken from the sources."""
+
+import os
+import platform
+import re
+import shutil
+import subprocess
+import sys
+from collections import defaultdict
+from datetime import datetime, timezone
+from pathlib import Path
+from textwrap import wrap
+
+from kept import TOP, kept
+
+PAGE = TOP / "docs/EVIDENCE.md"
+LAWS = TOP / "crates/avr_laws"
+PROGRAM = "avrstk"
+BEGUN, ENDED = "<!-- made: the theorem -->\n", "<!-- end -->\n"
+
+# what `./test --all` puts before each line: the minutes so far
+MINUTES = re.compile(r"^ {0,3}\d+\.\d ")
+VERDICT = re.compile(r"logic=(?P<verdict>\S+) functions=(?P<functions>\d+)(?: axioms=(?P<axioms>\d+))?")
+EMPTY = re.compile(r"empty contracts: (\d+) found; tried (\d+) of (\d+) functions")
+# the counts of contracts of C functions that a check takes as written, and with --list-axioms each of these functions
+AXIOMS = re.compile(r"axioms (\w+): (?:.*\()?(\d+) of the (\d+) declared")
+REACHED = re.compile(r"\W*((\w+)::[\w:]+\w)\b.*\breached$")
+STATEMENTS = re.compile(r"statements (\w+):")
+CRATE = re.compile(r"== (\w+)$")
+REFUSED = re.compile(r"(?:rt: )?must-fail (\w+)/(\w+)\.edit: refused, as it must be(?:: )?(.*)")
+# a refusal that says less of the contract, with the reason
+LESS = re.compile(r" ?\((only [^,:]*).*?\): (.*)")
+PLACE = re.compile(r"(?:note: )?(\S+?:\d+):\d+: (.*)")
+
+KEY = """| In the block | Meaning |
+| --- | --- |
+| `result ≡ 0` | the status of the program is 0 |
+| `link.old.transcript ≡ []` | nothing had passed over standard input and output before |
+| `AreWords words` | the system gave these words as the command line |
+| `takes avrstk words` | the words are an accepted command line, and not a request for help |
+| `settings_from_arguments words` | the settings that the words ask for, among them the port |
+| `KeepsPlan settings old new` | the settings, and the files that the run opened, ask for a plan that was kept |
+| `T` | any programmer and chip, with what it replies and does |
+| `IsKeptByAny .. plan passed old new` | if `T` keeps the rows, then by what passed over the link, chip and read files hold what the plan asks for; it stands for `Kept` |
+| `IsKeptInFile file plan old new` | the same of the chip in the chip file, without a link |
+| `passed ≡ []` | nothing passed over standard input and output |
+| `At address (Some link)` | over the one connection to this address passed what `link` has |
+| `Served port file` | a service (`--serve`), of whose plan nothing is stated |"""  # noqa: E501
+
+
+def equations(text, name):
+    """Returns the equations of a definition, without its comment and type."""
+    found = re.search(rf"^(?:{name} .*\n(?: .*\n)*)+", text, re.M)[0]
+    return found.splitlines()
+
+
+def theorem():
+    """Returns the law of the promise as one block, with its key."""
+    law = (LAWS / "src/program.rt").read_text()
+    clause = re.search(r"^    ensures plan \{.*?\}$", law, re.M | re.S)[0].splitlines()
+    text = (LAWS / "specs/KeptByPort.antt").read_text()
+    rows = [it.removeprefix("    ") for it in clause] + equations(text, "KeepsCommandLine")
+    rows += equations(text, "KeepsPlanAt")
+    return "\n".join([BEGUN, *(f"    {it}" for it in rows), "", KEY, "", ENDED])
+
+
+def with_theorem(text):
+    begin, end = text.index(BEGUN), text.index(ENDED) + len(ENDED)
+    return text[:begin] + theorem() + text[end:]
+
+
+def below(name, crates):
+    """Returns the crates that a crate stands on, the lowest first."""
+    found = []
+    for it in crates.get(name, []):
+        found += [x for x in (*below(it, crates), it) if x not in found]
+    return found
+
+
+def axioms():
+    """Returns the C functions whose contracts the program's check takes as written, by crate. It checks the program
+    once more, over the libraries that the gate has built."""
+    lines = [re.sub("#.*", "", it).split() for it in (TOP / "crates.txt").read_text().splitlines()]
+    crates = {it[0].rstrip(":"): it[1:] for it in lines if it}
+    kit = Path(os.path.realpath(shutil.which("rattle"))).parent.parent
+    names = below(PROGRAM, crates)
+    built = {it: f"crates/{it}/out/rlib/{it}.rlib" for it in names if it in crates}
+    if not all((TOP / it).exists() for it in built.values()):
+        return {}
+    built |= {it: kit / f"rlibs/{it}.rlib" for it in [*names, "std", "core"] if it not in crates}
+    words = ["rattle", "check", "--crate-name", PROGRAM, "src/main.rt", "--list-axioms"]
+    for name, place in built.items():
+        words += ["--extern", f"{name}={TOP / place}"]
+    words += ["-L", f"dependency={kit}/rlibs", "--antt-project", kit / "rattle/logic/antt-project.json"]
+    words += ["--logic-built", kit / "logic_built"]
+    how = {"stdout": subprocess.PIPE, "stderr": subprocess.STDOUT, "text": True}
+    ran = subprocess.run(words, cwd=TOP / "crates" / PROGRAM, **how)
+    found = defaultdict(list)
+    for it in filter(None, map(REACHED.match, ran.stdout.splitlines())):
+        found[it[2]].append(it[1])
+    return found
+
+
+class Crate:
+    """What the log says of a crate."""
+
+    def __init__(self):
+        self.verdict, self.empty, self.axioms, self.trusted = None, None, {}, []
+
+    def see(self, line):
+        if found := VERDICT.match(line):
+            self.verdict = found
+        elif found := EMPTY.match(line):
+            self.empty = found.groups()
+        elif found := AXIOMS.match(line):
+            self.axioms[found[1]] = found.groups()[1:]
+        elif found := STATEMENTS.match(line):
+            self.trusted.append(found[1])
+
+
+def read(log):
+    """Returns what the log says of each crate, its refused mutants, its first line with the kit, and its summary."""
+    crates, mutants, crate = {}, [], None
+    lines = [MINUTES.sub("", it) for it in log.read_text(errors="replace").splitlines()]
+    for line in lines:
+        if (found := CRATE.match(line)) and (TOP / "crates" / found[1]).is_dir():
+            crate = crates.setdefault(found[1], Crate())
+        elif line.startswith("== "):
+            crate = None
+        elif found := REFUSED.match(line):
+            mutants.append(found.groups())
+        elif crate:
+            crate.see(line)
+    summary = lines[lines.index("== summary") + 1 :] if "== summary" in lines else []
+    return crates, sorted(set(mutants)), next((it for it in lines if " GB free; " in it), ""), summary
+
+
+def about(log, machine):
+    """Yields the rows on the run: when, where, of what."""
+    git = subprocess.run(["git", "-C", TOP, "log", "-1", "--format=%H (%cs)"], capture_output=True, text=True)
+    model = re.search(r"model name\s*: (.*)", Path("/proc/cpuinfo").read_text())
+    kit = subprocess.run(["rt", "version"], capture_output=True, text=True).stdout.strip()
+    yield from ["| | |", "| --- | --- |", f"| Commit | `{git.stdout.split()[0]}` |"]
+    yield f"| Date | {datetime.fromtimestamp(log.stat().st_mtime, timezone.utc):%Y-%m-%d %H:%M} UTC |"
+    yield f"| Kit | `{kit}` |"
+    memory = os.sysconf("SC_PAGE_SIZE") * os.sysconf("SC_PHYS_PAGES") / 2**30
+    kind = f"{platform.system()} {platform.machine()}, {os.cpu_count()} processors ({model[1] if model else 'unknown'})"
+    yield f"| Machine | {kind}, {memory:.0f} GB" + (f"; at the start {machine.split(';')[0]}" if machine else "") + " |"
+
+
+def verdicts(crates):
+    yield from ["| Crate | Verdict | Functions | Axioms | Empty contracts |", "| --- | --- | ---: | ---: | --- |"]
+    for name, it in crates.items():
+        empty = f"{it.empty[0]} found, {it.empty[1]} of {it.empty[2]} functions tried" if it.empty else ""
+        verdict = f"`logic={it.verdict['verdict']}`" if it.verdict else "none"
+        functions, axioms = (it.verdict["functions"], it.verdict["axioms"] or 0) if it.verdict else ("", "")
+        yield f"| {name} | {verdict} | {functions} | {axioms} | {empty} |"
+
+
+def refusals(mutants):
+    yield from ["| Mutant | Refused at | What the prover said |", "| --- | --- | --- |"]
+    for crate, name, said in mutants:
+        only = LESS.match(said)
+        found = PLACE.match(only[2] if only else said)
+        place, words = (f"`{found[1]}`", found[2]) if found else ("", said)
+        words = "; ".join(filter(None, [only and only[1], words.replace("|", "\\|")]))
+        yield f"| {crate}: {name.replace('_', ' ')} | {place} | {words} |"
+
+
+TEMPLATE = """# Evidence
+
+This page is what the gate, `./test --all`, printed for one commit. `tools/evidence.py LOG` makes the page from the
+gate's log, so that the outcome can be seen without the kit. [CHECK](CHECK.md) explains each word, and how to run the
+gate.
+
+{about}
+
+## The theorem
+
+This is law `a_program_with_status_0_kept_its_plan` of avr_laws, as the sources have it: its main clause, and the two
+definitions that the clause names. [CHECK](CHECK.md#the-claim) explains the law line by line, and has
+[a key to the notation](CHECK.md#read-a-contract).
+
+{theorem}
+## Verdicts
+
+The prover's verdict on each crate. A contract is empty if no arguments meet its premises.
+
+{verdicts}
+
+The whole line of `{program}` is:
+
+    {line}
+
+## Axioms
+
+The check of `{program}` takes the contracts of these C functions as written. The kit has their text.
+
+{axioms}
+
+## Trusted statements
+
+The check of `{program}` uses the statements of these crates of the kit without checking them again:
+
+{trusted}.
+
+## Mutants
+
+Mutants are wrong edits of the code, which the prover has to refuse. [CHECK](CHECK.md#break-it) explains one of them.
+
+{mutants}
+
+## Sums
+
+{sums}
+
+## The gate's summary
+
+{summary}
+"""
+
+
+def as_code(rows, absent):
+    """Returns lines as a block of code, or what to say if there are none."""
+    return "\n".join(f"    {it}"[:120].rstrip() for it in rows) if rows else absent
+
+
+def page(log):
+    """Returns the page."""
+    crates, mutants, machine, summary = read(log)
+    program, named = crates.get(PROGRAM, Crate()), axioms()
+    stamp = TOP / "out/proved.stamp"
+    taken = []
+    for of, (some, declared) in program.axioms.items():
+        taken.append(f"- *{of}*, {some} of {declared} declared")
+        taken += ["", *wrap(", ".join(named[of]), 110, initial_indent=" " * 6, subsequent_indent=" " * 6), ""] * (
+            of in named
+        )
+    return TEMPLATE.format(
+        program=PROGRAM,
+        about="\n".join(about(log, machine)),
+        theorem=theorem(),
+        verdicts="\n".join(verdicts(crates)),
+        line=program.verdict.string if program.verdict else "",
+        axioms="\n".join(taken),
+        trusted=", ".join(f"`{it}`" for it in program.trusted if not (TOP / "crates" / it).is_dir()),
+        mutants="\n".join(refusals(mutants)) if mutants else "This log tried no mutants.",
+        sums=as_code(stamp.read_text().splitlines() if stamp.exists() else [], "The program of this log has no stamp."),
+        summary=as_code(summary, "This log has no summary."),
+    )
+
+
+def trusted():
+    """Returns the crates whose statements the page lists; and the sum of axioms, and each number of them with its
+    crate."""
+    text = PAGE.read_text()
+    listed = re.search(r"^## Trusted statements\n\n.*\n\n(.*)\.$", text, re.M)[1]
+    found = re.findall(r"^- \*(\w+)\*, (\d+) of", text, re.M)
+    each = [it for of, number in found if number != "0" for it in (number, of)]
+    return set(re.findall(r"`(\w+)`", listed)), (str(sum(int(it) for it in each[::2])), *each)
+
+
+if __name__ == "__main__":
+    if len(sys.argv) != 2:
+        sys.exit(__doc__)
+    if sys.argv[1] in ("--check", "--write"):
+        sys.exit(kept({PAGE: with_theorem(PAGE.read_text())}))
+    PAGE.write_text(page(Path(sys.argv[1])))
