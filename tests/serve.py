@@ -701,14 +701,11 @@ def faults():
 
 def reports():
     """--json writes each session: commands, faults, and whether the chip was saved; also for refused options."""
-    with Serving("--json", "report.json", "--drop", "SIGN_ON#2", "--lose", "CHIP_ERASE", "--idle", "1") as it:
+    with Serving("--json", "report.json", "--lose-reply", "SIGN_ON#2", "--lose", "CHIP_ERASE") as it:
         with it.call() as client:
             see("a session", begins(client))
-            client.sendall(FRAMES[1])
-            same("its second reply", heard(client, ENDS[1] - ENDS[0]), REPLIES[ENDS[0] : ENDS[1]])
-        with it.call() as client:
-            client.sendall(FRAMES[0])
-            same("an idle one ends", heard(client, 1), b"")
+            client.sendall(FRAMES[0] + FRAMES[1])
+            same("the reply to its third command", heard(client, ENDS[1] - ENDS[0]), REPLIES[ENDS[0] : ENDS[1]])
         with it.call() as client:
             see("one whose run is killed", begins(client))
             (run,) = runs()
@@ -716,10 +713,17 @@ def reports():
             same("it is hung up on", client.recv(1), b"")
         same("its status", it.end()[0], 1)
     held = report()
-    faults = [{"fault": "--drop SIGN_ON#2", "struck": 1}, {"fault": "--lose CHIP_ERASE", "struck": 0}]
+    faults = [{"fault": "--lose-reply SIGN_ON#2", "struck": 1}, {"fault": "--lose CHIP_ERASE", "struck": 0}]
     same("the faults", (held["status"], held["faults"], held["seed"]), (1, faults, None))
     sessions = [(it["commands"], len(it["faults"]), it["idle"], it["saved"]) for it in held["sessions"]]
-    same("the sessions", sessions, [(2, 0, False, True), (1, 1, True, True), (1, 0, False, False)])
+    same("the sessions", sessions, [(3, 1, False, True), (1, 0, False, False)])
+    with Serving("--json", "report.json", "--lose", "SIGN_ON", "--idle", "1") as it:
+        with it.call() as client:
+            client.sendall(FRAMES[0])
+            same("an idle one ends", heard(client, 1), b"")
+        it.end()
+    (session,) = report()["sessions"]
+    same("it is idle", (session["commands"], session["idle"], session["saved"]), (1, True, True))
     found, *_ = ran(["0", *M328P, "--json", "report.json", "--seed", "7", "--drop", "2%", "--", "sh", "-c", "exit 7"])
     same("a command's status", (found, report()["status"], report()["seed"]), (7, 7, 7))
     found, told, _ = ran(["0", "-p", "m328p", "--json", "report.json"])

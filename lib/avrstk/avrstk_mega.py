@@ -1,8 +1,8 @@
 """avrstk-serve --mega: what the bootloader of an Arduino Mega 2560 does, over the emulated programmer and its chip.
 
-The loader works on copies of flash and EEPROM, which are read once they are needed. At the session's end what has
-changed is written into the chip. (The programmer can't erase a single page: after such an erase it erases the chip, and
-writes all that is left.)"""
+The loader works on copies of flash and EEPROM, whose blocks are read once they are needed. At the session's end what
+has changed is written into the chip. (The programmer can't erase a single page: after such an erase it erases the chip,
+and writes all that is left.)"""
 
 from avrstk_faults import framed
 
@@ -11,6 +11,8 @@ import socket
 from typing import Dict, Iterator, Tuple
 
 FLASH, PAGE, BOOT = 0x40000, 256, 0x3E000
+# (a block is a page of flash)
+BLOCK = PAGE
 EEPROM, EEPROM_PAGE = 4096, 8
 SIGNATURE = (0x1E, 0x98, 0x01)
 # GET_PARAMETER: hardware, and the two numbers of the firmware; others are 0
@@ -25,11 +27,6 @@ READ_FUSE, WRITE_LOCK, READ_LOCK, READ_SIGNATURE, SPI = 0x18, 0x19, 0x1A, 0x1B, 
 ENTERING = bytes.fromhex("10C8641920005303AC530000")
 LEAVING, ERASING, LOCK = bytes.fromhex("110101"), bytes.fromhex("120900AC800000"), bytes.fromhex("1A0458000000")
 FUSES = {name: bytes.fromhex(f"1804{code}0000") for name, code in [("low", "5000"), ("high", "5808"), ("ext", "5008")]}
-# by the code of a memory's reads: the code of its writes, their fields, and its page
-WRITES = {
-    READ_FLASH: (WRITE_FLASH, bytes.fromhex("C10A404C20FFFF"), PAGE),
-    READ_EEPROM: (WRITE_EEPROM, bytes.fromhex("C10AC1C2A0FFFF"), EEPROM_PAGE),
-}
 
 
 class Gone(Exception):
@@ -42,9 +39,8 @@ class Mega:
     def __init__(self, client: socket.socket, programmer: socket.socket):
         self.client, self.programmer, self.number = client, programmer, 0
         self.address = self.erased = 0
-        # what the chip held, and what it holds now
-        self.old: Dict[int, bytes] = {}
-        self.now: Dict[int, bytearray] = {}
+        # copies of the memories, by the codes of their reads
+        self.copies = {READ_FLASH: Copy(self, READ_FLASH, FLASH), READ_EEPROM: Copy(self, READ_EEPROM, EEPROM)}
 
     def live(self) -> None:
         """Serves the client until it has gone, and then stores what has changed."""
@@ -141,39 +137,26 @@ class Mega:
 
     def memory(self, code: int, count: int, data: bytes) -> bytes:
         """Reads or writes flash or EEPROM from the address on, which then grows."""
-        at, flash = self.address, code in (WRITE_FLASH, READ_FLASH)
-        held = self.held(READ_FLASH if flash else READ_EEPROM)
+        at, flash, eeprom = self.address, self.copies[READ_FLASH], self.copies[READ_EEPROM]
         if code == READ_EEPROM:
             # (it takes the address of a word as that of a byte)
             self.address += count
-            return OK + bytes(held[(at + it) % EEPROM] for it in range(count)) + OK
-        self.address += count if flash else 2 * count
+            return OK + bytes(map(eeprom.get, range(at, at + count))) + OK
+        self.address += 2 * count if code == WRITE_EEPROM else count
         if code == READ_FLASH:
-            return OK + bytes(held[(at + it) % FLASH] for it in range(count + count % 2)) + OK
+            return OK + bytes(map(flash.get, range(at, at + count + count % 2))) + OK
         if code == WRITE_EEPROM:
-            for it, byte in enumerate(data[:count]):
-                held[(at // 2 + it) % EEPROM] = byte
+            for place, byte in enumerate(data[:count], at // 2):
+                eeprom.put(place, byte)
             return OK
         if self.erased < BOOT:
-            held[self.erased : self.erased + PAGE] = b"\xff" * PAGE
+            flash.block(self.erased)[:] = b"\xff" * PAGE
             self.erased += PAGE
         # (its buffer is one page)
-        page = at % FLASH // PAGE * PAGE
-        for it, byte in enumerate(data[:count]):
-            held[page + (at + it) % PAGE] &= byte
+        page = flash.block(at)
+        for place, byte in enumerate(data[:count], at):
+            page[place % PAGE] &= byte
         return OK
-
-    def held(self, code: int) -> bytearray:
-        """Returns the copy of a memory, by the code of its reads."""
-        if code not in self.now:
-            self.old[code] = self.read(code)
-            self.now[code] = bytearray(self.old[code])
-        return self.now[code]
-
-    def read(self, code: int) -> bytes:
-        size, unit, mode = (FLASH, 2, 0x20) if code == READ_FLASH else (EEPROM, 1, 0xA0)
-        self.load(0, code)
-        return b"".join(self.ask(bytes([code, 1, 0, mode]))[:-1] for _ in range(0, size, 256))
 
     def load(self, at: int, code: int) -> None:
         """Sets the programmer's address: of a word of flash, with its upper bits, or of a byte of EEPROM."""
@@ -182,27 +165,66 @@ class Mega:
 
     def store(self) -> None:
         """Writes what has changed into the chip. An erase takes the lock, and perhaps the EEPROM."""
-        if self.now == self.old:
+        flash, eeprom = self.copies[READ_FLASH], self.copies[READ_EEPROM]
+        if not flash.is_changed() and not eeprom.is_changed():
             return
-        lock, blank = self.ask(LOCK)[0], b"\xff" * FLASH
-        flash, old = self.now.get(READ_FLASH, b""), self.old.get(READ_FLASH, b"")
-        if not lock & 1 or any(new & ~was for new, was in zip(flash, old)):
-            # (these are kept)
-            self.held(READ_FLASH), self.held(READ_EEPROM)
+        lock = self.ask(LOCK)[0]
+        if not lock & 1 or flash.sets_bits():
+            flash.read_all()
+            eeprom.read_all()
             self.ask(ERASING)
-            self.old = {READ_FLASH: blank, READ_EEPROM: self.read(READ_EEPROM)}
-        for code, now in self.now.items():
-            self.write(code, now, self.old[code])
+            flash.old = dict.fromkeys(flash.now, b"\xff" * BLOCK)
+            eeprom.old = {at: eeprom.read(at) for at in eeprom.now}
+        flash.write(WRITE_FLASH, bytes.fromhex("C10A404C20FFFF"), PAGE)
+        eeprom.write(WRITE_EEPROM, bytes.fromhex("C10AC1C2A0FFFF"), EEPROM_PAGE)
         self.ask(bytes([WRITE_LOCK, 0xAC, 0xE0, 0, lock]))
 
-    def write(self, code: int, now: bytearray, old: bytes) -> None:
-        """Writes the pages of a memory that differ. `code` is that of its reads."""
-        to_write, how, size = WRITES[code]
-        for at in range(0, len(now), size):
-            page = bytes(now[at : at + size])
-            if page != old[at : at + size]:
-                self.load(at, code)
-                self.ask(bytes([to_write]) + size.to_bytes(2, "big") + how + page)
+
+class Copy:
+    """A memory: what its blocks held, and what they hold now. `code` is that of its reads."""
+
+    def __init__(self, mega: Mega, code: int, size: int):
+        self.mega, self.code, self.size = mega, code, size
+        self.old: Dict[int, bytes] = {}
+        self.now: Dict[int, bytearray] = {}
+
+    def read(self, at: int) -> bytes:
+        self.mega.load(at, self.code)
+        return self.mega.ask(bytes([self.code, 1, 0, 0x20 if self.code == READ_FLASH else 0xA0]))[:-1]
+
+    def block(self, at: int) -> bytearray:
+        """Returns the block of an address. (Addresses past the end begin again.)"""
+        begin = at % self.size // BLOCK * BLOCK
+        if begin not in self.now:
+            self.old[begin] = self.read(begin)
+            self.now[begin] = bytearray(self.old[begin])
+        return self.now[begin]
+
+    def get(self, at: int) -> int:
+        return self.block(at)[at % BLOCK]
+
+    def put(self, at: int, byte: int) -> None:
+        self.block(at)[at % BLOCK] = byte
+
+    def read_all(self) -> None:
+        for at in range(0, self.size, BLOCK):
+            self.block(at)
+
+    def is_changed(self) -> bool:
+        return self.now != self.old
+
+    def sets_bits(self) -> bool:
+        """Whether a bit is 1 that was 0, so that only an erase leads there."""
+        return any(new & ~was for at, held in self.now.items() for new, was in zip(held, self.old[at]))
+
+    def write(self, code: int, how: bytes, page: int) -> None:
+        """Writes the pages that differ, by this command and with its fields."""
+        for block, held in self.now.items():
+            for at in range(0, BLOCK, page):
+                wanted = bytes(held[at : at + page])
+                if wanted != self.old[block][at : at + page]:
+                    self.mega.load(block + at, self.code)
+                    self.mega.ask(bytes([code]) + page.to_bytes(2, "big") + how + wanted)
 
 
 def take(line: socket.socket, count: int) -> bytes:
