@@ -71,6 +71,7 @@ _avrstk_value() {
         -p) _avrstk_parts ;;
         -c) _avrstk_behind "" "stk500v2$([ "$script" = avrstk ] || echo " wiring avrispv2 stk500 arduino arduino_as_isp stk500v1 avrisp")" ;;
         -P)
+            [[ $script != avrstk-serial || all != "$value"* ]] || echo all
             for device in /dev/ttyACM* /dev/ttyUSB* /dev/serial/by-id/*; do
                 [[ $script != avrstk-serial || ! -e $device || $device != "$value"* ]] || echo "$device"
             done
@@ -80,7 +81,7 @@ _avrstk_value() {
             esac ;;
         -U) _avrstk_update ;;
         -b) [ "$script" = avrstk ] || _avrstk_behind "" "9600 19200 38400 57600 115200 250000" ;;
-        --parts | --chip | --backup | --restore | --json | -l | -C) _avrstk_behind "" ;;
+        --parts | --chip | --backup | --restore | --json | --counter | --rows | -l | -C) _avrstk_behind "" ;;
         --lose | --lose-reply | --corrupt | --corrupt-reply | --late | --drop)
             _avrstk_behind "" "CHIP_ERASE PROGRAM_FLASH READ_FLASH LOAD_ADDRESS ENTER_PROGMODE SIGN_ON 1 2%" ;;
     esac
@@ -92,8 +93,8 @@ _avrstk() {
     script=${line%%[[:blank:]]*}
     script=${script##*/}
     case $script in
-        avrstk-serial) options="-p -c -P -U -e -D -V -n -F -A -q -b -v -C -l --parts --wait --retry --backup --restore --json --version -h --help" ;;
-        avrstk-serve) options="-p --chip --parts --idle --timeout --listen --pty --log --log-limit --lose --lose-reply --corrupt --corrupt-reply --late --drop --seed --strict --bootloader --locked --no-chip --version -h --help" ;;
+        avrstk-serial) options="-p -c -P -U -e -D -V -n -F -A -q -b -v -C -l --parts --wait --retry --backup --restore --try-rows --yes --json --each --counter --from --rows --version -h --help" ;;
+        avrstk-serve) options="-p --chip --parts --idle --timeout --listen --pty --log --log-limit --json --lose --lose-reply --corrupt --corrupt-reply --late --drop --seed --strict --bootloader --mega --locked --no-chip --version -h --help" ;;
         *) script=avrstk ;;
     esac
     typed=${line##*[[:blank:]]}
@@ -107,7 +108,7 @@ _avrstk() {
     before=${before##*[[:blank:]]}
     value=$typed
     case $before in
-        -[pcPUblC] | --parts | --chip | --serve | --wait | --idle | --timeout | --retry | --backup | --restore | --json | --listen | --pty | --log | --log-limit | --lose | --lose-reply | --corrupt | --corrupt-reply | --late | --drop | --seed) found=$(_avrstk_value "$before") ;;
+        -[pcPUblC] | --parts | --chip | --serve | --wait | --idle | --timeout | --retry | --backup | --restore | --json | --each | --counter | --from | --rows | --listen | --pty | --log | --log-limit | --lose | --lose-reply | --corrupt | --corrupt-reply | --late | --drop | --seed) found=$(_avrstk_value "$before") ;;
         *) case $typed in
             --parts=* | --chip=*)
                 front=${typed%%=*}=

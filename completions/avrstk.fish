@@ -66,7 +66,7 @@ complete -c avrstk -s P -x -a '(__avrstk_ports)' -d port
 complete -c avrstk -l serve -x -d 'serve at a port'
 complete -c avrstk -l chip -r -F -d 'chip file'
 complete -c avrstk-serial -s c -x -a 'stk500v2 wiring avrispv2 stk500 arduino arduino_as_isp stk500v1 avrisp' -d programmer
-complete -c avrstk-serial -s P -x -a '(__avrstk_ports (path filter -- /dev/ttyACM* /dev/ttyUSB* /dev/serial/by-id/*))' -d port
+complete -c avrstk-serial -s P -x -a '(__avrstk_ports all (path filter -- /dev/ttyACM* /dev/ttyUSB* /dev/serial/by-id/*))' -d port
 complete -c avrstk-serial -l wait -x -d 'time for a reset'
 complete -c avrstk-serial -l retry -x -d 'runs after a failure that another run heals'
 complete -c avrstk-serial -l version -d 'print the version'
@@ -74,7 +74,13 @@ complete -c avrstk-serial -s C -r -F -d ignored
 complete -c avrstk-serial -s l -r -F -d 'file of messages'
 complete -c avrstk-serial -l backup -r -F -d 'folder for a backup'
 complete -c avrstk-serial -l restore -r -F -d 'folder of a backup'
+complete -c avrstk-serial -l try-rows -d 'try what the promise asks of a programmer'
+complete -c avrstk-serial -l yes -d 'this chip is to spare'
 complete -c avrstk-serial -l json -r -F -d 'file of a report'
+complete -c avrstk-serial -l each -x -d 'text for each board'
+complete -c avrstk-serial -l counter -r -F -d 'file of the next number'
+complete -c avrstk-serial -l from -x -d 'first number'
+complete -c avrstk-serial -l rows -r -F -d 'table of texts'
 complete -c avrstk-serial -s p -x -a auto -d "the chip's part"
 complete -c avrstk-serve -l chip -r -F -d 'chip file'
 complete -c avrstk-serve -l idle -x -d 'idle timeout'
@@ -82,13 +88,14 @@ complete -c avrstk-serve -l timeout -x -d 'time of the command'
 complete -c avrstk-serve -l listen -x -d 'address to listen at'
 complete -c avrstk-serve -l pty -r -F -d 'link to a terminal'
 complete -c avrstk-serve -l log -r -F -d 'file of commands'
+complete -c avrstk-serve -l json -r -F -d 'file of a report'
 complete -c avrstk-serve -l log-limit -x -d 'limit of the log'
 for fault in lose lose-reply corrupt corrupt-reply late drop
     complete -c avrstk-serve -l $fault -x -d 'fault of a frame: a command, number or share'
 end
 complete -c avrstk-serve -l seed -x -d 'repeat faults'
 complete -c avrstk-serve -l strict -d 'fail if a fault never struck'
-for flag in bootloader locked no-chip
+for flag in bootloader mega locked no-chip
     complete -c avrstk-serve -l $flag -d 'a programmer or chip that refuses'
 end
 complete -c avrstk-serve -l version -d 'print the version'

@@ -36,8 +36,13 @@ PROVED = TOP / "crates/avrstk/out/avrstk"
 PROGRAMS = {it.parent.parent.name: it.parent.parent / "out" for it in TOP.glob("crates/*/src/main.rt")}
 
 # scripts of tools/, which only read
-CHECKED = ("measure --check", "reach --check", "site --check", "evidence --check", "man_pages", "promises")
-CHECKED += ("tests_page",)
+CHECKED = (
+    "measure --check",
+    "reach --check",
+    "site --check",
+    "evidence --check",
+    *("man_pages", "promises", "tests_page"),
+)
 # scripts that run no program of this project, or compile it themselves; the longest first
 SOURCES = (
     "rattle tests",
@@ -54,14 +59,14 @@ LIBRARY = ("from_c",)
 # scripts that take seconds
 SHORT = ("runs", "lines", "made_frames", "manual")
 # scripts that ./test runs with the unproved program; the longest first, the longest of all in two halves
-HALVES = tuple(f"{name} {half}" for name in ("serve", "recipes", "serial") for half in ("1/2", "2/2"))
+HALVES = tuple(f"{name} {half}" for name in ("serve", "recipes", "serial", "station") for half in ("1/2", "2/2"))
 QUICK = (*HALVES, "boards", "bad_lines", "avrdude", "chips", "drawn_runs", "why", "hostile", "parts", *SHORT)
 # those that --all runs with both programs: two compilers made what these compare byte for byte
 BOTH = ("runs", "lines")
 # counts of bench/run.py
 BENCH = ("calls", "count")
 # scripts that --all runs with the proved program (mutants builds one of its own); the longest first
-PROGRAM = ("faults", "mutants", "mega", "vendor proof", "package", "power", *BENCH, *QUICK)
+PROGRAM = ("faults", "mutants", "mega", "rows", "vendor proof", "package", "power", *BENCH, *QUICK)
 
 LANES = len(os.sched_getaffinity(0))
 # scripts that no proof waits for give way to rt ci (but not what `rt try` starts, in a session of its own)

@@ -31,7 +31,7 @@ import serial
 from cases import PATIENCE, leave_out, named, put_program, run_cases, same, sampled, see
 from line import frames_of
 from program import PROGRAM, TOP, Room, frame, has_avrdude, lines
-from records import hex_of
+from records import hex_of, image_of
 
 sys.path[:0] = [str(TOP / "lib/avrstk")]
 from avrstk_common import Frames, is_frame  # noqa: E402
@@ -41,6 +41,7 @@ CORE = Path("/usr/share/arduino/hardware/arduino/avr")
 SKETCHES = [TOP / "out/ArduinoISP.ino", Path("/usr/share/doc/arduino/examples/11.ArduinoISP/ArduinoISP/ArduinoISP.ino")]
 SKETCH = next((it for it in SKETCHES if it.exists()), None)
 FLASH, EEPROM, PAGE = 32_768, 1_024, 128
+FUSES = bytes([0x62, 0xD9, 0xFF, 0xFF])
 TINY = '[parts.tiny]\nsignature = "1E950F"\nflash_size = 2048\nflash_page = 128\neeprom_size = 64\neeprom_page = 4\n'
 TINY += "eesave_bit = 3\n"
 # of each kind: where its code starts, and its speed
@@ -147,7 +148,9 @@ class Board:
 
     def __init__(self, kind, flash=b"", up=Fates(), down=Fates()):
         self.kind, self.is_sketch, self.up, self.down = kind, kind.startswith("ArduinoISP"), up, down
-        self.time, self.held, self.sent = 0.0, b"", 0
+        self.time, self.held, self.sent, self.got = 0.0, b"", 0, 0
+        # when the first byte was sent to the board, and when the last one came
+        self.begun = self.ended = None
         self.lib = ctypes.CDLL(str(library()))
         self.lib.board_run.restype, self.lib.board_run.argtypes = ctypes.c_double, [ctypes.c_double, ctypes.c_uint]
         for it in ("board_flash", "target_flash", "target_eeprom", "target_fuses"):
@@ -163,7 +166,9 @@ class Board:
 
     def take(self):
         """Returns what the board has sent."""
-        return self.down(bytes(self.taken[: self.lib.board_take(self.taken)]))
+        held = self.down(bytes(self.taken[: self.lib.board_take(self.taken)]))
+        self.got, self.ended = self.got + len(held), self.time if held else self.ended
+        return held
 
     def run(self, seconds, wanted=1):
         passed = self.lib.board_run(seconds * 1e6, wanted) / 1e6
@@ -174,7 +179,7 @@ class Board:
         """(In its own time a board takes each byte.)"""
 
     def send(self, held):
-        self.sent += len(held)
+        self.sent, self.begun = self.sent + len(held), self.begun or (self.time if held else None)
         held = self.up(held)
         self.lib.board_put(held, len(held))
 
@@ -319,7 +324,7 @@ def sessions(what, kind, size, words, fates, old=b""):
     totals = collections.Counter("none" if it is None else it[:2] for it in found)
     wrong = [at for at, it in enumerate(found) if it is None or it[0] == 0 and not it[1]]
     see(f"{what}: status 0 has the image", not wrong, f"not in sessions {wrong[:20]}: {totals}")
-    see(f"{what}: faults struck", sum(it[3] for it in found if it) > len(found) // 3, str(totals))
+    see(f"{what}: faults struck", sum(it[3] for it in found if it) > len(found) // 6, str(totals))
     print(f"{what}: {len(found)} sessions, {sum(it[3] for it in found if it)} faults, {dict(totals)}", flush=True)
     return found
 
@@ -436,10 +441,10 @@ FUSES_TYPED = (
 )
 STAND_IN = """import os, signal, sys
 sys.path[:1], sys.dont_write_bytecode, sys.argv[0] = [{lib!r}], True, {script!r}
-__doc__ = ""
 import avrstk_serial
+from avrstk_common import run
 avrstk_serial.Device.pulse = lambda self: os.kill({pid}, signal.SIGUSR1)
-avrstk_serial.run(avrstk_serial.main, needs_lines=True)
+run(avrstk_serial.main, "", needs_lines=True)
 """
 
 
@@ -493,6 +498,107 @@ def avrdude_beside():
     at = Terminal("optiboot", old)
     status, told = run_script(words.format(at.device).split())
     same("avrstk-serial, eeprom:w at an Uno", (status, at.end().flash()), (1, old[: KINDS["optiboot"][0]]))
+
+
+# runs that docs/BOARDS gives the time of: a kind of board, AVRDUDE's name of it, and what is written
+RUNS = {
+    "an Uno, 228 bytes": ("optiboot", "arduino", "-D -U flash:w:blink.hex:i"),
+    "an Uno, 5,000 bytes": ("optiboot", "arduino", "-D -U flash:w:image5000.bin:r"),
+    "an Uno, 30,000 bytes": ("optiboot", "arduino", "-D -U flash:w:image30000.bin:r"),
+    "an old Nano, 5,000 bytes": ("ATmegaBOOT", "arduino", "-D -U flash:w:image5000.bin:r"),
+    "Arduino as ISP, 228 bytes and an erase": ("ArduinoISP", "stk500v1", "-U flash:w:blink.hex:i"),
+    "Arduino as ISP, 64 bytes of EEPROM": ("ArduinoISP", "stk500v1", "-D -U eeprom:w:data.bin:r"),
+}
+
+
+def run_measured(name, is_avrdude):
+    """Makes such a run. Returns what docs/BOARDS has of it: status and chip, bytes, and seconds."""
+    kind, programmer, words = RUNS[name]
+    old, words = random.Random(9).randbytes(FLASH), words.split()
+    if is_avrdude:
+        at = Terminal(kind, old)
+        front = ["-qq", "-p", "m328p", "-c", programmer, "-P", at.device, "-b", str(KINDS[kind][1])]
+        with room.start([*front, *words], program=["avrdude"]) as tool:
+            tool.communicate(timeout=PATIENCE)
+        status, board = tool.returncode, at.end()
+    else:
+        board = Board(kind, old)
+        status, _ = over(board, ["-p", "m328p", *words])
+    memory, _, file, form = words[-1].split(":")
+    image = room.read(file) if form == "r" else bytes(image_of(room.read(file)).values())
+    held = board.rest()[0] if memory == "eeprom" else board.flash()
+    chip = "right" if held[: len(image)] == image else "wrong"
+    return f"{status}, {chip}", f"{board.sent:,}, {board.got:,}", f"{board.ended - board.begun:.1f}"
+
+
+def measured():
+    """Runs have the status, the chip and the bytes that docs/BOARDS says, and take about as long. With FULL=1 these are
+    all runs, and AVRDUDE's; else one."""
+    is_full = os.environ.get("FULL") == "1"
+    table = (TOP / "docs/BOARDS.md").read_text()
+    rows = [[cell.strip() for cell in it.strip("| ").split("|")] for it in table.splitlines() if it[:1] == "|"]
+    for size in 5_000, 30_000:
+        room.put(f"image{size}.bin", random.Random(77).randbytes(size))
+    room.put("data.bin", bytes(range(1, 65)))
+    for name, (kind, _, _) in list(RUNS.items())[: None if is_full else 1]:
+        for is_avrdude in (False, True) if is_full and has_avrdude() else (False,):
+            if kind == "ArduinoISP" and not SKETCH:
+                continue
+            (firmware(kind), library(), silence())
+            found = apart(lambda: run_measured(name, is_avrdude))
+            client = "AVRDUDE 7.1" if is_avrdude else "`avrstk-serial`"
+            print("|", " | ".join([name, client, *found]), "|", flush=True)
+            row = next((it[2:] for it in rows if it[:2] == [name, client]), ["", "", "0"])
+            # (how often AVRDUDE asks for the board depends on the time)
+            count = 1 if is_avrdude else 2
+            same(f"{name}, {client}", row[:count], list(found[:count]))
+            see(f"{name}, {client}: seconds", is_avrdude or abs(float(found[2]) - float(row[2])) < 0.5, (found, row))
+
+
+class LosesInPage:
+    """Loses a byte of the first page on its way to a board."""
+
+    def __init__(self):
+        self.passed, self.has_lost = b"", False
+
+    def __call__(self, held):
+        kept = b""
+        for byte in held:
+            self.passed += bytes([byte])
+            if not self.has_lost and self.passed[-14:-10] == b"d\0\x80F":
+                self.has_lost = True
+            else:
+                kept += bytes([byte])
+        return kept
+
+
+def lost_byte_of_a_page():
+    """A byte of a page is lost on the way to an Uno: avrstk-serial resets the board and ends with the right chip.
+    AVRDUDE 7.1 hasn't ended after 80 seconds (with FULL=1; else 20)."""
+    image, old = random.Random(5).randbytes(700), random.Random(9).randbytes(FLASH)
+    room.put("image.hex", hex_of([(0, image)]))
+    (firmware("optiboot"), library(), silence())
+
+    def ours():
+        board = Board("optiboot", old, LosesInPage())
+        status, _ = over(board, "-p m328p -D -U flash:w:image.hex:i".split())
+        return status, board.up.has_lost, board.flash()[:700] == image, round(board.ended - board.begun)
+
+    found = apart(ours)
+    same("a lost byte: avrstk-serial", found[:3], (0, True, True))
+    see("a lost byte: its seconds", found[3] in (5, 6, 7), found)
+    if not has_avrdude():
+        return leave_out("a lost byte: AVRDUDE", "AVRDUDE 7.1 is not installed")
+    at = Terminal("optiboot", old)
+    at.board.up, has_ended = LosesInPage(), True
+    words = ["-p", "m328p", "-c", "arduino", "-b", "115200", "-D", "-U", "flash:w:image.hex:i", "-P", at.device]
+    with room.start(words, program=["avrdude"]) as tool:
+        try:
+            tool.communicate(timeout=80 if os.environ.get("FULL") == "1" else 20)
+        except subprocess.TimeoutExpired:
+            has_ended = tool.kill()
+    board = at.end()
+    same("a lost byte: AVRDUDE", (has_ended, board.up.has_lost, board.flash()[:700] == image), (None, True, False))
 
 
 class Leaving(serial.Bootloader):
@@ -569,19 +675,25 @@ def leaves_to_another():
 CASES = named(
     *(clean, refused, each_byte, lossy, damaged_erases, lost_end),
     *(typed, avrdude_beside, lost_end_of_wiring, leaves_to_another),
+    *(measured, lost_byte_of_a_page),
 )
 
 
-def main():
+def missing():
+    """Returns what isn't installed of what all boards need, in words; none if all is."""
     needed = [CORE, Path("/usr/include/simavr/sim_avr.h"), Path("/usr/include/libelf.h")]
-    missing = [str(it) for it in needed if not it.exists()]
-    missing += [it for it in ("cc", "avr-gcc", "avr-g++", "avr-objcopy") if shutil.which(it) is None]
-    if missing:
-        leave_out("boards that speak version 1", f"{' and '.join(missing)} is not installed")
+    found = [str(it) for it in needed if not it.exists()]
+    found += [it for it in ("cc", "avr-gcc", "avr-g++", "avr-objcopy") if shutil.which(it) is None]
+    return " and ".join(found)
+
+
+def main():
+    if missing():
+        leave_out("boards that speak version 1", f"{missing()} is not installed")
         return run_cases({}, __doc__)
     if not SKETCH:
         leave_out("ArduinoISP", f"{' and '.join(map(str, SKETCHES))} is not there")
-    return run_cases(CASES, __doc__, timed=["typed", "avrdude_beside"])
+    return run_cases(CASES, __doc__, timed=["typed", "avrdude_beside", "lost_byte_of_a_page"])
 
 
 if __name__ == "__main__":

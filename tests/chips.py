@@ -270,10 +270,11 @@ def whose_lock():
 
 
 @contextlib.contextmanager
-def waiting(words, name="chip.bin", pipe="pipe", last=DONE):
-    """A run that holds the chip and blocks in its session, because no process reads the pipe before this ends."""
+def waiting(words, name="chip.bin", pipe="pipe", last=DONE, then=()):
+    """A run that holds the chip and blocks in its session, because no process reads the pipe before this ends. It then
+    goes on with these words."""
     os.mkfifo(room.folder / pipe)
-    started = room.start(["-p", "m328p", "-P", f"emu:{name}", *words, "-U", f"eeprom:r:{pipe}:r"])
+    started = room.start(["-p", "m328p", "-P", f"emu:{name}", *words, "-U", f"eeprom:r:{pipe}:r", *then])
     see("a run that waits", SIGNATURE.encode() in started.stderr.readline())
     yield
     (room.folder / pipe).read_bytes()
@@ -350,9 +351,11 @@ def what_is_refused():
 
 
 def read_into_the_chip():
-    """A read into the chip's own file is refused, also by a link to it, and the chip stays whole. So is a read into a
-    file that the run makes beside it, and no image is read from there. A file of the same name in another folder is
-    another file. A name that isn't UTF-8 is as good as any."""
+    """A read into the chip's own file is refused before a frame is sent, also by a link to it, and the chip stays as it
+    was. So is a read into a file that the run makes beside it, and no image is read from there. A link that is made
+    during the session is refused when its file would be created. A file of the same name in another folder is another
+    file. A name that isn't UTF-8 is as good as any."""
+    first = [*EMULATED, "-e", "-U", "lfuse:w:0x62:m"]
     for prepare, old in STARTS:
         for name in ["chip.bin", "./chip.bin", "link.bin", "odd.bin", "name.bin"][: 5 if old else 4]:
             prepare()
@@ -360,23 +363,28 @@ def read_into_the_chip():
             (room.folder / "odd.bin").symlink_to("caf\udce9/chip.bin")
             (room.folder / "link.bin").symlink_to("chip.bin")
             (room.folder / "name.bin").hardlink_to(CHIP) if old else None
-            found = room.run([*EMULATED, "-U", f"eeprom:r:{name}:r", "-U", "lfuse:w:0x62:m"])
-            same(f"{name}: the run", (found[0], found[2]), (1, lines(SIGNATURE, f"error: {name}: cannot be created")))
-            see(f"{name}: the chip is whole", (room.read("chip.bin"), beside()) == (old or FRESH, []))
+            found = room.run([*first, "-U", f"eeprom:r:{name}:r"])
+            same(f"{name}: the run", found, (1, b"", lines(f"error: {name}: cannot be created")))
+            see(f"{name}: the chip is as it was", (room.read("chip.bin"), beside()) == (old, []))
         for its in [LOCK_FILE.name, NEW_FILE.name]:
             for name in [its, f"./{its}", "link", "far", f"here/{its}"]:
                 prepare()
                 (room.folder / "link").symlink_to(its)
                 (room.folder / "far").symlink_to(room.folder / "link")
                 (room.folder / "here").symlink_to(".")
-                found = room.run([*EMULATED, "-U", f"eeprom:r:{name}:r", "-U", "lfuse:w:0x62:m"])
-                told = (1, lines(SIGNATURE, f"error: {name}: cannot be created"))
-                same(f"{name} to {its}: the run", (found[0], found[2]), told)
-                see(f"{name} to {its}: the chip is whole", (room.read("chip.bin"), beside()) == (old or FRESH, []))
+                found = room.run([*first, "-U", f"eeprom:r:{name}:r"])
+                same(f"{name} to {its}: the run", found, (1, b"", lines(f"error: {name}: cannot be created")))
+                see(f"{name} to {its}: the chip is as it was", (room.read("chip.bin"), beside()) == (old, []))
                 room.put(its, b"mine")
                 found = room.run(["-p", "m328p", "-P", "emu:chip.bin", "-U", f"eeprom:w:{name}:r"])
                 same(f"{name} to {its}: an image", found, (1, b"", lines(f"error: {name}: cannot be opened")))
                 see(f"{name} to {its}: it stays", room.read(its) == b"mine")
+    for its in ["chip.bin", LOCK_FILE.name, NEW_FILE.name]:
+        fresh_room()
+        told = (1, lines("error: late: cannot be created"))
+        with waiting([], last=told, then=["-U", "lfuse:r:late:h"]):
+            (room.folder / "late").symlink_to(its)
+        see(f"a link to {its}, made late: the chip is whole", (room.read("chip.bin"), beside()) == (OLD, []))
     with tempfile.TemporaryDirectory() as other:
         fresh_room()
         (room.folder / "odd.bin").symlink_to(f"{other}/caf\udce9.bin")

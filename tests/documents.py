@@ -1,8 +1,8 @@
 #!/usr/bin/env python3
 """Compares what docs/CHECK and CONTRIBUTING quote with the sources, and the logic's checksum in documents with that of
-the kit. Checks that each worked row has its test.
+the kit. Checks that each worked row has its test, and the form of Python.
 
-Not proved: No proof covers documents.
+Not proved: No proof covers documents and scripts.
 
     tests/documents.py
 """
@@ -178,6 +178,17 @@ def what_is_trusted():
     )
 
 
+def python():
+    """black would lay out no file of Python differently, and flake8 and mypy find no fault. (Their settings are in
+    pyproject.toml and .flake8: mypy checks what is installed.)"""
+    for command in (["black", "--check", "."], ["flake8"], ["mypy"]):
+        if not shutil.which(command[0]):
+            leave_out(" ".join(command), f"{command[0]} is not installed")
+            continue
+        ran = subprocess.run(command, cwd=TOP, capture_output=True, text=True)
+        see(" ".join(command), ran.returncode == 0, ran.stdout + ran.stderr)
+
+
 CASES = named(
     what_check_quotes,
     what_is_trusted,
@@ -187,6 +198,7 @@ CASES = named(
     files_of_recipes,
     the_logic,
     worked_rows,
+    python,
 )
 
 if __name__ == "__main__":

@@ -210,7 +210,7 @@ def update(draw, part, files, streams):
         return draw.choice(odd)
     if op == "r":
         form = draw.choice(["", *"isrdhob"])
-        file = draw.choice([f"out{draw.randrange(9)}.txt"] * 6 + ["a:b", "c:d:"] + ["-"] * streams)
+        file = draw.choice([f"out{draw.randrange(9)}.txt"] * 6 + ["a:b", "c:d:", "chip.bin"] + ["-"] * streams)
         return f"{memory}:r:{file}" + (f":{form or 'r'}" if form or ":" in file else "")
     size = size_of(part, memory)
     if size == 1 and draw.random() < 0.8 or draw.random() < 0.15:

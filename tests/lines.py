@@ -18,7 +18,7 @@ import sys
 from cases import PATIENCE, bytes_of, chosen, leave_out, named, run_cases, same, see, table
 from line import FrontOfReplies, frames_in
 from program import REPLIES, CHIP_FILE, EMULATED, ENDS, FRAMES, SIGNATURE, STDIO, TOP, Room, Server
-from program import frame, kept_port, lines, lines_of, port_of, tracing
+from program import frame, full_chip, kept_port, lines, lines_of, port_of, tracing
 
 PART = ["-p", "m328p"]
 DONE = "done"
@@ -148,9 +148,13 @@ def part_files():
 
 
 def chip_files():
-    """Chip files that are too short or too long are refused."""
+    """Chip files that are too short or too long are refused. So is a plan that reads a memory into the chip file,
+    before it erases the chip."""
     refused("a short chip file", EMULATED, f"chip.bin: 100 bytes, {CHIP_FILE} expected", chip=bytes(100))
     refused("a long chip file", EMULATED, f"chip.bin: longer than {IMAGE_LIMIT} bytes", chip=bytes(IMAGE_LIMIT + 1))
+    into_chip = [*EMULATED, "-e", "-U", "signature:r:chip.bin:h", "-U", "lfuse:w:0x62:m"]
+    for chip in [None, full_chip()]:
+        refused(f"a read into the chip file {bool(chip)}", into_chip, "chip.bin: cannot be created", chip=chip)
 
 
 def nothing_is_written():

@@ -13,6 +13,8 @@ made too. The simulation writes a page as given: it doesn't model that writing a
 does it model locks, fuses or wires.
 """
 
+import os
+import random
 import shutil
 import socket
 import subprocess
@@ -21,8 +23,8 @@ from pathlib import Path
 
 from avrdude import drawn, updates
 from cases import PATIENCE, leave_out, named, run_cases, same, see
-from line import Link
-from program import TOP, Room, lines
+from line import Link, frames_of
+from program import PROGRAM, TOP, Room, frame, lines
 from records import hex_of, image_of
 
 HEX = Path("/usr/share/arduino/hardware/arduino/avr/bootloaders/stk500v2/stk500boot_v2_mega2560.hex")
@@ -210,9 +212,93 @@ def lock():
         same("the lock", (status, messages[: len(front)]), (1, front))
 
 
+def bodies(draw):
+    """Yields bodies of commands in their order, each with the bytes of its reply that are compared, if not all: simavr
+    doesn't model fuses and locks."""
+
+    def load(word):
+        return b"\x06" + (word | 1 << 31).to_bytes(4, "big"), None
+
+    def write(held):
+        return b"\x13\1\0" + bytes.fromhex("C10A404C20FFFF") + held, None
+
+    def read(code, count):
+        return bytes([code]) + count.to_bytes(2, "big") + b"\x20", None
+
+    yield from [(b"\x01", None), (bytes.fromhex("10C8641920005303AC530000"), None), (b"\x02\x9e\1", None)]
+    yield from [(bytes([3, it]), None) for it in (0x80, 0x81, 0x90, 0x91, 0x92, 0x98)]
+    yield from [(bytes([0x1B, 4, 0x30, 0, it, 0]), None) for it in range(4)]
+    for first, third in [(0x30, 0), (0x30, 1), (0x30, 2), (0xAC, 0), (0, 0), (0x20, 7)]:
+        yield bytes([0x1D, 4, 4, 0, first, 0, third, 0]), None
+    yield bytes.fromhex("1D040400500000 00"), slice(0, 5)
+    yield bytes.fromhex("180450000000"), slice(0, 2)
+    yield bytes.fromhex("1A0458000000"), slice(0, 2)
+    yield from [(bytes.fromhex(it), None) for it in ("17ACA000E2", "1C0438000000", "77", "120900AC800000")]
+    # (each page that is written follows those that are erased, or is empty)
+    for word in (0, 0x80, 0x100, 0x7F80, 0x180, 0x10000):
+        yield from [load(word), write(draw.randbytes(256) if word < 0x200 else b"\xff" * 256)]
+    for word in (0, 0x80, 0x1C0, 0x7F80, 0x10000):
+        yield from [load(word), read(0x14, 256), read(0x14, draw.randrange(2, 256, 2))]
+    # (the refused erase begins again with the first page)
+    yield from [
+        (bytes.fromhex("120900AC800000"), None),
+        load(0x280),
+        write(b"\xff" * 256),
+        load(0),
+        write(draw.randbytes(256)),
+    ]
+    yield from [load(0), read(0x14, 256), read(0x14, 256), load(0x280), read(0x14, 256)]
+    for at in (0, 3, 250, 1_000):
+        held = draw.randbytes(draw.randrange(1, 40))
+        yield b"\x06" + at.to_bytes(4, "big"), None
+        yield b"\x15" + len(held).to_bytes(2, "big") + bytes.fromhex("C10AC1C2A0FFFF") + held, None
+        yield b"\x15" + len(held).to_bytes(2, "big") + bytes.fromhex("C10AC1C2A0FFFF") + held, None
+    for at in (0, 128, 250, 256, 500, 1_000, 2_040):
+        yield b"\x06" + at.to_bytes(4, "big"), None
+        yield from [read(0x16, 256), read(0x16, 7)]
+    yield b"\x11\1\1", None
+
+
+def exchanged(link, number, body, noise=b""):
+    """Sends a command, after other bytes, and returns the reply's body."""
+    link.sendall(noise + frame(number, body))
+    reply = next(frames_of(link))
+    same("the reply's number", reply[1], number % 256)
+    return reply[5:-1]
+
+
+def the_double():
+    """avrstk-serve --mega gives the replies of this bootloader, frame by frame, and leaves the same flash."""
+    old = drawn("old", 0x9000) + b"\xff" * (FLASH - 0x9000)
+    with Board(old) as board:
+        room = board.room
+        room.put("double.bin", board_chip(board.flash()))
+        words = ["0", "-p", "m2560", "--chip", "double.bin", "--mega"]
+        how = {"cwd": room.folder, "env": os.environ | {"AVRSTK": str(PROGRAM)}, "stdout": subprocess.PIPE}
+        with subprocess.Popen([TOP / "avrstk-serve", *words], **how) as double:
+            port = int(double.stdout.readline().rpartition(b":")[2])
+            with board.call() as real, socket.create_connection(("127.0.0.1", port)) as ours:
+                spoiled = frame(7, b"\x01")[:-1] + b"\x7f"
+                for number, (body, compared) in enumerate(bodies(random.Random(1)), 1):
+                    noise = [b"", b"noise", b"\x1b\7\0\1\x0f", spoiled][number % 4]
+                    found, wanted = (exchanged(it, number, body, noise)[compared or slice(None)] for it in (ours, real))
+                    same(f"command {number}, {body[:6].hex(' ')}", found, wanted)
+            board.started.stdout.readline()
+            double.terminate()
+        same("the double's status", double.returncode, 0)
+        differ = [at for at in range(BOOT) if board.flash()[at] != room.read("double.bin")[at]]
+        see("the flash", not differ, differ[:8])
+        see("something was written", board.flash()[:BOOT] != old[:BOOT])
+
+
+def board_chip(flash):
+    """Returns the chip file of an ATmega2560 with this flash."""
+    return flash + b"\xff" * 4096 + b"\xff\x99\xfd\xff"
+
+
 CASES = named(
     *(written_and_read, another_image, lost_bytes, reset_by_the_connection),
-    *(erased_from_the_front, eeprom, refused, lock),
+    *(erased_from_the_front, eeprom, refused, lock, the_double),
 )
 
 

@@ -460,8 +460,7 @@ class Host:
 
 def pages_of(image, size):
     """Returns the address and the bytes of each page that has a byte of the image."""
-    pages = sorted({it - it % size for it in image})
-    return [(page, bytes(image.get(it, 0xFF) for it in range(page, page + size))) for page in pages]
+    return [(at, bytes(image.get(at + i, 0xFF) for i in range(size))) for at in sorted({i - i % size for i in image})]
 
 
 def page_runs_of(image, size):
@@ -528,6 +527,8 @@ class Run:
     def run(self):
         part, tasks = self.plan()
         chip = self.settings.port[4:] if self.settings.port.startswith("emu:") else None
+        if chip in [it.file for it, _ in tasks if it.op == "r"]:
+            raise Refused(f"{chip}: cannot be created")
         held, size = self.files.get(chip), part.flash_size + part.eeprom_size + 4
         if held is not None and len(held) != size:
             raise Refused(f"{chip}: {len(held)} bytes, {size} expected")

@@ -411,7 +411,8 @@ def refused():
         # (a device without a programmer)
         it = Board(talk=b".")
         part = [] if words[:1] == ["-e"] else ["-p", "m328p"]
-        status, output, _, own = run([*part, "-P", it.device, *words])
+        device = [] if "-P" in words else ["-P", it.device]
+        status, output, _, own = run([*part, *device, *words])
         own = [row for row in own if not row.endswith("is read as Intel HEX (:i)")]
         opened = it.opened
         it.end()
@@ -1396,26 +1397,26 @@ FOLLOWED = [
     (r"use another one$|which is not known here|is not supported: .* Use avrdude", lambda *_: None),
 ]
 
-# Runs avrstk-serial, and notes each row of its hints that is chosen: where it is, how many rows are there, and its text
-TRACED = """__doc__ = ""
-import json, os, re, runpy, sys
+# Runs avrstk-serial, and notes each row of its hints that is chosen: the function or table, the row's line or number,
+# and its text
+TRACED = """import json, os, re, runpy, sys
 sys.argv[:1], sys.path[:0] = [], [LIB]
 import avrstk_hints as hints
 def note(*row):
     with open(os.environ["TRACE"], "a") as file:
         file.write(json.dumps(row) + "\\n")
-def first(*rows, first=hints.first):
-    at = next((at for at, row in enumerate(rows) if row[0]), None)
-    note(sys._getframe(1).f_code.co_name, len(rows), at, str(at is not None and rows[at][1]))
-    return first(*rows)
+def returned(frame, event, value):
+    if event == "return" and frame.f_code.co_filename == hints.__file__ and isinstance(value, str):
+        note(frame.f_code.co_name, frame.f_lineno, value)
 def matched(table, error, words, matched=hints.matched, **fields):
     found, name = matched(table, error, words, **fields), next(it for it in vars(hints) if vars(hints)[it] is table)
     at = next((at for at, begin in enumerate(table) if re.match(begin, error)), None)
-    note(name, len(table), at, *found or [""])
+    note(name, at, found)
     for at, (kind, text) in enumerate(hints.KINDS.items() if name == "REFUSALS" else []):
-        note("KINDS", len(hints.KINDS), at, text)
+        note("KINDS", at, text)
     return found
-hints.first, hints.matched = first, matched
+hints.matched = matched
+sys.setprofile(returned)
 runpy.run_path(sys.argv[0], run_name="__main__")
 """.replace(
     "LIB", repr(str(SHARED / "avrstk"))
@@ -1425,19 +1426,16 @@ seen = set()
 
 
 def rows_of_hints():
-    """Returns the rows of the sources' hints as TRACED notes them, each with its line there."""
+    """Returns the rows of the sources' hints as TRACED notes them, each with its text there: what functions return, and
+    the rows of tables."""
     text, found = (SHARED / "avrstk/avrstk_hints.py").read_text(), {}
     for it in ast.parse(text).body:
-        calls = [
-            call for call in ast.walk(it) if isinstance(call, ast.Call) and getattr(call.func, "id", "") == "first"
-        ]
-        places = [(it.name, call.args) for call in calls if isinstance(it, ast.FunctionDef)]
-        if isinstance(it, ast.Assign) and isinstance(it.value, ast.Dict):
-            places.append((it.targets[0].id, it.value.keys))
-        for name, rows in places:
-            found.update(
-                {(name, len(rows), at): text.splitlines()[row.lineno - 1].strip() for at, row in enumerate(rows)}
-            )
+        if isinstance(it, ast.FunctionDef) and ast.unparse(it.returns) == "str" and it.name != "matched":
+            returns = [row for row in ast.walk(it) if isinstance(row, ast.Return)]
+            found.update({(it.name, row.lineno): ast.unparse(row.value) for row in returns})
+        if isinstance(it, (ast.Assign, ast.AnnAssign)) and isinstance(it.value, ast.Dict):
+            name = ast.unparse(it.target if isinstance(it, ast.AnnAssign) else it.targets[0])
+            found.update({(name, at): ast.unparse(row) for at, row in enumerate(it.value.keys)})
     return found
 
 
@@ -1463,7 +1461,7 @@ def followed(name, words, **case):
             break
         see(f"{name}: no other format", not re.search(r":[ar](?![\w:])|(?<!with) -V", own[-1]), own)
         rows = [json.loads(row) for row in trace.read_text().splitlines()] if trace.exists() else []
-        chosen |= {tuple(row[:3]) for row in rows if row[3] and row[3] in own[-1] and row[2] is not None}
+        chosen |= {tuple(row[:2]) for row in rows if row[2] and row[2] in own[-1] and row[1] is not None}
         # (what it says of a second time is followed then)
         hint, _, later = re.split(
             r"(; if it (?:fails again|always fails at the same address|refuses again), |$)", own[-1], 1
@@ -1748,7 +1746,8 @@ def reports():
         leave_out("the schema of reports", "python3-jsonschema is not installed")
     for board, words, kind, chip, error in table("reports"):
         it = Board(**board_of(board.strip("-")))
-        words = ["-p", "m328p", "-P", it.device, *words.split(), "--json", "report.json"]
+        device = [] if "-P " in words else ["-P", it.device]
+        words = ["-p", "m328p", *device, *words.split(), "--json", "report.json"]
         status, *_, own = run(words)
         it.end()
         found, what = report_of("report.json"), f"{board}, {words}"

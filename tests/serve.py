@@ -8,6 +8,7 @@ Not proved: No proof covers avrstk-serve, which is Python, and sockets and termi
 """
 
 import ast
+import json
 import os
 import pty
 import resource
@@ -306,9 +307,9 @@ def refused():
         same(f"{words}: its messages", messages, wanted)
         see(f"{words}: it doesn't serve", "serving at 127.0.0.1:" not in output, output)
     taken.close()
-    # (Python 3.7 gets as far as the line that names the version it needs)
-    for it in [SCRIPT, TOP / "avrstk-serial", *(TOP / "lib/avrstk").glob("*.py")]:
-        ast.parse(it.read_text(), feature_version=(3, 7))
+    # (Python 3.6 gets as far as the line that names the version it needs)
+    for it in [SCRIPT, TOP / "avrstk-serial"]:
+        ast.parse(it.read_text(), feature_version=(3, 6))
     # (Python keeps no docstrings then)
     see("--help without docstrings", "avrstk-serve PORT" in ran(["--help"], PYTHONOPTIMIZE="2")[2])
     for closed, status in [(">&-", 1), (">/dev/full", 1), ("<&- 2>&-", 0)]:
@@ -701,15 +702,85 @@ def faults():
         leave_out("faults with AVRDUDE", "AVRDUDE 7.1 is not installed")
 
 
+def reports():
+    """--json writes each session: commands, faults, and whether the chip was saved; also for refused options."""
+    with Serving("--json", "report.json", "--drop", "SIGN_ON#2", "--lose", "CHIP_ERASE", "--idle", "1") as it:
+        with it.call() as client:
+            see("a session", begins(client))
+            client.sendall(FRAMES[1])
+            same("its second reply", heard(client, ENDS[1] - ENDS[0]), REPLIES[ENDS[0] : ENDS[1]])
+        with it.call() as client:
+            client.sendall(FRAMES[0])
+            same("an idle one ends", heard(client, 1), b"")
+        with it.call() as client:
+            see("one whose run is killed", begins(client))
+            (run,) = runs()
+            os.kill(run, signal.SIGKILL)
+            same("it is hung up on", client.recv(1), b"")
+        same("its status", it.end()[0], 1)
+    held = report()
+    faults = [{"fault": "--drop SIGN_ON#2", "struck": 1}, {"fault": "--lose CHIP_ERASE", "struck": 0}]
+    same("the faults", (held["status"], held["faults"], held["seed"]), (1, faults, None))
+    sessions = [(it["commands"], len(it["faults"]), it["idle"], it["saved"]) for it in held["sessions"]]
+    same("the sessions", sessions, [(2, 0, False, True), (1, 1, True, True), (1, 0, False, False)])
+    found, *_ = ran(["0", *M328P, "--json", "report.json", "--seed", "7", "--drop", "2%", "--", "sh", "-c", "exit 7"])
+    same("a command's status", (found, report()["status"], report()["seed"]), (7, 7, 7))
+    found, told, _ = ran(["0", "-p", "m328p", "--json", "report.json"])
+    same("refused", (found, report()["error"]), (1, told[len("avrstk-serve: ") : -1]))
+    room.put("chip.bin", b"no chip")
+    same("its own chip", ran(["0", *M328P, "--json", "./chip.bin"])[0], 1)
+    same("the chip stays", room.read("chip.bin"), b"no chip")
+
+
+def mega():
+    """With --mega the lock and the EEPROM stay when pages are erased, and only boot lock bits can be written. A corrupt
+    frame gets no reply. (tests/mega.py has the replies.)"""
+    flash, eeprom, rest = bytes(range(256)) * 1024, bytes(range(255, -1, -1)) * 16, b"\x62\xd9\xfd\xfc"
+    room.put("chip.bin", flash + eeprom + rest)
+    room.put("new.bin", bytes(1_000))
+    double, client = ["0", "-p", "m2560", "--chip", "chip.bin", "--mega"], [str(PROGRAM), "-p", "m2560", "-P", "net:{}"]
+    found, *_ = ran([*double, "--corrupt", "READ_LOCK", "--", *client, "-q", "-U", "lock:r:/dev/null:h"])
+    same("a corrupt frame", found, 1)
+    found, *_ = ran([*double, "--log", "log", "--corrupt", "SIGN_ON#1", "--", *client, "-q"])
+    same("and one", (found, marks()[0]), (0, "1, 1: SIGN_ON 01: corrupted, no reply"))
+    found, *_ = ran([*double, "--", *client, "-q", "-D", "-U", "flash:w:new.bin:r"])
+    wanted = bytes(1_000) + b"\xff" * 24 + flash[1_024:]
+    same("a locked chip is written", (found, room.read("chip.bin") == wanted + eeprom + rest), (0, True))
+    found, *_ = ran([*double, "--", *client, "-q", "-D", "-V", "-U", "lock:w:0x00:m"])
+    same("the lock", (found, room.read("chip.bin")[-1:].hex()), (0, "c0"))
+
+
+def report():
+    """Returns the report, which has to fit its schema."""
+    held = json.loads(room.read("report.json"))
+    try:
+        import jsonschema
+    except ModuleNotFoundError:
+        leave_out("the schema of reports", "python3-jsonschema is not installed")
+        return held
+    jsonschema.validate(held, json.loads((TOP / "docs/report.schema.json").read_text()))
+    return held
+
+
 CASES = named(
     *(listens, clients_that_send_nothing, one_after_another, half_closed, clients_that_reset, a_chip_in_use),
     *(idle_clients, ends_at_a_signal, refused, installed, status_of_sessions, a_command),
     *(no_inner_port, errors_end_one_session, signals_that_are_ignored, other_addresses, devices, logged),
-    *(avrdudes_in_a_row, faults, a_job_ends, at_a_terminal, logs_that_take_no_more),
+    *(avrdudes_in_a_row, faults, a_job_ends, at_a_terminal, logs_that_take_no_more, reports, mega),
 )
 
 # an idle time, or AVRDUDE's own timeouts
-TIMED = ["idle_clients", "devices", "logged", "avrdudes_in_a_row", "faults", "a_command", "a_job_ends"]
+TIMED = [
+    "idle_clients",
+    "listens",
+    "mega",
+    "devices",
+    "logged",
+    "avrdudes_in_a_row",
+    "faults",
+    "a_command",
+    "a_job_ends",
+]
 
 if __name__ == "__main__":
     sys.exit(run_cases({name: lambda it=it: (room.clear(), it()) for name, it in CASES.items()}, __doc__, timed=TIMED))

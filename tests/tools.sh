@@ -7,7 +7,7 @@ packages=(
     gcc libc6-dev avrdude srecord gcc-avr binutils-avr avr-libc python3-intelhex simavr libsimavr-dev libelf-dev
     arduino-core-avr socat ser2net groff-base strace valgrind mandoc lintian dpkg-dev git xz-utils binutils
     zsh fish python3-pytest python3-jsonschema python3-fusepy xfsprogs furo
-    python3-myst-parser python3-sphinx-copybutton chromium chromium-driver chromium-headless-shell
+    python3-myst-parser python3-sphinx-copybutton chromium chromium-driver chromium-headless-shell black flake8 mypy
 )
 # the sketch ArduinoISP, in the documentation of a package that needs Java: only the sketch is taken
 sketch=out/ArduinoISP.ino

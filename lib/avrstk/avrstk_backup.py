@@ -1,78 +1,87 @@
 """avrstk-serial --backup and --restore: all memories of a chip as the files of a folder."""
 
-from avrstk_common import Fault, refuse, show
+from __future__ import annotations
+
+from avrstk_common import Fault, show
 from avrstk_words import DATA, FUSES, UNOPENED, Update, Words, records_of
 
 import contextlib
 import os
-import pathlib
 import re
 import shlex
-from typing import Callable, List
+from pathlib import Path
+from typing import Callable
 
 # the files, in the order of the reads. (What a bootloader refuses to read comes first)
-FILES = {it: "txt:h" for it in ["calibration", "signature", *FUSES]}
+FILES = {memory: "txt:h" for memory in ["calibration", "signature", *FUSES]}
 FILES.update({"flash": "hex:i", "eeprom": "hex:i"})
 LOCKED = "the chip is locked, so flash and EEPROM can't be read: this is no backup of them"
 
 
 def text_of(folder: str, memory: str) -> str:
-    return pathlib.Path(folder, f"{memory}.{FILES[memory][:3]}").read_text("ascii", "replace")
+    return Path(folder, f"{memory}.{FILES[memory][:3]}").read_text("ascii", "replace")
 
 
-def bytes_of(folder: str, memory: str) -> List[int]:
+def bytes_of(folder: str, memory: str) -> list[int]:
     """Returns the values of a file."""
     text = text_of(folder, memory).strip()
-    is_list = re.fullmatch(r"0x[0-9a-f]{1,2}(,0x[0-9a-f]{1,2})*", text)
-    refuse((not is_list, f"{folder}/{memory}.txt has no values, as a backup has them"))
-    return [int(it, 16) for it in text.split(",")]
+    if not re.fullmatch(r"0x[0-9a-f]{1,2}(,0x[0-9a-f]{1,2})*", text):
+        raise Fault(f"{folder}/{memory}.txt has no values, as a backup has them")
+    return [int(value, 16) for value in text.split(",")]
 
 
-def back_up(words: Words, runs: Callable[[], int]) -> int:
+def back_up(words: Words, folder: str, runs: Callable[[], int]) -> int:
     """Makes the folder, reads the chip by this run, and prints the command that restores it. If the chip can't be read
     whole, the folder is removed."""
-    folder, is_whole = words.backup, False
+    is_whole = False
     try:
         os.mkdir(folder)
     except OSError as fault:
         raise Fault(f"--backup {folder}: {fault.strerror}: {UNOPENED}")
     try:
-        words.updates = [Update(f"{it}:r:{folder}/{it}.{end}") for it, end in FILES.items()]
+        words.updates = [Update(f"{memory}:r:{folder}/{memory}.{end}") for memory, end in FILES.items()]
         status = runs()
-        refuse((not status and not bytes_of(folder, "lock")[0] & 2, LOCKED))
+        if not status and not bytes_of(folder, "lock")[0] & 2:
+            raise Fault(LOCKED)
         is_whole = not status
     finally:
         if not is_whole:
             # (a file that another program put there stays, and the folder with it)
             with contextlib.suppress(OSError):
-                for it in filter(lambda it: it.partition(".")[0] in FILES, os.listdir(folder)):
-                    os.unlink(f"{folder}/{it}")
+                for name in os.listdir(folder):
+                    if name.partition(".")[0] in FILES:
+                        os.unlink(f"{folder}/{name}")
                 os.rmdir(folder)
     if is_whole:
-        kept = [it for it in ("--parts", "-c", "-b", "--wait") if it in words.last]
-        given = [it for name in kept for it in (name, words.last[name])]
-        given += ["-p", words.part, "-P", words.device, f"--restore={folder}"]
-        show(" ".join(map(shlex.quote, ["avrstk-serial", *given])))
+        show(command_again(words, f"--restore={folder}"))
     return status
 
 
-def restored(words: Words) -> List[Update]:
+def command_again(words: Words, *more: str) -> str:
+    """Returns a command for the same programmer and chip."""
+    kept = [option for option in ("--parts", "-c", "-b", "--wait") if option in words.last]
+    given = [word for option in kept for word in (option, words.last[option])]
+    given += ["-p", words.part or "", "-P", words.device or "", *more]
+    return " ".join(map(shlex.quote, ["avrstk-serial", *given]))
+
+
+def restored(words: Words, folder: str) -> list[Update]:
     """Returns the updates that write a backup, the lock last. The whole EEPROM is written, whatever an erase leaves."""
-    folder, size = words.restore, words.field("eeprom_size")
-    signature = "".join(f"{it:02X}" for it in bytes_of(folder, "signature"))
+    signature = "".join(f"{byte:02X}" for byte in bytes_of(folder, "signature"))
     own, eeprom = words.signature(), records_of(text_of(folder, "eeprom").encode())
-    refuse(
-        (not bytes_of(folder, "lock")[0] & 2, LOCKED),
-        (own and own != signature, f"{folder} is of a chip {signature}, and {words.part} is {own}"),
-        (sorted(eeprom) != list(range(size or len(eeprom))), f"{folder}/eeprom.hex is not the whole EEPROM"),
-    )
+    if not bytes_of(folder, "lock")[0] & 2:
+        raise Fault(LOCKED)
+    if own and own != signature:
+        raise Fault(f"{folder} is of a chip {signature}, and {words.part} is {own}")
+    if sorted(eeprom) != list(range(words.field("eeprom_size") or len(eeprom))):
+        raise Fault(f"{folder}/eeprom.hex is not the whole EEPROM")
     # (if all of flash is FF, the erase restores it)
     flash = f"{folder}/flash.hex:i" if DATA.search(text_of(folder, "flash").encode()) else "0xFF:m"
-    values = [f"{it}:w:0x{bytes_of(folder, it)[0]:02X}:m" for it in ["efuse", "hfuse", "lfuse", "lock"]]
-    return [Update(it) for it in [f"flash:w:{flash}", f"eeprom:w:{folder}/eeprom.hex:i", *values]]
+    values = [f"{memory}:w:0x{bytes_of(folder, memory)[0]:02X}:m" for memory in ["efuse", "hfuse", "lfuse", "lock"]]
+    return [Update(text) for text in [f"flash:w:{flash}", f"eeprom:w:{folder}/eeprom.hex:i", *values]]
 
 
-def asking(folder: str) -> List[Update]:
+def asking(folder: str) -> list[Update]:
     """Returns what only a programmer can read, and the comparison with the chip's signature, which write nothing."""
-    signature = ",".join(f"0x{it:02X}" for it in bytes_of(folder, "signature"))
+    signature = ",".join(f"0x{byte:02X}" for byte in bytes_of(folder, "signature"))
     return [Update("calibration:r:/dev/null:h"), Update(f"signature:v:{signature}:m")]

@@ -1,6 +1,8 @@
 """The faults and the log of avrstk-serve: what becomes of the frames between a client and its run."""
 
-from avrstk_common import READ, Fault, Frames, is_frame, came, ready, refuse, say
+from __future__ import annotations
+
+from avrstk_common import READ, Change, Fault, Frames, is_frame, came, ready, say
 
 import collections
 import errno
@@ -10,7 +12,7 @@ import os
 import random
 import re
 import time
-from typing import Optional
+from typing import Callable, NamedTuple, Sequence
 
 # the names of the commands in a log
 COMMANDS = {
@@ -31,33 +33,58 @@ FAULTS = {
 REFUSED = {"--bootloader": {CHIP_ERASE, 0x17, 0x19, 0x1C}, "--no-chip": {0x10}}
 
 
-def seconds(option, given):
+# tells whether a command is meant by a fault: by its number, by its name, and by its number among those of its name
+Meant = Callable[[Sequence[str]], bool]
+
+
+class Planned(NamedTuple):
+    """A fault of single commands. `given` is its option and value on the command line."""
+
+    option: str
+    is_meant: Meant
+    given: str
+
+
+class Waiting(NamedTuple):
+    """A command without a reply so far: its line in the log, or None if it is no client's, and its faults."""
+
+    line: str | None
+    faults: list[str]
+
+
+def seconds(option: str, given: str) -> float:
+    """Returns the seconds in an option's value, which are more than 0."""
     number = given.partition(":")[2] if option == "--late" else given
-    is_number = re.fullmatch(r"[0-9]{1,9}(\.[0-9]+)?", number) and float(number)
-    refuse((not is_number, f"{option} {given}: not a number of seconds"))
+    if not re.fullmatch(r"[0-9]{1,9}(\.[0-9]+)?", number) or not float(number):
+        raise Fault(f"{option} {given}: not a number of seconds")
     return float(number)
 
 
-def which(given, chance):
-    """Returns whether a command, by its number and its name, is one of these."""
+def which(given: str, chance: Callable[[], float]) -> Meant:
+    """Returns which commands are meant by WHICH, the value of a fault's option."""
     share = re.fullmatch(r"([0-9]{1,2}(?:\.[0-9]+)?)%", given)
+    if share:
+        percent = float(share[1])
+        return lambda names: chance() * 100 < percent
     is_one = re.fullmatch("(?:([A-Z_]+)#)?[1-9][0-9]{0,8}", given)
-    is_known = share or given in COMMANDS.values() or is_one and is_one[1] in (None, *COMMANDS.values())
-    what = "not the name of a command in the log, its number, one of a name such as CHIP_ERASE#1, or a share such as 2%"
-    refuse((not is_known, f"{given}: {what}"))
-    return (lambda *_: chance() * 100 < float(share[1])) if share else lambda *it: given in it
+    if given not in COMMANDS.values() and not (is_one and is_one[1] in (None, *COMMANDS.values())):
+        what = "not the name of a command in the log, its number, one of a name such as CHIP_ERASE#1"
+        raise Fault(f"{given}: {what}, or a share such as 2%")
+    return lambda names: given in names
 
 
-xor = functools.partial(functools.reduce, operator.xor)
+def xor(held: bytes) -> int:
+    """Returns the checksum of a frame's bytes; 0 for a whole frame that is not damaged."""
+    return functools.reduce(operator.xor, held)
 
 
-def framed(number, body):
+def framed(number: int, body: bytes) -> bytes:
     """Returns a frame."""
     whole = bytes([0x1B, number, *divmod(len(body), 256), 0x0E]) + body
     return whole + bytes([xor(whole)])
 
 
-def spoiled(frame):
+def spoiled(frame: bytes) -> bytes:
     """Returns a frame with a bit of its body changed."""
     return frame[:-2] + bytes([frame[-2] ^ 1, frame[-1]])
 
@@ -66,92 +93,101 @@ class Log:
     """The file of --log, with at most `limit` bytes. A line that it doesn't take at once is lost: no pipe stops the
     server. A message reports the first one, and a line in the log how many."""
 
-    def __init__(self, name: str, limit: int):
+    def __init__(self, name: str, limit: int) -> None:
         try:
             self.file = os.open(name, os.O_WRONLY | os.O_APPEND | os.O_CREAT | os.O_NONBLOCK | os.O_NOCTTY, 0o666)
         except OSError as fault:
             raise Fault(f"{name}: {'nobody reads this pipe' if fault.errno == errno.ENXIO else fault.strerror}")
-        self.room, self.rest, self.lost, self.is_told = limit - os.fstat(self.file).st_size, b"", 0, False
+        self.room, self.rest = limit - os.fstat(self.file).st_size, b""
+        # how many lines were lost since the last one, and whether a message has reported one
+        self.lost, self.is_reported = 0, False
 
     def put(self, line: str) -> None:
         """Appends a line. A line that was cut is completed before the next one."""
-        line = f"{self.lost} lines are missing\n{line}".encode() if self.lost else line.encode()
+        held = f"{self.lost} lines are missing\n{line}".encode() if self.lost else line.encode()
         try:
-            self.rest = self.rest and self.rest[os.write(self.file, self.rest) :]
-            if len(line) <= self.room and not self.rest:
-                self.rest, self.room, self.lost = line[os.write(self.file, line) :], self.room - len(line), 0
+            if self.rest:
+                self.rest = self.rest[os.write(self.file, self.rest) :]
+            if len(held) <= self.room and not self.rest:
+                self.rest, self.room, self.lost = held[os.write(self.file, held) :], self.room - len(held), 0
                 return
             why = "its reader is too slow" if self.rest else "it is as long as --log-limit allows"
         except OSError as fault:
-            why = "its reader is too slow" if isinstance(fault, BlockingIOError) else fault.strerror
+            why = "its reader is too slow" if isinstance(fault, BlockingIOError) else str(fault.strerror)
         self.lost += 1
-        if not self.is_told:
+        if not self.is_reported:
             say(f"--log: lines are missing: {why}")
-        self.is_told = True
+        self.is_reported = True
 
 
 class Traffic:
     """The frames between clients and their runs: each command has a line in the log, and faults are made of some."""
 
-    def __init__(self, options):
+    def __init__(self, options: Sequence[tuple[str, str]]) -> None:
         """Takes the options in their order, each with its value."""
         self.last = last = dict(options)
-        self.is_bootloader = "--bootloader" in last
-        self.refused = set().union(*(codes for it, codes in REFUSED.items() if it in last))
+        self.is_bootloader, self.is_strict = "--bootloader" in last, "--strict" in last
+        self.is_mega = "--mega" in last
+        self.refused = {code for option, codes in REFUSED.items() if option in last for code in codes}
         self.client = self.count = 0
-        # how many commands of each name there were, and the options whose faults have struck
-        self.names, self.struck, self.is_strict = collections.Counter(), set(), "--strict" in last
+        self.log: Log | None = None
+        # how many commands of each name there were, and how many commands the fault of each option has struck
+        self.names: collections.Counter[str] = collections.Counter()
+        self.struck: collections.Counter[str] = collections.Counter()
+        # of this client: whether its session has erased the chip, and the commands without a reply so far
+        self.has_erased = False
+        self.waiting: collections.deque[Waiting] = collections.deque()
         self.lateness = seconds("--late", last.get("--late", "0:1"))
-        given = [(it, value) for it, value in options if it in FAULTS]
-        seed, each = last.get("--seed", str(random.randrange(1_000_000))), {"--drop": ["--lose", "--lose-reply"]}
-        refuse((not re.fullmatch("[0-9]{1,18}", seed), f"--seed {seed}: not a number"))
+        seed = last.get("--seed", str(random.randrange(1_000_000)))
+        if not re.fullmatch("[0-9]{1,18}", seed):
+            raise Fault(f"--seed {seed}: not a number")
         chance = random.Random(seed).random
-
-        def meant(name, value):
-            return which(value.partition(":")[0] if name == "--late" else value, chance)
-
-        self.given = [f"{name} {value}" for name, value in given]
-        self.faults = [
-            (it, meant(name, value), f"{name} {value}") for name, value in given for it in each.get(name, [name])
-        ]
-        if any("%" in value for _, value in given):
+        given = [(option, value) for option, value in options if option in FAULTS]
+        self.given = [f"{option} {value}" for option, value in given]
+        self.faults: list[Planned] = []
+        for option, value in given:
+            for fault in ["--lose", "--lose-reply"] if option == "--drop" else [option]:
+                is_meant = which(value.partition(":")[0] if option == "--late" else value, chance)
+                self.faults.append(Planned(fault, is_meant, f"{option} {value}"))
+        # (a report has it if it was used)
+        self.seed = int(seed) if any("%" in value for _, value in given) else None
+        if self.seed is not None:
             say(f"--seed {seed} makes the same faults again")
 
-    def open(self, *files: Optional[str]) -> None:
+    def open(self, *files: str | None) -> None:
         """Opens the log, which is none of these files."""
         name, limit = self.last.get("--log", os.devnull), self.last.get("--log-limit", f"{1 << 62}")
-        is_one = os.path.realpath(name) in [os.path.realpath(it) for it in files if it]
-        refuse(
-            (not re.fullmatch("[0-9]{1,19}", limit), f"--log-limit {limit}: not a number of bytes"),
-            (is_one, f"--log {name}: this is the chip file or the part file"),
-        )
+        if not re.fullmatch("[0-9]{1,19}", limit):
+            raise Fault(f"--log-limit {limit}: not a number of bytes")
+        if os.path.realpath(name) in [os.path.realpath(file) for file in files if file]:
+            raise Fault(f"--log {name}: this is the chip file or the part file")
         self.log = Log(name, int(limit))
 
-    def begin(self):
+    def begin(self) -> tuple[Change, Change]:
         """Takes the next client. Returns what changes the bytes that it sends, and those that it gets."""
         self.client, self.has_erased = self.client + 1, False
-        # the commands without a reply so far: each has its line, or None if it is no client's, and its faults
-        self.waiting = collections.deque()
+        self.waiting.clear()
 
-        def changed(act, pieces):
-            return lambda more: b"".join(act(it) if is_frame(it) else it for it in pieces(more))
+        def changed(act: Change) -> Change:
+            frames = Frames()
+            return lambda more: b"".join(act(piece) if is_frame(piece) else piece for piece in frames.pieces(more))
 
-        return changed(self.command, Frames().pieces), changed(self.reply, Frames().pieces)
+        return changed(self.command), changed(self.reply)
 
-    def unstruck(self) -> list:
+    def unstruck(self) -> list[str]:
         """Returns the options whose faults never struck."""
-        return [it for it in self.given if it not in self.struck]
+        return [option for option in self.given if option not in self.struck]
 
-    def end(self):
+    def end(self) -> None:
         """Notes the commands that got no reply."""
-        for line, _ in self.waiting:
-            self.note(line, ["no reply"])
+        for command in self.waiting:
+            self.note(command.line, ["no reply"])
 
-    def note(self, line, marks):
-        if line:
+    def note(self, line: str | None, marks: list[str]) -> None:
+        if line and self.log:
             self.log.put(f"{line}{': ' if marks else ''}{', '.join(marks)}\n")
 
-    def command(self, frame):
+    def command(self, frame: bytes) -> bytes:
         """Returns what the run gets for a command."""
         self.count += 1
         body = frame[5:-1]
@@ -160,17 +196,21 @@ class Traffic:
         line = f"{when} client {self.client}, {frame[1]}: {name} {body[:16].hex(' ')}{more}"
         self.names[name] += 1
         own = str(self.count), name, f"{name}#{self.names[name]}"
-        meant = [(it, given) for it, is_meant, given in self.faults if is_meant(*own)]
-        faults = [it for it, _ in meant]
-        self.struck |= {given for _, given in meant}
+        meant = [fault for fault in self.faults if fault.is_meant(own)]
+        faults = [fault.option for fault in meant]
+        self.struck.update({fault.given for fault in meant})
         if "--lose" in faults:
             self.note(line, ["lost"])
             return b""
+        if self.is_mega and (xor(frame) or "--corrupt" in faults):
+            # (the Mega's bootloader gives no reply to a corrupt frame)
+            self.note(line, [FAULTS[fault] for fault in faults if fault == "--corrupt"] + ["no reply"])
+            return spoiled(frame)
         before, frame = (b"", frame) if xor(frame) else self.refusing(frame[1], body)
-        self.waiting.append((line, faults))
+        self.waiting.append(Waiting(line, faults))
         return before + (spoiled(frame) if "--corrupt" in faults else frame)
 
-    def refusing(self, number, body):
+    def refusing(self, number: int, body: bytes) -> tuple[bytes, bytes]:
         """Returns what comes before a command, and what the run gets for it, from a bootloader or without a chip."""
         before = b""
         if body[0] in self.refused:
@@ -182,16 +222,18 @@ class Traffic:
         elif self.is_bootloader and body[0] == PROGRAM_FLASH and not self.has_erased:
             self.has_erased = True
             before = framed(number, bytes([CHIP_ERASE, 9, 0, 0xAC, 0x80, 0, 0]))
-            self.waiting.append((None, []))
+            self.waiting.append(Waiting(None, []))
         return before, framed(number, body)
 
-    def reply(self, frame):
+    def reply(self, frame: bytes) -> bytes:
         """Returns what the client gets for the reply to the first command that waits for one."""
         line, faults = self.waiting.popleft() if self.waiting else (None, [])
         if line is None:
             return b""
-        marks = [FAULTS[it] for it in faults]
-        self.note(line, marks + [f"refused ({frame[5:-1][:2].hex(' ')})"] * (frame[6:7] != b"\0"))
+        marks = [FAULTS[fault] for fault in faults]
+        if frame[6:7] != b"\0":
+            marks.append(f"refused ({frame[5:-1][:2].hex(' ')})")
+        self.note(line, marks)
         if "--late" in faults:
             ready({came: READ}, time.monotonic() + self.lateness)
         if "--lose-reply" in faults:

@@ -1,11 +1,15 @@
 """What avrstk-serial says after a failed run. A hint says what is sure, and asks where it can't know."""
 
-from avrstk_common import first, parts
-from avrstk_words import FORMATS, FUSES, MEMORIES, RECORD, UNOPENED, long_name, parts_of, rows_of
+from __future__ import annotations
+
+from avrstk_common import parts
+from avrstk_words import FORMATS, FUSES, MEMORIES, RECORD, UNOPENED, Update, Words, long_name, parts_of, rows_of
 
 import os
 import re
 import signal
+from dataclasses import dataclass, field
+from typing import Callable, Dict, Match, Union
 
 # STK500v2 commands: those that change a chip, and others
 CHANGING, SIGN_ON, LEAVE = {0x12, 0x13, 0x15, 0x17, 0x19, 0x1D}, 0x01, 0x11
@@ -23,172 +27,238 @@ ANOTHER = "If this is a programmer, it can't erase: use another one"
 LOADER = "a bootloader can't erase the chip"
 STAYS = f"everything reported above was done. The chip stays in programming mode: {POWER_CYCLE}"
 
+# hints by the beginnings of errors: a text, or a function of the command line and of what was found in the error
+Table = Dict[str, Union[str, Callable[[Words, Match[str]], str]]]
 
-def state_of(run):
+
+@dataclass
+class Outcome:
+    """What is known of a run: its status, the commands that were sent before it and in it, and its first error."""
+
+    words: Words
+    earlier: frozenset[int] = frozenset()
+    commands: set[int] = field(default_factory=set)
+    # how many commands were sent, and how many of these again
+    sent: int = 0
+    repeated: int = 0
+    status: int = 1
+    error: str = ""
+    # whether the device was opened, and sent bytes for ten seconds, but no valid reply
+    was_opened: bool = False
+    is_noisy: bool = False
+    # whether all but the end was done before the error
+    left_at_error: bool = False
+
+
+def state_of(run: Outcome) -> str:
     """Describes the state of the chip after a run that stopped early."""
     sent = run.earlier | run.commands
-    return first(
-        (not sent, f"nothing was sent: {UNCHANGED}"),
-        (sent <= {SIGN_ON}, UNCHANGED),
-        (not CHANGING & sent, f"{UNCHANGED}, and may be held in reset: {POWER_CYCLE}"),
-        (True, f"the chip is erased or partly written, and may be held in reset: {SAME}"),
-    )
+    if not sent:
+        return f"nothing was sent: {UNCHANGED}"
+    if sent <= {SIGN_ON}:
+        return UNCHANGED
+    if not CHANGING & sent:
+        return f"{UNCHANGED}, and may be held in reset: {POWER_CYCLE}"
+    return f"the chip is erased or partly written, and may be held in reset: {SAME}"
 
 
-def hint(run, number):
+def hint(run: Outcome, number: int | None) -> str:
     """Returns what to do after a failed run, judged by its first error. `number` is the signal that ended it."""
     error, words, state = run.error, run.words, state_of(run)
+    if number:
+        return f"ended by {signal.Signals(number).name}: {state}"
+    if CHANGING & run.earlier and not CHANGING & run.commands:
+        return state
+    if not run.was_opened:
+        end = state if run.earlier else UNOPENED
+        why = matched(REFUSALS, error, words)
+        return f"{why}; {end}" if why else end
     speed, resets = f"the speed (-b {words.baud})", "that the board resets when the port opens"
     kinds = "Uno and Nano need -c arduino, Arduino as ISP -c arduino_as_isp, and USBasp needs avrdude"
     others = f"{resets} (else press reset right after starting). {kinds}"
-    silenced = f"the device sends data, but no valid reply: its application is running, or {speed} is wrong"
-    is_silent = error == "no answer" and run.commands <= {SIGN_ON, LEAVE}
-    done = f"everything above was done; only the last command got no reply. {POWER_CYCLE.capitalize()}"
-    return first(
-        (number, number and f"ended by {signal.Signals(number).name}: {state}"),
-        (CHANGING & run.earlier and not CHANGING & run.commands, state),
-        (not run.was_opened, "; ".join([*matched(REFUSALS, error, words), state if run.earlier else UNOPENED])),
-        (run.silenced, f"{silenced}. Check {others}"),
-        (error == "no answer" and run.left_at_error, done),
-        (is_silent, f"no reply; {UNCHANGED}. Check: {speed}; that no serial monitor has the port open; {others}"),
-        (True, "".join(matched(REPLIED, error, words, speed=speed, state=state)) or state),
-    )
+    if run.is_noisy:
+        why = f"the device sends data, but no valid reply: its application is running, or {speed} is wrong"
+        return f"{why}. Check {others}"
+    if error == "no answer" and run.left_at_error:
+        return f"everything above was done; only the last command got no reply. {POWER_CYCLE.capitalize()}"
+    if error == "no answer" and run.commands <= {SIGN_ON, LEAVE}:
+        return f"no reply; {UNCHANGED}. Check: {speed}; that no serial monitor has the port open; {others}"
+    return matched(REPLIED, error, words, speed=speed, state=state) or state
 
 
-def matched(table, error, words, **fields):
-    """Returns the hint of the first row whose error begins so."""
+def matched(table: Table, error: str, words: Words, **fields: str) -> str:
+    """Returns the hint of the first row whose error begins so; an empty text if there is none."""
     for begin, text in table.items():
         found = re.match(begin, error)
         if found:
-            return [text(words, found) if callable(text) else text.format(**fields)]
-    return []
+            return text.format(**fields) if isinstance(text, str) else text(words, found)
+    return ""
 
 
-def no_part(words, _):
+def no_part(words: Words, _: Match[str]) -> str:
     """Returns why a part isn't there, if it is known."""
     name = long_name(words.part)
+    for names, reason in rows_of("unsupported.txt") if words.parts_file is None else []:
+        if name in names.lower().split():
+            return f"{name} is not supported: {reason.partition('. ')[0]}. Use avrdude"
     package = re.sub(r"-\w+$", "", name)
-    known = rows_of("unsupported.txt") if words.parts_file is None else []
-    reason = next((reason.partition(". ")[0] for names, reason in known if name in names.lower().split()), None)
+    if package != name and package in parts():
+        return f"without the package: -p {package}"
+    if f"at{package}" in parts():
+        return f"give -p at{package}"
+    if re.match("uno|nano|mega|leonardo|micro", name):
+        return "-p takes the chip's name, not the board's: m328p for Uno, m2560 for Mega 2560, m32u4 for Leonardo"
     auto = "" if words.part else ", and -p auto reads which one it is"
-    chips = "-p takes the chip's name, not the board's: m328p for Uno, m2560 for Mega 2560, m32u4 for Leonardo"
-    return first(
-        (reason, f"{name} is not supported: {reason}. Use avrdude"),
-        (package != name and package in parts(), f"without the package: -p {package}"),
-        (f"at{package}" in parts(), f"give -p at{package}"),
-        (re.match("uno|nano|mega|leonardo|micro", name), chips),
-        (True, f"-p ? lists the parts{auto}; others need a part file (--parts)"),
-    )
+    return f"-p ? lists the parts{auto}; others need a part file (--parts)"
 
 
-def unread(words, found):
+def unread(words: Words, found: Match[str]) -> str:
     """Returns what to do with an image that avrstk refuses. (No other format makes a text firmware.)"""
     name, line, fault, address = found.groups()
-    update = next((it for it in words.updates if name in (it.file, it.memory, *it.text.split(":"))), None)
-    held, is_at_begin = update.held(65_536) if update else b"", fault == "no record mark" and line == "1"
-    is_elf = held[:4] == b"\x7fELF" and not address
-    if not update or not (address or is_at_begin or is_elf):
-        return "the file is damaged or cut short: build or download it again" if update else "is -p right?"
-    own = f"{update.memory}:{update.operation}"
-    size = words.field(f"{update.memory}_size") if update.memory in ("flash", "eeprom") else 1
-    room = f"has {size:,} byte{'s'[:size > 1]}" if size else "is smaller"
+    named = (update for update in words.updates if name in (update.file, update.memory, *update.text.split(":")))
+    update = next(named, None)
+    if not update:
+        return "is -p right?"
+    if address:
+        return too_far(words, update, int(address, 16))
+    held = update.held(65_536)
+    if not (fault == "no record mark" and line == "1") and held[:4] != b"\x7fELF":
+        return "the file is damaged or cut short: build or download it again"
     other = {b":": "i", b"S": "s", b"\x7f": "e"}.get(held[:1], update.format)
-    above = "something is above its first record: delete it if it is a comment, else build or download the file again"
+    if other and other != update.format:
+        return f"it has {FORMATS.get(other)}: give {update.memory}:{update.operation}:{update.file}:{other}"
+    if re.search(rb"^" + RECORD.pattern, held, re.M):
+        cure = "delete it if it is a comment, else build or download the file again"
+        return f"something is above its first record: {cure}"
+    return f"it is not {FORMATS.get(update.format or '')}"
+
+
+def too_far(words: Words, update: Update, address: int) -> str:
+    """Returns the hint for an image with a byte at an address that its memory doesn't have."""
+    own = f"{update.memory}:{update.operation}"
+    if address >= 0x810000:
+        return f"it has several memories: give the ELF file itself, as {own}:NAME.elf"
+    if update.memory in FUSES:
+        return f"{update.memory} has 1 byte: give its value, as {own}:0xE2:m"
+    size = words.field(f"{update.memory}_size") if update.memory in ("flash", "eeprom") else 1
+    room = f"has {size:,} byte{'s' if size > 1 else ''}" if size else "is smaller"
     goes_on = f"{update.file} goes past it: " if update.elf else ""
-    return first(
-        (int(address or "0", 16) >= 0x810000, f"it has several memories: give the ELF file itself, as {own}:NAME.elf"),
-        (address and update.memory in FUSES, f"{update.memory} has 1 byte: give its value, as {own}:0xE2:m"),
-        (address, f"{update.memory} of {words.part} {room}; {goes_on}is -p right?"),
-        (other != update.format, f"it has {FORMATS.get(other)}: give {own}:{update.file}:{other}"),
-        (re.search(rb"^" + RECORD.pattern, held, re.M), above),
-        (True, f"it is not {FORMATS.get(update.format)}"),
-    )
+    return f"{update.memory} of {words.part} {room}; {goes_on}is -p right?"
 
 
-def unopened(words, found):
+def unopened(words: Words, found: Match[str]) -> str:
     """Returns why a file can't be opened."""
     file, front = found[1], found[1].rpartition(":")[0]
-    own = next((it for it in words.updates if it.file == file), None)
-    is_value = own and own.operation in "wv" and re.fullmatch(r"(0[xb])?[0-9A-Fa-f, \t]+", file)
-    update = own and f"{own.memory}:{own.operation}"
-    base = f"{update}:0x{file}:m if it is hexadecimal, {update}:{file}:m if it is decimal"
-    without = own and f"{update}:{front}"
-    return first(
-        (is_value and re.fullmatch("[1-9][0-9]", file), f"a value needs :m after it: give {base}"),
-        (is_value, "a value needs :m after it, as lfuse:w:0xE2:m"),
-        (own and os.path.isfile(front), f"a format is one letter: give -U {without}"),
-        (not os.path.lexists(file), "there is no such file"),
-        (not os.path.exists(file), "it is a symbolic link to a missing file"),
-        (not os.access(file, os.R_OK), "you may not read it"),
-        (True, "the system refuses to open it"),
-    )
+    own = next((update for update in words.updates if update.file == file), None)
+    if own:
+        update = f"{own.memory}:{own.operation}"
+        if own.operation in "wv" and re.fullmatch(r"(0[xb])?[0-9A-Fa-f, \t]+", file):
+            if not re.fullmatch("[1-9][0-9]", file):
+                return "a value needs :m after it, as lfuse:w:0xE2:m"
+            base = f"{update}:0x{file}:m if it is hexadecimal, {update}:{file}:m if it is decimal"
+            return f"a value needs :m after it: give {base}"
+        if os.path.isfile(front):
+            return f"a format is one letter: give -U {update}:{front}"
+    if not os.path.lexists(file):
+        return "there is no such file"
+    if not os.path.exists(file):
+        return "it is a symbolic link to a missing file"
+    if not os.access(file, os.R_OK):
+        return "you may not read it"
+    return "the system refuses to open it"
 
 
-def another_part(words, found):
+def another_part(words: Words, found: Match[str]) -> str:
     """Returns the hint after a wrong signature."""
     names = parts_of(found[1])
+    if found[1] in NO_SIGNATURES:
+        return f"{NO_CHIP}; nothing was written"
+    if not names:
+        return f"the chip is another part ({found[1]}), which is not known here; nothing was written"
     which = f"is {words.device} the right board? Its chip is {' or '.join(names[:4])} ({found[1]})"
-    what = first(
-        (found[1] in NO_SIGNATURES, NO_CHIP),
-        (not names, f"the chip is another part ({found[1]}), which is not known here"),
-        (True, f"{which}; if that is so, -p {''.join(names[:1])}, with firmware and fuses that are made for it"),
-    )
-    return f"{what}; nothing was written"
+    cure = f"if that is so, -p {names[0]}, with firmware and fuses that are made for it"
+    return f"{which}; {cure}; nothing was written"
 
 
-def differs(words, found):
+def differs(words: Words, found: Match[str]) -> str:
     """Returns the hint after a failed comparison."""
-    memory, (address, wanted, held) = found[1], (int(it, 16) for it in found.groups()[1:])
-    compared, writes = ([it for it in words.updates if it.memory == memory and it.operation == op] for op in "vw")
-    bits, given = words.bits().get(memory), [it.memory for it in words.updates if it.operation == "w"]
+    memory, address, wanted, held = found[1], *(int(number, 16) for number in found.groups()[1:])
+    own = [update for update in words.updates if update.memory == memory]
+    compared = ", ".join(update.file for update in own if update.operation == "v")
+    writes = [update for update in own if update.operation == "w"]
+    bits = words.bits().get(memory)
+    if bits is not None and not (wanted ^ held) & bits:
+        if not ~(wanted | bits) & 0xFF:
+            return "bits read 0 that this part lacks, and reads as 1: is -p right?"
+        return f"only bits differ that the part doesn't have: give {memory}:{'w' if writes else 'v'}:0x{held:02X}:m"
+    if not writes:
+        return f"{memory} holds something else than {compared}"
+    if memory in FUSES:
+        return unlike_fuse(words, memory, wanted, held)
+    if is_after_lock(words, memory):
+        return "-U lock was given before: give it last"
+    is_erased = erases(words)
+    if memory == "flash" and not is_erased and not held & ~wanted:
+        return remains(words)
+    always = f"{SAME}; if it always fails at the same address, "
+    if compared:
+        return f"{always}{memory} holds something else than {compared}"
+    if len(writes) > 1:
+        return f"{always}two images overlap: give one"
+    is_far = memory == "eeprom" and address > 0xFF
+    far = "a bootloader reads other addresses above 255 (use a programmer), " if is_far else ""
+    return f"{always}{far}{'a page is worn' if is_erased else f'a page is worn, or {LOCKED}'}"
+
+
+def erases(words: Words) -> bool:
+    """Whether the command erases the chip."""
+    writes_flash = any(update.writes_flash() for update in words.updates)
+    return "-e" in words.flags or writes_flash and "-D" not in words.flags
+
+
+def is_after_lock(words: Words, memory: str) -> bool:
+    """Whether a memory is written after the lock."""
+    given = [update.memory for update in words.updates if update.operation == "w"]
+    return "lock" in given and given.index("lock") < given.index(memory)
+
+
+def unlike_fuse(words: Words, memory: str, wanted: int, held: int) -> str:
+    """Returns the hint if a fuse or the lock holds another value than the one that was written."""
+    cause = "the chip or the programmer is damaged" if erases(words) else LOCKED
+    if memory == "lock":
+        cause = "a bootloader can't write the lock: use a programmer"
     # (a bit that a part doesn't have reads 1)
-    is_open = bits is None and memory in ("efuse", "lock") and not wanted & ~held
-    lacks = bits is not None and not (wanted ^ held) & bits
-    update, other = f"{memory}:{'w' if writes else 'v'}:0x{held:02X}:m", ", ".join(it.file for it in compared)
-    stay = ", ".join(str(it) for it in range(8) if (held & ~wanted) >> it & 1)
-    is_erased = "-e" in words.flags or "flash" in given and "-D" not in words.flags
-    no_lock = "a bootloader can't write the lock: use a programmer"
-    cause = no_lock if memory == "lock" else "the chip or the programmer is damaged" if is_erased else LOCKED
-    asks = f"bits {stay} stay 1. If the part has none of them, give {update}. If it has any of them, {cause}"
-    is_late = {"lock", memory} <= set(given) and given.index("lock") < given.index(memory)
-    is_locked = memory == "lock" and wanted & ~held and not is_erased
-    has_old = memory == "flash" and not is_erased and not held & ~wanted
-    again, always = f"{SAME}; if it fails again, ", f"{SAME}; if it always fails at the same address, "
-    worn = "a page is worn" if is_erased else f"a page is worn, or {LOCKED}"
-    far = "a bootloader reads other addresses above 255 (use a programmer), " if address > 0xFF else ""
-    return first(
-        (lacks and not ~(wanted | bits) & 0xFF, "bits read 0 that this part lacks, and reads as 1: is -p right?"),
-        (lacks, f"only bits differ that the part doesn't have: give {update}"),
-        (not writes, f"{memory} holds something else than {other}"),
-        (is_open, asks),
-        (memory == "lock" and len(writes) > 1, "the lock is given twice: give one value"),
-        (is_locked, f"only an erase removes a lock: -e, which takes all of {TAKES}"),
-        (is_late, "-U lock was given before: give it last"),
-        (memory in FUSES, f"{again}{cause}"),
-        (has_old, has_old and remains(words)),
-        (compared, f"{always}{memory} holds something else than {other}"),
-        (len(writes) > 1, f"{always}two images overlap: give one"),
-        (True, f"{always}{far if memory == 'eeprom' else ''}{worn}"),
-    )
+    if memory not in words.bits() and memory in ("efuse", "lock") and not wanted & ~held:
+        stay = ", ".join(str(bit) for bit in range(8) if (held & ~wanted) >> bit & 1)
+        update = f"{memory}:w:0x{held:02X}:m"
+        return f"bits {stay} stay 1. If the part has none of them, give {update}. If it has any of them, {cause}"
+    locks = [update for update in words.updates if update.operation == "w" and update.memory == "lock"]
+    if memory == "lock" and len(locks) > 1:
+        return "the lock is given twice: give one value"
+    if memory == "lock" and wanted & ~held and not erases(words):
+        return f"only an erase removes a lock: -e, which takes all of {TAKES}"
+    if is_after_lock(words, memory):
+        return "-U lock was given before: give it last"
+    return f"{SAME}; if it fails again, {cause}"
 
 
-def remains(words):
+def remains(words: Words) -> str:
     """Returns the hint after flash that kept zeros of before, since nothing erased it."""
     bootloader = "a page is worn" if words.is_whole() else f"{ONE_IMAGE}, since it erases pages from 0 on"
     programmer = f"With a programmer leave out -D, which erases all of {TAKES}"
     return f"old bytes remain without an erase. {programmer}; with a bootloader {bootloader}"
 
 
-def unerased(words, _):
+def unerased(words: Words, _: Match[str]) -> str:
     """Returns what to do if an erase is refused."""
-    given = {it.memory for it in words.updates if it.operation == "w"}
+    given = {update.memory for update in words.updates if update.operation == "w"}
+    if not given or given & set(FUSES):
+        return f"{LOADER}, or write fuses and the lock: use a programmer"
+    if "flash" not in given:
+        return f"{LOADER}: leave out -e. {ANOTHER}"
     without = "leave out -e, and " if "-e" in words.flags else ""
     image = "" if words.is_whole() else f", and {ONE_IMAGE}"
-    return first(
-        (not given or given & set(FUSES), f"{LOADER}, or write fuses and the lock: use a programmer"),
-        ("flash" in given, f"{LOADER}: {without}use -D{image}. {ANOTHER}"),
-        (True, f"{LOADER}: leave out -e. {ANOTHER}"),
-    )
+    return f"{LOADER}: {without}use -D{image}. {ANOTHER}"
 
 
 # hints after errors of the Nth -U
@@ -199,9 +269,15 @@ KINDS = {
     "no file named": "a file comes last, as flash:w:firmware.hex:i",
 }
 
+
+def unparsed(words: Words, found: Match[str]) -> str:
+    """Returns the hint for a -U that avrstk can't parse."""
+    return f"-U {words.given[int(found[1]) - 1]}: {KINDS[found[2]]}"
+
+
 # hints after errors before the device was opened, by the beginning of the error
-REFUSALS = {
-    rf"update (\d+): ({'|'.join(KINDS)})$": lambda words, it: f"-U {words.given[int(it[1]) - 1]}: {KINDS[it[2]]}",
+REFUSALS: Table = {
+    rf"update (\d+): ({'|'.join(KINDS)})$": unparsed,
     ".*: not a number$": "a value is written as 0xE2, 0b11100010, 0342 or 226",
     "(.*): cannot be opened$": unopened,
     "no part ": no_part,
@@ -209,7 +285,7 @@ REFUSALS = {
 }
 
 # and after it was opened
-REPLIED = {
+REPLIED: Table = {
     r"(\w+): address (\w+): (\w+) expected, (\w+) found": differs,
     r"signature is (\w\w \w\w \w\w)": another_part,
     "command 12 ": unerased,

@@ -1,7 +1,10 @@
 """The report of a run as one JSON object (--json). docs/report.schema.json describes its fields, which stay."""
 
-from avrstk_common import NAME, first, version
-from avrstk_hints import CHANGING, LEAVE, NO_SIGNATURES, SIGN_ON
+from __future__ import annotations
+
+from avrstk_common import NAME, version
+from avrstk_hints import CHANGING, LEAVE, NO_SIGNATURES, SIGN_ON, Outcome
+from avrstk_words import Update, Words
 
 import contextlib
 import hashlib
@@ -11,7 +14,6 @@ import re
 import sys
 import tempfile
 import time
-from typing import Optional
 
 OPERATIONS = {"w": "write", "v": "verify", "r": "read"}
 
@@ -29,51 +31,55 @@ KINDS = {
 
 
 class Report:
-    """What is known of a run so far. `stage` is the kind of a failure that the script itself finds."""
+    """What is known of a run so far. `stage` is the kind of a failure that the script itself finds, and `fault` its
+    text."""
 
-    def __init__(self, words):
-        self.words, self.begun, self.lines, self.runs = words, time.monotonic(), [], []
-        self.stage, self.told = "arguments", None
+    def __init__(self) -> None:
+        self.begun = time.monotonic()
+        self.lines: list[str] = []
+        self.runs: list[Outcome] = []
+        self.stage = "arguments"
+        self.fault: str | None = None
 
     def note(self, line: str) -> None:
         """Notes a line of avrstk, without the program's name."""
         self.lines.append(line)
 
-    def error(self) -> Optional[str]:
+    def error(self) -> str | None:
         """Returns the first error of avrstk, or what the script reported."""
-        return next((it[7:] for it in self.lines if it.startswith("error: ")), self.told)
+        return next((line[7:] for line in self.lines if line.startswith("error: ")), self.fault)
 
-    def sent(self) -> set:
-        return set().union(*(it.commands for it in self.runs))
+    def sent(self) -> set[int]:
+        return {command for run in self.runs for command in run.commands}
 
     def kind(self) -> str:
         error = self.error() or ""
-        if error == self.told:
+        if error == self.fault:
             return self.stage
         if error == "no answer" and self.sent() <= {SIGN_ON, LEAVE}:
             return "silent"
-        return first(*((re.match(it, error), kind) for it, kind in KINDS.items()), (True, "arguments"))
+        return next((kind for begin, kind in KINDS.items() if re.match(begin, error)), "arguments")
 
-    def chip(self, status: int) -> str:
+    def chip(self, words: Words, status: int) -> str:
         """Returns what the chip holds, as far as commands and lines tell."""
         changes = bool(CHANGING & self.sent())
-        if self.words.has_port:
-            changes = any(re.search(r"^chip erased$| bytes written$", it) for it in self.lines)
+        if words.has_port:
+            changes = any(re.search(r"^chip erased$| bytes written$", line) for line in self.lines)
         if not changes:
             return "unchanged"
         return "done" if status == 0 else "erased or partly written"
 
-    def count(self, update, what: str) -> Optional[int]:
+    def count(self, words: Words, update: Update, what: str) -> int | None:
         """Returns the bytes in avrstk's line about an update, or None. Lines come in the order of the updates."""
         makes = {"written": "w", "verified": "wv", "read": "r"}[what]
-        own = [it for it in self.words.updates if it.memory == update.memory and it.operation in makes]
-        found = (re.fullmatch(rf"{update.memory}: (\d+) bytes {what}", it) for it in self.lines)
-        counts = dict(zip(map(id, own), (int(it[1]) for it in found if it)))
-        return counts.get(id(update))
+        own = [other for other in words.updates if other.memory == update.memory and other.operation in makes]
+        found = (re.fullmatch(rf"{update.memory}: (\d+) bytes {what}", line) for line in self.lines)
+        counts = [int(line[1]) for line in found if line]
+        return next((count for other, count in zip(own, counts) if other is update), None)
 
-    def update(self, update) -> dict:
+    def update(self, words: Words, update: Update) -> dict[str, object]:
         """Returns what became of one -U. The digest is that of the image as it was read, or of the file read into."""
-        held = self.words.contents.get(update.file) if update.is_image else None
+        held = words.contents.get(update.file) if update.is_image else None
         if update.operation == "r" and os.path.isfile(update.file):
             with contextlib.suppress(OSError), open(update.file, "rb") as file:
                 held = file.read()
@@ -83,40 +89,56 @@ class Report:
             "file": update.file,
             "bytes": None if held is None else len(held),
             "sha256": None if held is None else hashlib.sha256(held).hexdigest(),
-            **{what: self.count(update, what) for what in ("written", "verified", "read")},
+            **{what: self.count(words, update, what) for what in ("written", "verified", "read")},
         }
 
-    def made(self, status: int, number: Optional[int]) -> dict:
-        """Returns the report. `number` is the signal that ended the run."""
-        words, rows = self.words, version().splitlines()
-        signature = next((it[19:] for it in self.lines if it.startswith("device signature = ")), None)
-        has_hint = self.told is not None and self.told != self.error()
+    def outcome(self, words: Words, status: int, number: int | None) -> dict[str, object]:
+        """Returns how the run ended. `number` is the signal that ended it."""
+        has_hint = self.fault is not None and self.fault != self.error()
         return {
-            "report": 1,
-            "program": NAME,
-            "version": rows[0].partition(" ")[2],
-            "commit": next((it.partition(": ")[2] for it in rows if it.startswith("commit: ")), None),
-            "proved": rows[1:2] == ["proved"] and not words.is_version1,
             "status": status,
+            "seconds": round(time.monotonic() - self.begun, 3),
+            "chip": self.chip(words, status),
+            "kind": ("interrupted" if number else self.kind()) if status else None,
+            "error": self.error() if status else None,
+            "hint": self.fault if status and has_hint else None,
+            **(words.each.reported() if words.each else {}),
+        }
+
+    def made(self, words: Words, status: int, number: int | None) -> dict[str, object]:
+        """Returns the report."""
+        built = build()
+        signature = next((line[19:] for line in self.lines if line.startswith("device signature = ")), None)
+        return {
+            **built,
+            "proved": built["proved"] and not words.is_version1,
             "device": words.device,
             "programmer": words.programmer,
             "part": words.part,
             "signature": None if signature in NO_SIGNATURES else signature,
-            "updates": [self.update(it) for it in words.updates],
-            "commands": sum(it.sent for it in self.runs),
-            "repeated": sum(it.repeated for it in self.runs),
+            "updates": [self.update(words, update) for update in words.updates],
+            "commands": sum(run.sent for run in self.runs),
+            "repeated": sum(run.repeated for run in self.runs),
             "retries": max(0, words.tries - 1),
-            "seconds": round(time.monotonic() - self.begun, 3),
-            "chip": self.chip(status),
-            "kind": ("interrupted" if number else self.kind()) if status else None,
-            "error": self.error() if status else None,
-            "hint": self.told if status and has_hint else None,
+            **self.outcome(words, status, number),
         }
 
 
-def write(place: str, held: dict) -> None:
+def build() -> dict[str, object]:
+    """Returns the fields of a report about avrstk itself."""
+    rows = version().splitlines()
+    return {
+        "report": 1,
+        "program": NAME,
+        "version": rows[0].partition(" ")[2],
+        "commit": next((row.partition(": ")[2] for row in rows if row.startswith("commit: ")), None),
+        "proved": rows[1:2] == ["proved"],
+    }
+
+
+def write(place: str, report: dict[str, object]) -> None:
     """Writes a report into a file, whole or not at all; `-` is standard output."""
-    text = (json.dumps(held, ensure_ascii=True) + "\n").encode()
+    text = (json.dumps(report, ensure_ascii=True) + "\n").encode()
     if place == "-":
         sys.stdout.buffer.write(text)
         sys.stdout.flush()

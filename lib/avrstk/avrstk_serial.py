@@ -1,34 +1,27 @@
 """avrstk-serial: the command line, and runs of avrstk with a programmer on a serial device."""
 
-from avrstk_common import (
-    BRIEF,
-    BUILT_IN,
-    HELP,
-    READ,
-    WRITE,
-    Fault,
-    Frames,
-    Way,
-    asked,
-    came,
-    data_file,
-    ended_by,
-    first,
-)
-from avrstk_common import heed_signals, is_frame, messages, parts, ready, refuse, say, session_program, show
+from __future__ import annotations
+
+from avrstk_common import BUILT_IN, READ, WRITE, Fault, Frames, Source, Way, brief, came, data_file, ended_by
+from avrstk_common import heed_signals, is_frame, messages, parts, ready, refuse, say, session_program, show, text_of
 from avrstk_common import version, wait
 from avrstk_backup import asking, back_up, restored
+from avrstk_each import Each
 from avrstk_report import Report, write
-from avrstk_hints import LEAVE, NO_CHIP, NO_SIGNATURES, ONE_IMAGE, SIGN_ON, hint, state_of
+from avrstk_rows import try_rows
+from avrstk_hints import LEAVE, NO_CHIP, NO_SIGNATURES, ONE_IMAGE, SIGN_ON, Outcome, hint, state_of
+from avrstk_station import station
 from avrstk_version1 import SPEEDS, Bridge
-from avrstk_words import FORMATS, FUSES, UNOPENED, Words, long_name, parts_of
+from avrstk_words import FORMATS, FUSES, UNOPENED, Update, Words, long_name, parts_of
 
 import contextlib
 import copy
 import errno
 import fcntl
 import glob
+import grp
 import os
+import pwd
 import re
 import shlex
 import shutil
@@ -39,7 +32,7 @@ import subprocess
 import sys
 import termios
 import time
-from typing import List, Tuple
+from typing import Callable
 
 REFUSED = {
     "-B": "-B is not supported: leave it out; the programmer has its own clock (avrdude -B sets that of an STK500)",
@@ -47,9 +40,12 @@ REFUSED = {
     "-O": "-O is not supported: the oscillator is not calibrated; -U calibration:r:-:h reads the byte",
     "-i": "-i is not supported: the programmer has its own clock for the chip's pins",
     "-x": "-x is not supported: no parameter of the programmer is set",
-    **{it: f"{it} is not supported: read with -U MEMORY:r:-:h and write with -U MEMORY:w:FILE" for it in ("-t", "-T")},
-    **{it: f"{it} is not supported: erase cycles are not counted in EEPROM" for it in ("-y", "-Y")},
-    **{it: f"{it} is for a programmer without a device: give it to avrstk" for it in ("--serve", "--chip")},
+    "-t": "-t is not supported: read with -U MEMORY:r:-:h and write with -U MEMORY:w:FILE",
+    "-T": "-T is not supported: read with -U MEMORY:r:-:h and write with -U MEMORY:w:FILE",
+    "-y": "-y is not supported: erase cycles are not counted in EEPROM",
+    "-Y": "-Y is not supported: erase cycles are not counted in EEPROM",
+    "--serve": "--serve is for a programmer without a device: give it to avrstk",
+    "--chip": "--chip is for a programmer without a device: give it to avrstk",
 }
 
 # AVRDUDE's names of programmers with this protocol on a serial device, and of others that users often ask for
@@ -93,74 +89,98 @@ RISKS = [
 ]
 
 
-def list_devices():
+def list_devices() -> None:
     """Prints the devices, each with its name that doesn't change at the next plug, which tells what it is."""
-    names = {os.path.realpath(it): it for it in glob.glob("/dev/serial/by-id/*")}
-    show("\n".join(f"  {it:13} {names.get(it, '')}".rstrip() for it in DEVICES) or f"  {NONE_HERE}")
+    names = {os.path.realpath(link): link for link in glob.glob("/dev/serial/by-id/*")}
+    show("\n".join(f"  {device:13} {names.get(device, '')}".rstrip() for device in DEVICES) or f"  {NONE_HERE}")
 
 
-def list_parts():
+def list_parts() -> None:
     """Prints the parts as AVRDUDE does, with their signatures."""
-    known, rows = parts(), []
-    for name in sorted(it for it in known if not it.startswith("at")):
-        proper = re.sub("^at(mega|tiny|)(.*)", lambda it: f"AT{it[1]}{it[2].upper()}", long_name(name))
-        rows.append(f"  {name:8} = {proper:13} {bytes.fromhex(known[name]['signature']).hex(' ').upper()}")
+    rows = []
+    for name, part in sorted(parts().items()):
+        if not name.startswith("at"):
+            proper = re.sub("^at(mega|tiny|)(.*)", lambda found: f"AT{found[1]}{found[2].upper()}", long_name(name))
+            rows.append(f"  {name:8} = {proper:13} {bytes.fromhex(part['signature']).hex(' ').upper()}")
     show("\n".join(rows))
 
 
-def unrepaired(words):
+def unrepaired(words: Words) -> str | None:
     """Returns why a second run may not repair the chip; None if it does. (docs/TROUBLESHOOTING has the conditions.)"""
-    written = set()
-    for it in words.updates:
-        writes, pages, unwritten = it.operation == "w", [], f"it compares {it.memory}, which it didn't write before"
-        if writes and it.memory == "flash" and "flash" in written:
-            pages = sorted(words.plan()[1] or [(0, 2), (1, 1)])
-        why = first(
-            (it.is_stream(), f"{it.file} can't be written twice"),
-            (it.operation == "v" and it.memory not in written, unwritten),
-            (writes and "lock" in written, "it writes after the lock"),
-            (any(sum(page) > later for page, (later, _) in zip(pages, pages[1:])), "it writes a page of flash twice"),
-        )
-        if why:
-            return why
-        written |= {it.memory} if writes else set()
+    written: set[str] = set()
+    for update in words.updates:
+        if update.is_stream():
+            return f"{update.file} can't be written twice"
+        if update.operation == "v" and update.memory not in written:
+            return f"it compares {update.memory}, which it didn't write before"
+        if update.operation == "w":
+            if "lock" in written:
+                return "it writes after the lock"
+            if update.memory == "flash" and "flash" in written and overlaps(words.plan().pages):
+                return "it writes a page of flash twice"
+            written.add(update.memory)
     # (it erases, and writes a high fuse that doesn't keep EEPROM at an erase)
     bit = words.field("eesave_bit")
-    values = [it.value() for it in words.updates if it.operation == "w" and it.memory == "hfuse"]
-    keeps = all(it is not None and bit is not None and not it >> bit & 1 for it in values)
+    values = [update.value() for update in words.updates if update.operation == "w" and update.memory == "hfuse"]
+    keeps = all(value is not None and bit is not None and not value >> bit & 1 for value in values)
     erases = "-e" in words.flags or "flash" in written and "-D" not in words.flags
     return "a second one may erase EEPROM that this one keeps" if erases and not keeps else None
 
 
-def judge_device(device):
-    """Checks a device without opening it: opening can reset a board."""
-    here = "there are " + ", ".join(DEVICES) if DEVICES else NONE_HERE
-    refuse((not device, f"no device given (-P); {here}"))
-    why = first(
-        (re.fullmatch(r"COM\d+", device, re.I), "Linux calls it /dev/ttyACM0 or /dev/ttyUSB0; -P ? lists what is here"),
-        (re.fullmatch(r"[^/]+:\d+", device), f"a port of a network is -P net:{device}"),
-        (os.path.exists(f"/dev/{device}"), f"it is /dev/{device}"),
-        (True, "is the cable in?"),
-    )
-    refuse(
-        (re.match(r"usb(:|$)", device), f"-P {device} is for programmers without a serial device: use avrdude"),
-        (not os.path.exists(device), f"{device}: there is no such device ({why})"),
-    )
-    refuse((not stat.S_ISCHR(os.stat(device).st_mode), f"{device}: not a device"))
+def overlaps(pages: list[tuple[int, int]] | None) -> bool:
+    """Whether two of these pages overlap, each with its place and length; yes if the pages are not known."""
+    if not pages:
+        return True
+    pages = sorted(pages)
+    return any(at + count > later for (at, count), (later, _) in zip(pages, pages[1:]))
+
+
+def judge_device(device: str | None) -> str:
+    """Checks a device without opening it: opening can reset a board. Returns its name."""
+    if not device:
+        raise Fault(f"no device given (-P); {'there are ' + ', '.join(DEVICES) if DEVICES else NONE_HERE}")
+    if re.match(r"usb(:|$)", device):
+        raise Fault(f"-P {device} is for programmers without a serial device: use avrdude")
+    if not os.path.exists(device):
+        raise Fault(f"{device}: there is no such device ({no_device(device)})")
+    state = os.stat(device)
+    if not stat.S_ISCHR(state.st_mode):
+        raise Fault(f"{device}: not a device")
     if not os.access(device, os.R_OK | os.W_OK):
-        owner, group, mode, number = asked("stat", "-L", "-c", "%U/%G/%a/%g", "--", device).split("/")
-        cure = first(
-            (number != "0" and int(mode, 8) & 0o60 == 0o60, f"often: sudo usermod -aG {group} $USER, and log in again"),
-            (True, f"its owner is {owner}, its group {group}, its mode {mode}"),
-        )
-        raise Fault(f"{device}: you may not read and write it ({cure})")
+        raise Fault(f"{device}: you may not read and write it ({no_right(state)})")
+    return device
+
+
+def no_device(device: str) -> str:
+    """Returns why there may be no device with this name."""
+    if re.fullmatch(r"COM\d+", device, re.I):
+        return "Linux calls it /dev/ttyACM0 or /dev/ttyUSB0; -P ? lists what is here"
+    if re.fullmatch(r"[^/]+:\d+", device):
+        return f"a port of a network is -P net:{device}"
+    if os.path.exists(f"/dev/{device}"):
+        return f"it is /dev/{device}"
+    return "is the cable in?"
+
+
+def no_right(state: os.stat_result) -> str:
+    """Returns how to get the right to use a device, or who has it."""
+    # (a number may have no name)
+    owner = group = "UNKNOWN"
+    with contextlib.suppress(KeyError):
+        owner = pwd.getpwuid(state.st_uid).pw_name
+    with contextlib.suppress(KeyError):
+        group = grp.getgrgid(state.st_gid).gr_name
+    if state.st_gid != 0 and state.st_mode & 0o60 == 0o60:
+        return f"often: sudo usermod -aG {group} $USER, and log in again"
+    return f"its owner is {owner}, its group {group}, its mode {stat.S_IMODE(state.st_mode):o}"
 
 
 class Device:
     """The serial device, opened for this run alone. At the end it gets its old settings back."""
 
-    def __init__(self, name, baud, is_bootloader):
-        self.file, self.old, act = None, None, "opened"
+    def __init__(self, name: str, baud: int, is_bootloader: bool) -> None:
+        # (none until the device is opened, and no settings until they are read)
+        self.file, self.old, act = -1, b"", "opened"
         try:
             self.file = os.open(name, os.O_RDWR | os.O_NOCTTY | os.O_NONBLOCK)
             # the lock keeps out other runs, root's too; TIOCEXCL keeps out programs that don't lock
@@ -183,7 +203,7 @@ class Device:
         if abs(speed - baud) * 20 > baud:
             raise OSError(errno.EINVAL, f"it takes {speed}")
 
-    def pulse(self):
+    def pulse(self) -> None:
         """Resets a board with a bootloader, as AVRDUDE does: releases DTR and RTS, and asserts them again."""
         for request in (termios.TIOCMBIC, termios.TIOCMBIS):
             # (a device may not have these lines)
@@ -191,20 +211,31 @@ class Device:
                 fcntl.ioctl(self, request, struct.pack("=I", termios.TIOCM_DTR | termios.TIOCM_RTS))
             time.sleep(0.05)
 
-    def fileno(self):
+    def fileno(self) -> int:
         return self.file
 
-    def close(self):
+    def close(self) -> None:
         """Restores the device's settings and closes it. If the device is gone, only the close succeeds."""
-        restoring = [(termios.TCFLSH, termios.TCIOFLUSH), (TCSETS2, self.old), (termios.TIOCNXCL, 0)]
-        for request, given in restoring if self.old else []:
+        if self.old:
             with contextlib.suppress(OSError):
-                fcntl.ioctl(self, request, given)
-        if self.file is not None:
+                fcntl.ioctl(self, termios.TCFLSH, termios.TCIOFLUSH)
+            with contextlib.suppress(OSError):
+                fcntl.ioctl(self, TCSETS2, self.old)
+            with contextlib.suppress(OSError):
+                fcntl.ioctl(self, termios.TIOCNXCL)
+        if self.file >= 0:
             os.close(self.file)
 
 
-def settings(old, baud):
+def opened(words: Words) -> Source:
+    """Opens the device for frames, and resets a board that has DTR for that."""
+    device, wait = Device(words.device or "", words.speeds[0], True), float(words.wait)
+    time.sleep(wait)
+    fcntl.ioctl(device, termios.TCFLSH, termios.TCIFLUSH)
+    return Bridge(device, words.speeds, words.is_bootloader, wait) if words.is_version1 else device
+
+
+def settings(old: bytes, baud: int) -> bytes:
     """Returns the settings of a device, by its old ones: raw bytes, eight bits, no parity, one stop bit, `baud`."""
     flags = termios.CS8 | termios.CREAD | termios.CLOCAL | termios.HUPCL | BOTHER
     control = bytearray(old[17:36])
@@ -213,29 +244,37 @@ def settings(old, baud):
     return struct.pack("=4IB19s2I", termios.IGNPAR, 0, flags, 0, old[16], bytes(control), baud, baud)
 
 
-def is_ours(ends, mark):
+def is_ours(ends: list[tuple[str, int]], mark: str) -> bool | None:
     """Whether a process with this mark has the other end of a connection in this machine; None if that end is gone."""
-    ends = [f"{int.from_bytes(socket.inet_aton(host), sys.byteorder):08X}:{port:04X}" for host, port in ends]
+    both = [f"{int.from_bytes(socket.inet_aton(host), sys.byteorder):08X}:{port:04X}" for host, port in ends]
     with open("/proc/net/tcp", encoding="ascii") as rows:
-        inode = next((row.split()[9] for row in rows if row.split()[1:3] == ends), None)
-    for folder in glob.glob("/proc/[0-9]*") if inode else []:
+        inode = next((row.split()[9] for row in rows if row.split()[1:3] == both), None)
+    if not inode:
+        return None
+    for folder in glob.glob("/proc/[0-9]*"):
         # (another user's process, and one that has ended, can't be read)
-        with contextlib.suppress(OSError), open(f"{folder}/environ", "rb") as held:
-            has_mark = mark.encode() in held.read()
-            if has_mark and f"socket:[{inode}]" in [os.readlink(it) for it in glob.glob(f"{folder}/fd/*")]:
+        with contextlib.suppress(OSError), open(f"{folder}/environ", "rb") as environment:
+            has_mark = mark.encode() in environment.read()
+            if has_mark and f"socket:[{inode}]" in [os.readlink(link) for link in glob.glob(f"{folder}/fd/*")]:
                 return True
-    return inode and False
+    return False
 
 
 class Progress:
     """Draws on a terminal what is written or read, the share of the run's frames that were sent, and the time left."""
 
-    def __init__(self, words):
-        self.is_wanted = os.isatty(2) and "-q" not in words.flags and not words.has_port
-        self.total, self.begun = words.plan()[0] if self.is_wanted else 0, time.monotonic()
-        self.what, self.sent, self.drawn = None, 0, 0.0
+    def __init__(self, words: Words) -> None:
+        self.is_wanted = messages.is_drawn and "-q" not in words.flags and not words.has_port
+        self.total, self.begun = words.plan().frames if self.is_wanted else 0, time.monotonic()
+        # what is written or read, and how many bytes of it were; how many frames were sent, and when that was drawn
+        self.what: str | None = None
+        self.done, self.sent, self.drawn = 0, 0, 0.0
 
-    def frame(self, body):
+    def pause(self) -> None:
+        """Begins anew after a line of avrstk."""
+        self.what, self.drawn = None, 0.0
+
+    def frame(self, body: bytes) -> None:
         """Counts a command that goes to the device."""
         self.sent += 1
         what, now = CARRYING.get(body[0]), time.monotonic()
@@ -252,215 +291,334 @@ class Progress:
             messages.draw(f"avrstk-serial: {what}: {self.done:,} bytes{share}{more}")
 
 
+class Tool:
+    """The process of avrstk, and the lines that it prints. `mark` is in its environment, and its children's."""
+
+    def __init__(self, command: list[str], mark: str, note: Callable[[bytes], None]) -> None:
+        self.note, self.kept = note, b""
+        # (a shell may have opened an image, as by <(COMMAND))
+        environment = {**os.environ, "AVRSTK_SERIAL": mark}
+        self.process = subprocess.Popen(command, stderr=subprocess.PIPE, close_fds=False, env=environment)
+        assert self.process.stderr
+        self.stderr = self.process.stderr
+        os.set_blocking(self.stderr.fileno(), False)
+
+    def receive(self) -> bool | None:
+        """Notes each complete line. Returns False at the end of the stream, None if nothing is there."""
+        try:
+            piece = os.read(self.stderr.fileno(), 65_536)
+        except BlockingIOError:
+            return None
+        *whole, self.kept = (self.kept + piece).split(b"\n")
+        for line in whole:
+            self.note(line)
+        return bool(piece)
+
+    def stop(self) -> None:
+        """Ends avrstk after a signal."""
+        if ended_by() and self.process.poll() is None:
+            self.process.terminate()
+
+    def end(self) -> int:
+        """Waits until avrstk has ended, notes its last lines, and returns its status."""
+        status = self.process.wait()
+        while self.receive():
+            pass
+        if self.kept:
+            # avrstk ended in the middle of this line
+            messages.put(self.kept + b"\n")
+        return status
+
+
+class Talk:
+    """The device of a run, and the frames that pass between it and avrstk."""
+
+    def __init__(self, device: Device, outcome: Outcome, progress: Progress) -> None:
+        self.device, self.outcome, self.progress, self.words = device, outcome, progress, outcome.words
+        self.wait = float(self.words.wait)
+        # what avrstk's frames go to
+        self.end: Device | Bridge = device
+        if self.words.is_version1:
+            self.end = Bridge(device, self.words.speeds, self.words.is_bootloader, self.wait)
+        # commands and replies in pieces, and the last two commands without a reply
+        self.commands, self.replies = Frames(), Frames()
+        self.silent: dict[int, bytes] = {}
+        # (a board that starts may send other bytes)
+        self.quiet_until = time.monotonic() + self.wait + 10
+
+    def note_commands(self, piece: bytes) -> bytes:
+        for frame in filter(is_frame, self.commands.pieces(piece)):
+            # (the Mega's bootloader ends with its reply to LEAVE. If the reply was lost, it has to start once more)
+            if self.words.is_wiring and frame[5] == LEAVE and LEAVE in self.outcome.commands:
+                self.device.pulse()
+                time.sleep(self.wait)
+            self.count(frame)
+            self.outcome.commands.add(frame[5])
+            self.progress.frame(frame[5:-1])
+        return piece
+
+    def count(self, frame: bytes) -> None:
+        """Counts a command, which is sent again if it is one of the last two and got no reply."""
+        self.outcome.sent += 1
+        self.outcome.repeated += frame[5:-1] in self.silent.values()
+        self.silent = {**dict(list(self.silent.items())[-1:]), frame[1]: frame[5:-1]}
+
+    def note_replies(self, piece: bytes) -> bytes:
+        """Notes at which speed the device replies, and whether it sends bytes after ten seconds, but no valid reply."""
+        if isinstance(self.end, Bridge) and len(self.words.speeds) > 1 and self.end.programmer.speed:
+            self.words.speeds = (self.end.programmer.speed,)
+            self.words.note(f"the device replies at {self.words.baud} baud")
+        for frame in filter(is_frame, self.replies.pieces(piece)):
+            self.silent.pop(frame[1], None)
+        if piece and time.monotonic() > self.quiet_until and self.outcome.commands <= {SIGN_ON, LEAVE}:
+            self.outcome.is_noisy = True
+        return piece
+
+
 class Run:
     """One run of avrstk. Once avrstk connects, the device is bridged to its port, unless it has a port of its own."""
 
-    def __init__(self, words, earlier=frozenset(), put=messages.put):
-        self.words, self.earlier, self.put = words, earlier, put
-        self.progress, self.frames, self.replies, self.commands = Progress(words), Frames(), Frames(), set()
-        self.error, self.kept, self.status = "", b"", None
-        # commands that were sent, those among them that were sent again, and the last two without a reply
-        self.sent, self.repeated, self.silent = 0, 0, {}
-        self.left_at_error = self.silenced = self.was_opened = False
+    def __init__(self, words: Words, earlier: frozenset[int], put: Callable[[bytes], None]) -> None:
+        self.words, self.put, self.outcome, self.progress = words, put, Outcome(words, earlier), Progress(words)
         # the files to close, and the ways between avrstk and the device
-        self.port, self.ways = None if words.has_port else socket.create_server(("127.0.0.1", 0)), []
-        self.files = [self.port] if self.port else []
-        command = words.command(f"net:127.0.0.1:{self.port.getsockname()[1]}" if self.port else words.device)
-        # (the mark is for avrstk and what it starts. A shell may have opened an image, as by <(COMMAND))
+        self.files: list[socket.socket | Device | Bridge] = []
+        self.ways: tuple[Way, ...] = ()
+        self.port: socket.socket | None = None
+        name = words.device or ""
+        if not words.has_port:
+            self.port = socket.create_server(("127.0.0.1", 0))
+            self.files.append(self.port)
+            name = f"net:127.0.0.1:{self.port.getsockname()[1]}"
         self.mark = os.urandom(16).hex()
-        how = {"stderr": subprocess.PIPE, "close_fds": False, "env": {**os.environ, "AVRSTK_SERIAL": self.mark}}
-        self.tool = subprocess.Popen(command, **how)
-        os.set_blocking(self.tool.stderr.fileno(), False)
+        self.tool = Tool(words.command(name), self.mark, self.note_line)
 
-    def receive_messages(self):
-        """Passes on avrstk's complete lines. Returns False at the end of the stream, None if nothing is there."""
-        try:
-            heard = os.read(self.tool.stderr.fileno(), 65_536)
-        except BlockingIOError:
-            return None
-        *whole, self.kept = (self.kept + heard).split(b"\n")
-        for it in whole:
-            self.progress.what, self.progress.drawn = None, 0.0
-            shown = self.words.shown(it)
-            self.put(shown + b"\n")
-            self.words.report.note(os.fsdecode(shown).partition("avrstk: ")[2])
-            # (several updates may have one file: only the name that avrstk got tells which one is faulty)
-            text = os.fsdecode(shown if it.endswith(b": cannot be opened") else it).partition("avrstk: ")[2]
-            if text.startswith("error: ") and not self.error:
-                self.left_at_error, self.error = LEAVE in self.commands, text[7:]
-        return bool(heard)
+    def note_line(self, line: bytes) -> None:
+        """Passes on a line of avrstk, and notes the first error."""
+        self.progress.pause()
+        shown = self.words.shown(line)
+        self.put(shown + b"\n")
+        self.words.report.note(os.fsdecode(shown).partition("avrstk: ")[2])
+        # (several updates may have one file: only the name that avrstk got tells which one is faulty)
+        text = os.fsdecode(shown if line.endswith(b": cannot be opened") else line).partition("avrstk: ")[2]
+        if text.startswith("error: ") and not self.outcome.error:
+            self.outcome.left_at_error, self.outcome.error = LEAVE in self.outcome.commands, text[7:]
 
-    def called(self):
+    def take_call(self, port: socket.socket) -> None:
         """Takes a call, and opens the device if the caller is avrstk, and not another program of this machine."""
-        line, peer = self.port.accept()
-        is_avrstk = is_ours((peer, line.getsockname()), self.mark)
+        line, peer = port.accept()
+        is_avrstk = is_ours([peer, line.getsockname()], self.mark)
         if is_avrstk:
-            return self.open(line)
+            self.open(line)
+            return
         line.close()
         if is_avrstk is False:
             say("another program called the port of this run, and was refused")
 
-    def open(self, line):
+    def open(self, line: socket.socket) -> None:
         """Opens the device and waits for the board. Only the last SIGN_ON that avrstk sends meanwhile is passed on."""
         self.close()
         self.files = [line]
         line.setsockopt(socket.IPPROTO_TCP, socket.TCP_NODELAY, 1)
         line.setblocking(False)
-        wait, words = float(self.words.wait), self.words
-        device = Device(words.device, words.speeds[0], words.is_bootloader)
-        self.device = Bridge(device, words.speeds, words.is_bootloader, wait) if words.is_version1 else device
-        end = self.device
-        self.files, self.was_opened = [line, end], True
-        there, back = self.ways = Way(line, end, self.note_commands), Way(end, line, self.note_replies)
-        ends = time.monotonic() + wait
+        device = Device(self.words.device or "", self.words.speeds[0], self.words.is_bootloader)
+        talk = Talk(device, self.outcome, self.progress)
+        self.files, self.outcome.was_opened = [line, talk.end], True
+        there, back = self.ways = Way(line, talk.end, talk.note_commands), Way(talk.end, line, talk.note_replies)
+        ends = time.monotonic() + talk.wait
         while ready({line: READ, came: READ}, ends) == {line} and not there.has_ended:
             there.take()
         there.held = there.held[-7:]
-        self.talks_until = time.monotonic() + 10
         fcntl.ioctl(device, termios.TCFLSH, termios.TCIFLUSH)
 
-    def note_commands(self, piece):
-        for it in filter(is_frame, self.frames.pieces(piece)):
-            # (the Mega's bootloader ends with its reply to LEAVE. If the reply was lost, it has to start once more)
-            if self.words.is_wiring and it[5] == LEAVE and LEAVE in self.commands:
-                self.device.pulse()
-                time.sleep(float(self.words.wait))
-            self.count(it)
-            self.commands.add(it[5])
-            self.progress.frame(it[5:-1])
-        return piece
-
-    def count(self, frame: bytes) -> None:
-        """Counts a command, which is sent again if it is one of the last two and got no reply."""
-        self.sent, self.repeated = self.sent + 1, self.repeated + (frame[5:-1] in self.silent.values())
-        self.silent = {**dict(list(self.silent.items())[-1:]), frame[1]: frame[5:-1]}
-
-    def note_replies(self, piece):
-        """Notes at which speed the device replies, and whether it sends bytes after ten seconds, but no valid reply."""
-        if self.words.is_version1 and len(self.words.speeds) > 1 and self.device.programmer.speed:
-            self.words.speeds = (self.device.programmer.speed,)
-            self.words.note(f"the device replies at {self.words.baud} baud")
-        for it in filter(is_frame, self.replies.pieces(piece)):
-            self.silent.pop(it[1], None)
-        self.silenced |= bool(piece) and time.monotonic() > self.talks_until and self.commands <= {SIGN_ON, LEAVE}
-        return piece
-
-    def close(self):
+    def close(self) -> None:
         """Closes avrstk's connection and the device, or the port."""
-        for it in self.files:
-            it.close()
-        self.files, self.ways, self.port = [], [], None
+        for file in self.files:
+            file.close()
+        self.files, self.ways, self.port = [], (), None
 
-    def bridge(self):
+    def bridge(self) -> None:
         """Passes bytes between avrstk and the device until avrstk has ended or a signal comes."""
         while True:
-            watched = {came: READ, self.tool.stderr: READ, **({self.port: READ} if self.port else {})}
-            found = wait(self.ways, {**watched, **({2: WRITE} if messages.waiting else {})})
+            watched: dict[Source, int] = {came: READ, self.tool.stderr: READ}
+            if self.port:
+                watched[self.port] = READ
+            if messages.waiting:
+                watched[2] = WRITE
+            found = wait(self.ways, watched)
             # (avrstk prints an error line before it sends LEAVE, so its lines are read before its frames)
-            if came in found or self.tool.stderr in found and self.receive_messages() is False:
+            if came in found or self.tool.stderr in found and self.tool.receive() is False:
                 return
             messages.send()
             try:
-                if self.port in found:
-                    self.called()
-                any([way.go_on(found) for way in self.ways])
+                if self.port and self.port in found:
+                    self.take_call(self.port)
+                for way in self.ways:
+                    way.go_on(found)
             except OSError:
                 self.close()
-            if self.silenced or any(way.has_ended for way in self.ways):
+            if self.outcome.is_noisy or any(way.has_ended for way in self.ways):
                 self.close()
 
-    def end(self):
+    def end(self) -> None:
         """Ends avrstk and sets the status."""
-        if ended_by() and self.tool.poll() is None:
-            self.tool.terminate()
+        self.tool.stop()
         self.close()
-        self.status = 0 if self.tool.wait() == 0 and not ended_by() else 1
-        while self.receive_messages():
-            pass
-        if self.kept:
-            # avrstk ended in the middle of this line
-            messages.put(self.kept + b"\n")
+        self.outcome.status = 0 if self.tool.end() == 0 and not ended_by() else 1
 
 
-def other_program():
+def other_program() -> str | None:
     """Returns the program that AVRSTK_ELSE names, or None. A link to this script, as one named avrdude, is none."""
     name, own = os.environ.get("AVRSTK_ELSE", ""), os.path.realpath(sys.argv[0])
     folders = [""] if "/" in name else os.environ.get("PATH", os.defpath).split(os.pathsep)
-    places = [os.path.join(it, name) for it in folders if name]
-    return next((it for it in places if shutil.which(it) and os.path.realpath(it) != own), None)
+    places = [os.path.join(folder, name) for folder in folders if name]
+    return next((place for place in places if shutil.which(place) and os.path.realpath(place) != own), None)
 
 
-def leave_to_other(words):
+def why_other(words: Words) -> str | None:
+    """Returns why these options are for another program; None if they are for avrstk."""
+    if words.programmer.lower() not in SPEAKING:
+        return f"-c {words.programmer}: another programmer"
+    if re.match(r"usb(:|$)", words.device or ""):
+        return f"-P {words.device}: no serial device"
+    if words.parts_file is None and (words.part or "").lower() not in {*BUILT_IN, *parts(), "auto", "?", ""}:
+        return f"-p {words.part}: another part"
+    return None
+
+
+def leave_to_other(words: Words) -> None:
     """Runs the program that AVRSTK_ELSE names with the same options, if programmer, port or part are not avrstk's."""
-    known = BUILT_IN | set(parts()) | {"auto", "?", ""}
-    why = first(
-        (words.programmer.lower() not in SPEAKING, f"-c {words.programmer}: another programmer"),
-        (re.match(r"usb(:|$)", words.device or ""), f"-P {words.device}: no serial device"),
-        (words.parts_file is None and (words.part or "").lower() not in known, f"-p {words.part}: another part"),
-    )
-    other = why and other_program()
-    # (it doesn't know the script's own options)
-    if other and not any(it.startswith("--") for it in words.last):
+    why = why_other(words)
+    other = other_program() if why else None
+    # (it doesn't know the script's own options, and takes one port)
+    if other and not words.is_station and not any(option.startswith("--") for option in words.last):
         say(f"{why}: {other} runs in place of avrstk")
         messages.finish()
-        os.execve(other, [other, *sys.argv[1:]], {it: os.environ[it] for it in os.environ if it != "AVRSTK_ELSE"})
+        environment = {name: value for name, value in os.environ.items() if name != "AVRSTK_ELSE"}
+        os.execve(other, [other, *sys.argv[1:]], environment)
 
 
-def judge(words):
+def judge(words: Words) -> None:
     """Refuses what can be refused without avrstk."""
     leave_to_other(words)
-    name, wait = words.programmer.lower(), re.fullmatch(r"[0-9]+(\.[0-9]+)?", words.wait)
-    what = f" is {PROGRAMMERS[name]}" if name in PROGRAMMERS else ": this speaks STK500 only"
-    refuse(
-        (name not in SPEAKING, f"-c {words.programmer}{what}: use avrdude -c {words.programmer}"),
-        *((it in REFUSED, REFUSED.get(it)) for it in words.last),
-        (not words.speeds, f"-b {words.last.get('-b')}: not a speed"),
-        (not wait or float(words.wait) > 3, f"--wait {words.wait}: not a number of seconds from 0 to 3"),
-        (words.is_version1 and words.has_port, f"-c {words.programmer} is for a serial device, not -P {words.device}"),
-    )
+    judge_options(words)
     words.report.stage = "file"
-    for it in words.updates:
-        it.judge(words.content(it.file) if it.is_image and not os.path.isdir(it.file) else None)
-        of_loader = words.is_wiring and it.memory == "eeprom"
-        is_far = of_loader and (words.field("eeprom_size") if it.operation == "r" else it.size()) not in range(257)
-        refuse((is_far, f"-U {it.given}: a bootloader reads other addresses above 255: use a programmer: {UNOPENED}"))
+    for update in words.updates:
+        is_read = update.is_image and not os.path.isdir(update.file)
+        update.judge(words.content(update.file) if is_read else None)
+    if words.each or words.is_station:
+        check(words)
+    if words.each:
+        words.each.judge(words)
+        check(words)
+    for update in words.updates:
+        if words.is_wiring and update.memory == "eeprom":
+            size = words.field("eeprom_size") if update.operation == "r" else update.size()
+            if size is None or size > 256:
+                why = "a bootloader reads other addresses above 255: use a programmer"
+                raise Fault(f"-U {update.given}: {why}: {UNOPENED}")
     words.report.stage = "device"
-    if not words.has_port:
+    if not words.has_port and not words.is_station:
         judge_device(words.device)
     words.report.stage = "arguments"
     if words.is_bootloader:
         judge_bootloader(words)
     if words.part != "auto":
         judge_part(words, UNOPENED)
-    is_number, is_retried = re.fullmatch(r"[0-9]{1,2}", words.retry), words.retry.strip("0")
+    for device in words.devices:
+        if re.fullmatch("net:[^:]*", device):
+            raise Fault(f"-P {device}: a port of a network is -P net:HOST:PORT")
+    if not re.fullmatch(r"[0-9]{1,2}", words.retry):
+        raise Fault(f"--retry {words.retry}: not a number from 0 to 99")
+    if not words.has_port and not os.path.exists("/proc/net"):
+        raise Fault("there is no /proc: who calls can't be told then")
+    if int(words.retry):
+        unfit = "avrstk's own ports are run once" if words.has_port else unrepaired(words)
+        if unfit:
+            raise Fault(f"--retry: the same command again may not repair this one: {unfit}")
+
+
+def judge_options(words: Words) -> None:
+    """Refuses options that are not avrstk-serial's, or have a value that they don't take."""
+    name = words.programmer.lower()
+    if name not in SPEAKING:
+        what = f" is {PROGRAMMERS[name]}" if name in PROGRAMMERS else ": this speaks STK500 only"
+        raise Fault(f"-c {words.programmer}{what}: use avrdude -c {words.programmer}")
+    for option in words.last:
+        if option in REFUSED:
+            raise Fault(REFUSED[option])
+    if not words.speeds:
+        raise Fault(f"-b {words.last.get('-b')}: not a speed")
+    if not re.fullmatch(r"[0-9]+(\.[0-9]+)?", words.wait) or float(words.wait) > 3:
+        raise Fault(f"--wait {words.wait}: not a number of seconds from 0 to 3")
+    if words.is_version1 and words.has_port:
+        raise Fault(f"-c {words.programmer} is for a serial device, not -P {words.device}")
+
+
+def check(words: Words) -> None:
+    """Lets avrstk_session judge the command line and the images, before several runs begin or a number is taken."""
+    if words.part == "auto":
+        return
+    only, quiet = copy.copy(words), subprocess.DEVNULL
+    only.updates = [update for update in words.updates if not update.is_stream()]
+    only.given = [update.given for update in only.updates]
+    try:
+        program = session_program(quiet)
+    except SystemExit:
+        # (nothing is built: this reports it)
+        program = session_program()
+    command = [program, *only.options("stdio:")]
+    ran = subprocess.run(command, stdin=quiet, stdout=quiet, stderr=subprocess.PIPE, close_fds=False)
+    if ran.returncode:
+        shown = [words.shown(line) for line in ran.stderr.splitlines()]
+        messages.put(b"".join(line + b"\n" for line in shown))
+        texts = [os.fsdecode(line).partition("avrstk: ")[2] for line in shown]
+        for text in texts:
+            words.report.note(text)
+        error = next((text[7:] for text in texts if text.startswith("error: ")), "")
+        raise Fault(hint(Outcome(only, error=error), None))
+
+
+def judge_rows(words: Words) -> None:
+    """Refuses what --try-rows doesn't take."""
+    own = {"--try-rows", "--yes", "--parts", "--wait", "-p", "-P", "-c", "-b", "-l", "-q", "-v", "-C", "-s", "-u"}
+    other, name = next((it for it in words.last if it not in own), None), f"--try-rows={words.trial}"
+    spare = "erases and writes the chip, and clears a bit of its lock: at a chip to spare give --yes, too"
     refuse(
-        (re.fullmatch("net:[^:]*", words.device), f"-P {words.device}: a port of a network is -P net:HOST:PORT"),
-        (not is_number, f"--retry {words.retry}: not a number from 0 to 99"),
-        (not words.has_port and not os.path.exists("/proc/net"), "there is no /proc: who calls can't be told then"),
+        (words.trial is None and "--yes" in words.last, "--yes is for --try-rows=all"),
+        (words.trial not in (None, "safe", "all"), f"{name}: there is --try-rows, and --try-rows=all"),
+        (words.trial and other, f"--try-rows tries a programmer, and takes no {other}"),
+        (words.trial and words.is_station, "--try-rows is for one board"),
+        (words.trial and words.has_port, f"--try-rows is for a serial device, not -P {words.device}"),
+        (words.trial == "all" and "--yes" not in words.last, f"{name} {spare}; {UNOPENED}"),
     )
-    why = is_retried and ("avrstk's own ports are run once" if words.has_port else unrepaired(words))
-    refuse((why, f"--retry: the same command again may not repair this one: {why}"))
 
 
-def judge_files(words: Words) -> None:
-    """Refuses an output that is another file of this command, and the device as an image, before a file is opened."""
-    own = [(words.device and it.is_image and is_one(it.file, words.device), it.given) for it in words.updates]
-    refuse(*((is_device, f"-U {given}: that file is the device: {UNOPENED}") for is_device, given in own))
-    port = (words.device or "").partition("emu:")[2]
-    chips = [f"{port}{end}" for end in ("", ".avrstk-new", ".avrstk-lock") if port]
-    inputs = {it.file: "an image" for it in words.updates if it.is_image}
-    inputs.update({words.parts_file or data_file("classic.toml"): "the part file", words.device: "the device"})
+def judge_files(words: Words, begin: str = "") -> None:
+    """Refuses an output that is another file of this command, and the device as an image, before a file is opened. With
+    `begin` only the outputs of options that begin so are judged."""
+    for update in words.updates if not begin else []:
+        if update.is_image and any(is_one(update.file, device) for device in words.devices):
+            raise Fault(f"-U {update.given}: that file is the device: {UNOPENED}")
+    ports = [device.partition("emu:")[2] for device in words.devices]
+    chips = [f"{port}{end}" for port in ports for end in ("", ".avrstk-new", ".avrstk-lock") if port]
+    inputs = {update.file: "an image" for update in words.updates if update.is_image}
+    inputs.update({words.parts_file or data_file("classic.toml"): "the part file"})
+    inputs.update(dict.fromkeys(words.devices, "the device"))
     inputs.update(dict.fromkeys(chips, "the chip"))
+    inputs.update({words.last["--rows"]: "the table"} if "--rows" in words.last else {})
     # (without a part file)
     inputs.pop(os.devnull, None)
-    outputs = [(f"-U {it.given}", it.file) for it in words.updates if it.operation == "r" and it.file != "-"]
-    outputs += [(f"{name} {words.last[name]}", words.last[name]) for name in ("-l", "--backup") if name in words.last]
+    outputs = [(f"-U {it.given}", it.file) for it in words.updates if it.operation == "r"]
+    names = [it for it in ("-l", "--backup", "--counter", "--json") if it in words.last]
+    outputs += [(f"{it} {words.last[it]}", words.last[it]) for it in names]
+    outputs = [it for it in outputs if it[1] != "-"]
     for number, (word, file) in enumerate(outputs):
-        taken = next((what for it, what in inputs.items() if it and is_one(file, it)), None)
+        taken = next((what for name, what in inputs.items() if name and is_one(file, name)), None)
         # (a stream takes several outputs)
         is_file = os.path.isfile(file) or not os.path.exists(file)
-        other = next((it for it, before in outputs[:number] if is_file and is_one(file, before)), None)
-        refuse((taken or other, f"{word}: that file is {taken or f'also the one of {other}'}: {UNOPENED}"))
+        other = next((before for before, name in outputs[:number] if is_file and is_one(file, name)), None)
+        if word.startswith(begin) and (taken or other):
+            raise Fault(f"{word}: that file is {taken or f'also the one of {other}'}: {UNOPENED}")
 
 
 def is_one(one: str, other: str) -> bool:
@@ -473,25 +631,26 @@ def is_one(one: str, other: str) -> bool:
 def judge_bootloader(words: Words) -> None:
     """Refuses what a bootloader can't do. One of version 1 returns OK all the same, or writes flash in place of EEPROM;
     that of -c wiring erases pages by a count of its own."""
-    writes, is_dry = [it for it in words.updates if it.writes_flash()], "-n" in words.flags
-    cures = {"leave out -e": "-e" in words.flags, "use -D": writes and "-D" not in words.flags}
-    cure = ", and ".join(it for it, is_needed in cures.items() if is_needed and not is_dry)
+    writes, is_dry = [update for update in words.updates if update.writes_flash()], "-n" in words.flags
     name = f"-c {words.programmer}"
     is_for, programmer = f"{name} is for a bootloader", f"With a programmer leave out {name}"
-    own = next((it for it in words.updates if words.is_version1 and it.memory not in ("flash", "signature")), None)
-    refuse(
-        (cure, f"{is_for}, which can't erase the chip: {cure}. {programmer}; {UNOPENED}"),
-        (own, own and f"-U {own.given}: {is_for}, which has flash alone: use a programmer; {UNOPENED}"),
-    )
+    cures = ["leave out -e"] if "-e" in words.flags else []
+    cures += ["use -D"] if writes and "-D" not in words.flags else []
+    if cures and not is_dry:
+        raise Fault(f"{is_for}, which can't erase the chip: {', and '.join(cures)}. {programmer}; {UNOPENED}")
+    for update in words.updates if words.is_version1 else []:
+        if update.memory not in ("flash", "signature"):
+            why = f"{is_for}, which has flash alone: use a programmer"
+            raise Fault(f"-U {update.given}: {why}; {UNOPENED}")
     if len(writes) > 1 and words.is_wiring:
         raise Fault(f"{ONE_WRITE}. {joined(writes, words.flash_pages() or [])}; {UNOPENED}")
 
 
-def joined(writes: list, pages: List[Tuple[int, int]]) -> str:
+def joined(writes: list[Update], pages: list[tuple[int, int]]) -> str:
     """Returns what to do in place of these writes: the command that makes one image, if it can be given."""
     formats = {"i": "-Intel", "s": "-Motorola", "r": "-Binary"}
-    kinds = [formats.get(it.kind()) if os.path.isfile(it.file) else None for it in writes]
-    words = [word for it, kind in zip(writes, kinds) for word in (it.file, kind or "")]
+    kinds = [formats.get(update.kind() or "") if os.path.isfile(update.file) else None for update in writes]
+    words = [word for update, kind in zip(writes, kinds) for word in (update.file, kind or "")]
     # (what is below the images isn't known: a placeholder, so that nothing below is lost)
     words = ["BELOW.hex", "-Intel"] * (min(pages or [(0, 0)])[0] > 0) + words
     fill = ["-fill", "0xFF", "0", f"0x{max(at + count for at, count in pages):X}"] if pages else []
@@ -504,170 +663,216 @@ def judge_part(words: Words, end: str) -> None:
     """Refuses what the part decides: firmware for another one, and an image that leaves out a bootloader's pages."""
     known = parts() if words.parts_file is None else {}
     own = known.get((words.part or "").lower(), {}).get("signature")
-    for it in words.updates if own else []:
-        named = it.chip in (None, long_name(words.part)) or known.get(it.chip, {}).get("signature") == own
-        chip = it.chip or " or ".join(parts_of(it.signature or "")) or it.signature
-        why = f"{it.file} is made for {chip}, and -p is {words.part}"
-        is_other = not named or it.signature not in (None, own)
-        refuse((is_other and "-F" not in words.flags, f"{why}: give -p for that chip, or -F if it fits both; {end}"))
-        if is_other:
-            words.note(f"warning: {why}")
-    writes = [it for it in words.updates if it.writes_flash()] if words.is_wiring else []
+    for update in words.updates if own else []:
+        named = update.chip in (None, long_name(words.part))
+        named = named or known.get(update.chip or "", {}).get("signature") == own
+        if named and update.signature in (None, own):
+            continue
+        chip = update.chip or " or ".join(parts_of(update.signature or "")) or update.signature
+        why = f"{update.file} is made for {chip}, and -p is {words.part}"
+        if "-F" not in words.flags:
+            raise Fault(f"{why}: give -p for that chip, or -F if it fits both; {end}")
+        words.note(f"warning: {why}")
+    writes = [update for update in words.updates if update.writes_flash()] if words.is_wiring else []
     # (without that program it isn't known which pages are written)
     if writes and session_program(subprocess.DEVNULL) and words.is_whole() is False:
-        raise Fault(f"{ONE_WRITE}. {joined(writes, words.flash_pages())}; {end}")
+        raise Fault(f"{ONE_WRITE}. {joined(writes, words.flash_pages() or [])}; {end}")
 
 
-def warn(words):
+def warn(words: Words) -> None:
     """Warns of fuses that can make the chip unreachable, even if -q is given twice, and of version 1."""
     if words.is_version1:
         words.note("version 1 has no checksums: this run is tested, not proved")
-    name, writes = words.chip(), [it for it in words.updates if it.operation == "w"]
-    values = [(it, it.value()) for it in writes if it.memory in FUSES and it.value() is not None]
-    for what, memory, mask, risky in [row for names, row in RISKS if name and re.match(names, name)]:
-        found = [it.given for it, value in values if it.memory == memory and value & mask == risky]
+    name = words.chip()
+    writes = [update for update in words.updates if update.operation == "w" and update.memory in FUSES]
+    values = [(update, update.value()) for update in writes]
+    for what, memory, mask, risky in [risk for names, risk in RISKS if name and re.match(names, name)]:
+        own = [(update.given, value) for update, value in values if update.memory == memory]
+        found = [given for given, value in own if value is not None and value & mask == risky]
         if found:
             say(f"warning: {' and '.join(found)} {what}")
 
 
-def ran(words, put=messages.put, earlier=frozenset()):
-    """Makes a run, and gives the command again after faults that a second run repairs. Returns the last run."""
+def ran(words: Words, put: Callable[[bytes], None] = messages.put, earlier: frozenset[int] = frozenset()) -> Outcome:
+    """Makes a run, and gives the command again after faults that a second run repairs. Returns the last outcome."""
     count = int(words.retry)
-    for number in range(1, count + 2):
-        words.tries = number
+    while True:
+        words.tries += 1
+        if words.each:
+            words.each.give(words)
         run = Run(words, earlier, put)
-        words.report.runs.append(run)
+        outcome = run.outcome
+        words.report.runs.append(outcome)
         try:
             run.bridge()
         except BaseException:
-            run.tool.kill()
+            run.tool.process.kill()
             if earlier:
-                say(state_of(run))
+                say(state_of(outcome))
             raise
         finally:
             run.end()
-        earlier |= run.commands
-        repairs = re.match(r"no answer$|link |\w+: address \w+: \w+ expected, \w+ found$", run.error)
-        if number > count or ended_by() or not run.status or not repairs:
-            return run
-        words.note(f"{run.error}: the same command again, {number} of {count}")
+        earlier |= outcome.commands
+        repairs = re.match(r"no answer$|link |\w+: address \w+: \w+ expected, \w+ found$", outcome.error)
+        if words.tries > count or ended_by() or not outcome.status or not repairs:
+            return outcome
+        words.note(f"{outcome.error}: the same command again, {words.tries} of {count}")
         wait_for(words.device)
 
 
-def wait_for(device):
+def wait_for(device: str | None) -> None:
     """Waits until a device is back; for at most ten seconds."""
     ends = time.monotonic() + 10
     while not ended_by() and time.monotonic() < ends:
         with contextlib.suppress(Fault):
-            return judge_device(device)
+            judge_device(device)
+            return
         time.sleep(0.1)
 
 
-def ask(words, **given):
-    """Runs a session before the run. It writes nothing, and prints nothing if all goes well. Returns its commands and
+def ask(words: Words, flags: list[str], updates: list[Update], part: str | None = None) -> tuple[Outcome, str]:
+    """Runs a session before the run. It writes nothing, and prints nothing if all goes well. Returns its outcome and
     its lines."""
-    session, lines = copy.copy(words), []
-    vars(session).update(given)
-    run = ran(session, lines.append)
+    session = copy.copy(words)
+    session.flags, session.updates, session.part, session.each = flags, updates, part or words.part, None
+    lines: list[bytes] = []
+    outcome = ran(session, lines.append)
     words.speeds = session.speeds
-    if run.status:
+    if outcome.status:
         messages.put(b"".join(lines))
-        refuse((not words.has_port, not words.has_port and hint(run, ended_by())))
-    return run.status, run.commands, b"".join(lines)
+        if not words.has_port:
+            raise Fault(hint(outcome, ended_by()))
+    return outcome, b"".join(lines).decode()
 
 
-def detect(words):
+def detect(words: Words) -> set[int]:
     """Takes the part of the chip's signature for -p auto. Returns the commands that were sent."""
-    why = "-p auto is for a device, and looks in the part file that comes with avrstk (without --parts)"
-    refuse((words.has_port or words.parts_file is not None, why))
-    _, sent, lines = ask(words, part="m328p", flags=["-F", "-n"], updates=[])
-    signature = re.search(r"^avrstk: device signature = ((?:\w\w ?){3})$", lines.decode(), re.M)[1]
+    if words.has_port or words.parts_file is not None:
+        raise Fault("-p auto is for a device, and looks in the part file that comes with avrstk (without --parts)")
+    outcome, lines = ask(words, ["-F", "-n"], [], "m328p")
+    (signature,) = re.findall(r"^avrstk: device signature = ((?:\w\w ?){3})$", lines, re.M)
     names = parts_of(signature)
-    has = f"the chip has the signature {signature}, which"
-    why = first(
-        (signature in NO_SIGNATURES, NO_CHIP),
-        (not names, f"{has} no part here has"),
-        (len(names) > 1, f"{has} several parts have: give one of them by -p: {', '.join(names)}"),
-    )
-    refuse((why, f"-p auto: {why}; nothing was written"))
+    has = f"-p auto: the chip has the signature {signature}, which"
+    if signature in NO_SIGNATURES:
+        raise Fault(f"-p auto: {NO_CHIP}; nothing was written")
+    if not names:
+        raise Fault(f"{has} no part here has; nothing was written")
+    if len(names) > 1:
+        raise Fault(f"{has} several parts have: give one of them by -p: {', '.join(names)}; nothing was written")
     words.note(f"the chip is {names[0]} ({signature})")
     words.part = names[0]
-    return sent
+    return outcome.commands
 
 
-def prepare(words):
+def prepare(words: Words) -> None:
     """Judges the command line, makes the log and the folder that it names, and prints what is understood otherwise."""
+    lone = [option for option in ("--from", "--rows", "--counter") if option in words.last and not words.each_given]
+    if lone:
+        raise Fault(f"{' and '.join(lone)}: for what --each writes, which is not given")
     if words.restore is not None:
         try:
-            words.updates, words.flags = restored(words), [*words.flags, "-e"]
+            words.updates, words.flags = restored(words, words.restore), [*words.flags, "-e"]
         except Fault as fault:
             raise Fault(f"{fault}: {UNOPENED}")
     words.report.stage = "file"
+    words.each = Each(words) if words.each_given else None
     judge_files(words)
     words.report.stage = "arguments"
+    judge_rows(words)
     judge(words)
     if "-l" in words.last:
         messages.log = open(words.last["-l"], "wb", 0)
     if words.left_out:
         words.note(f"ignored: {', '.join(words.left_out)}")
-    for it in words.updates if "-q" not in words.flags else []:
-        if it.named:
-            say(f"{it.file} is read as {FORMATS[it.named]} (:{it.named})")
+    for update in words.updates if "-q" not in words.flags else []:
+        if update.named:
+            say(f"{update.file} is read as {FORMATS[update.named]} (:{update.named})")
 
 
-def reported(words):
+def reported(words: Words) -> int:
     """Makes the run, and its report if --json asks for one."""
-    words.report, status = Report(words), 1
+    status = 1
     try:
         status = serve(words)
     except (Fault, OSError) as fault:
-        words.report.told = f"{fault.filename}: {fault.strerror}" if isinstance(fault, OSError) else str(fault)
+        words.report.fault = text_of(fault)
         raise
     finally:
         if "--json" in words.last:
-            write(words.last["--json"], words.report.made(status, ended_by()))
+            write(words.last["--json"], words.report.made(words, status, ended_by()))
     return status
 
 
-def serve(words):
+def serve(words: Words) -> int:
     prepare(words)
     heed_signals()
-    return back_up(words, lambda: execute(words)) if words.backup is not None else execute(words)
+    return perform(words)
 
 
-def execute(words):
+def perform(words: Words) -> int:
+    if words.trial:
+        if words.part == "auto":
+            detect(words)
+        return try_rows(words, lambda: opened(words))
+    if words.backup is not None:
+        return back_up(words, words.backup, lambda: execute(words))
+    return execute(words)
+
+
+def live(words: Words) -> int:
+    """Makes the run of one of several boards, in a process of its own."""
+    words.report.stage = "file"
+    judge_files(words)
+    for update in words.updates:
+        if update.operation == "r":
+            update.judge(None)
+    words.report.stage = "device"
+    if not words.has_port:
+        judge_device(words.device)
+    return perform(words)
+
+
+def execute(words: Words) -> int:
     """Makes the run, after sessions that only ask. Prints what it changes or warns of even if -q is given twice."""
-    status, sent = 0, frozenset()
+    sent: set[int] = set()
     if words.part == "auto":
-        sent = detect(words)
+        sent |= detect(words)
         judge_part(words, "nothing was written")
     if words.restore is not None:
-        status, asked_for, _ = ask(words, flags=[], updates=asking(words.restore))
-        sent |= asked_for
-    if status:
-        return status
+        outcome, _ = ask(words, [], asking(words.restore))
+        sent |= outcome.commands
+        if outcome.status:
+            return outcome.status
     # (a backup has the bits as they were read)
     bits = words.bits() if words.parts_file is None and words.restore is None else {}
-    for it in words.updates:
-        lacks = it.mask(bits)
+    for update in words.updates:
+        lacks = update.mask(bits)
         if lacks:
-            say(f"{it.memory} of {words.part} has {lacks}")
+            say(f"{update.memory} of {words.part} has {lacks}")
     warn(words)
     words.report.stage = "device"
-    run = ran(words, earlier=sent)
-    is_hinted = run.status and not words.has_port
-    refuse((is_hinted, is_hinted and hint(run, ended_by())))
-    return run.status
+    outcome = ran(words, earlier=frozenset(sent))
+    if outcome.status and not words.has_port:
+        raise Fault(hint(outcome, ended_by()))
+    return outcome.status
 
 
-def main():
-    words = Words(sys.argv[1:])
-    shown = first(
-        ("--help" in words.last, lambda: show(HELP)),
-        ({"-h", "-?"} & set(words.last) or not sys.argv[1:], lambda: show(BRIEF)),
-        ("--version" in words.last, lambda: show(version())),
-        (words.device == "?", list_devices),
-        (words.part == "?", list_parts),
-        (words.programmer == "?", lambda: show("\n".join(SPEAKING))),
-    )
-    return (shown or (lambda: reported(words)))()
+def main(help_text: str) -> int:
+    words = Words(sys.argv[1:], Report())
+    if "--help" in words.last:
+        show(help_text)
+    elif {"-h", "-?"} & set(words.last) or not sys.argv[1:]:
+        show(brief(help_text))
+    elif "--version" in words.last:
+        show(version())
+    elif words.device == "?":
+        list_devices()
+    elif words.part == "?":
+        list_parts()
+    elif words.programmer == "?":
+        show("\n".join(SPEAKING))
+    else:
+        # (a refused command has a report, too, but not in place of its own files)
+        judge_files(words, "--json ")
+        return station(words, DEVICES, prepare, live) if words.is_station else reported(words)
+    return 0

@@ -1,8 +1,12 @@
 """avrstk-serve: the clients at a port or a terminal, and the runs of avrstk_session for them."""
 
-from avrstk_common import BRIEF, ENDING, HELP, READ, Fault, Way, built, came, ended_by, heed_signals, noted, part_words
-from avrstk_common import readable, ready, refuse, say, session_program, show, version, wait
+from __future__ import annotations
+
+from avrstk_common import ENDING, READ, Fault, Source, Way, brief, built, came, ended_by, heed_signals, part_words
+from avrstk_common import readable, ready, say, session_program, show, text_of, unchanged, version, wait
 from avrstk_faults import FAULTS, REFUSED, Traffic, seconds
+from avrstk_mega import Mega
+from avrstk_report import build, write
 
 import atexit
 import contextlib
@@ -19,23 +23,37 @@ import tempfile
 import threading
 import time
 import tty
-from typing import List, Optional
+from typing import IO, Mapping, Protocol, Sequence, Union
 
 # the most clients kept that have sent nothing; beyond that the oldest is hung up on. (So few open files are enough)
 MOST_SILENT = 8
 
-# the most seconds that a run has to save its chip once its client is gone, and a command to end after SIGTERM
-PATIENCE = 8
+# the most seconds that a run has to save its chip once its client is gone, and a command to end after SIGTERM. With
+# --mega a whole chip may be written then
+PATIENCE, PATIENCE_OF_MEGA = 8, 40
 
 # the seconds that a command has to end, or to begin a session that ends well, after one that did not
 GRACE = 10
 
 LONG = ["parts=", "chip=", "idle=", "listen=", "pty=", "timeout=", "log=", "log-limit=", "seed=", "locked"]
-LONG += ["strict", "version", "help"]
-LONG += [it[2:] + "=" for it in FAULTS] + [it[2:] for it in REFUSED]
+LONG += ["strict", "json=", "mega", "version", "help"]
+LONG += [option[2:] + "=" for option in FAULTS] + [option[2:] for option in REFUSED]
+
+# a client: its connection, or its terminal
+Client = Union[socket.socket, IO[bytes]]
 
 
-def ignore_signals():
+class Door(Protocol):
+    """What clients call: a port or a link."""
+
+    def open(self) -> str:
+        """Lets clients call, and returns where."""
+
+    def next_client(self, until: float | None) -> Client | None:
+        """Returns the first client that has sent a byte; None after a signal or `until`."""
+
+
+def ignore_signals() -> None:
     """Ignores the signals that end the server."""
     for number in ENDING:
         signal.signal(number, signal.SIG_IGN)
@@ -44,47 +62,51 @@ def ignore_signals():
 class Port:
     """A TCP port and its clients that have sent nothing so far, each with its time limit."""
 
-    def __init__(self, address, port, idle):
-        self.address, self.port, self.idle, self.silent, self.door = address, port, idle, {}, None
+    def __init__(self, address: str, port: int, idle: float | None) -> None:
+        self.address, self.port, self.idle = address, port, idle
+        self.silent: dict[socket.socket, float] = {}
+        self.door: socket.socket | None = None
 
-    def open(self):
+    def open(self) -> str:
         """Lets clients call, and returns where."""
         try:
-            address = os.fsencode(self.address)
-            family, _, _, _, place = socket.getaddrinfo(address, self.port, type=socket.SOCK_STREAM)[0]
+            host = os.fsencode(self.address)
+            family, _, _, _, place = socket.getaddrinfo(host, self.port, type=socket.SOCK_STREAM)[0]
             self.door = socket.create_server(place, family=family)
         except OSError as fault:
             name = f"port {self.port}" if self.address == "127.0.0.1" else f"{self.address}, port {self.port}"
             # (Python adds the address in brackets)
-            raise Fault(f"{name}: {fault.strerror.partition(' (')[0]}")
+            raise Fault(f"{name}: {str(fault.strerror).partition(' (')[0]}")
         self.door.setblocking(False)
         address, port = self.door.getsockname()[:2]
         return f"[{address}]:{port}" if ":" in address else f"{address}:{port}"
 
-    def next_client(self, until):
+    def next_client(self, until: float | None) -> Client | None:
         """Returns the first client that has sent a byte; None after a signal or `until`. Ends the oldest silent one."""
+        assert self.door, "the port is open"
         while True:
             oldest = next(iter(self.silent), None)
-            watched = dict.fromkeys([came, self.door, *self.silent], READ)
-            found = ready(watched, min(filter(None, [until, self.idle and self.silent.get(oldest)]), default=None))
+            limits = [until, self.silent[oldest] if self.idle and oldest else None]
+            watched: dict[Source, int] = dict.fromkeys([came, self.door, *self.silent], READ)
+            found = ready(watched, min((limit for limit in limits if limit), default=None))
             if came in found or is_past(until):
                 return None
-            client = next((it for it in self.silent if it in found), None)
+            client = next((silent for silent in self.silent if silent in found), None)
             if client:
                 del self.silent[client]
                 if has_sent(client):
                     return client
                 close(client)
-            elif not found or len(self.silent) == MOST_SILENT:
+            elif oldest and (not found or len(self.silent) == MOST_SILENT):
                 del self.silent[oldest]
                 close(oldest)
             if self.door in found:
-                self.accept()
+                self.accept(self.door)
 
-    def accept(self):
+    def accept(self, door: socket.socket) -> None:
         # (a client may have gone meanwhile)
         with contextlib.suppress(OSError):
-            client, _ = self.door.accept()
+            client, _ = door.accept()
             client.setblocking(False)
             client.setsockopt(socket.IPPROTO_TCP, socket.TCP_NODELAY, 1)
             self.silent[client] = time.monotonic() + (self.idle or 0)
@@ -93,11 +115,18 @@ class Port:
 class Link:
     """A link to the pseudo terminal of the next session. Closing the terminal of a session hangs up on its client."""
 
-    def __init__(self, link):
-        self.link, self.terminal, self.device, self.fault = link, None, None, None
-        atexit.register(lambda: self.is_here() and os.unlink(link))
+    def __init__(self, link: str) -> None:
+        self.link = link
+        self.terminal: IO[bytes] | None = None
+        self.device: str | None = None
+        self.fault: Fault | None = None
+        atexit.register(self.remove)
 
-    def open(self):
+    def remove(self) -> None:
+        if self.is_here():
+            os.unlink(self.link)
+
+    def open(self) -> str:
         """Lets the next client call, and returns where. The link is never missing, nor another program's."""
         try:
             number, device = os.openpty()
@@ -116,15 +145,16 @@ class Link:
         self.terminal, self.device = os.fdopen(number, "r+b", 0), leads_to
         return self.link
 
-    def is_here(self):
+    def is_here(self) -> bool:
         """Whether the link is still the one made here."""
         return self.device is not None and os.path.islink(self.link) and os.readlink(self.link) == self.device
 
-    def next_client(self, until):
+    def next_client(self, until: float | None) -> Client | None:
         """Returns the terminal whose client has sent a byte; None after a signal or `until`. If there can be no
         terminal for the client after that one, the next call fails."""
         if self.fault:
             raise self.fault
+        assert self.terminal, "the link is open"
         with_input = select.poll()
         with_input.register(self.terminal, select.POLLIN)
         # (while no client has it open, a terminal is always ready, with its end)
@@ -143,63 +173,72 @@ class Job:
     """A command that runs as the client. It stays in the server's process group, so it can read the terminal, and
     Ctrl-C reaches both."""
 
-    def __init__(self, command: List[str], where: str, limit: Optional[float]):
+    def __init__(self, command: Sequence[str], where: str, limit: float | None) -> None:
         with contextlib.suppress(ImportError, AttributeError):
             # (PR_SET_CHILD_SUBREAPER: what has lost its parent becomes a child of this process)
             import ctypes
 
             ctypes.CDLL(None).prctl(36, 1, 0, 0, 0)
-        command = [it.replace("{}", where) for it in command]
-        self.ran = subprocess.Popen(command, env={**os.environ, "AVRSTK_PORT": where})
+        words = [word.replace("{}", where) for word in command]
+        self.process = subprocess.Popen(words, env={**os.environ, "AVRSTK_PORT": where})
         # its end ends the server, as a signal does, and so does the end of its time
+        came.heed(signal.SIGALRM)
         threading.Thread(target=self.note_end, daemon=True).start()
-        signal.signal(signal.SIGALRM, lambda *_: None)
         signal.setitimer(signal.ITIMER_REAL, limit or 0)
 
     def note_end(self) -> None:
-        self.ran.wait()
-        noted.send(bytes([signal.SIGCHLD]))
+        self.process.wait()
+        came.note(signal.SIGCHLD)
 
     def end(self) -> None:
         """Ends it with all that it has started: by SIGTERM, and what is left after PATIENCE by SIGKILL."""
-        told, late = set(), time.monotonic() + PATIENCE
+        late = time.monotonic() + PATIENCE
+        asked: set[int] = set()
         # (a process of another user may stay)
         while started() and not is_past(late + 1):
-            for it in started():
+            for process in started():
                 with contextlib.suppress(OSError):
-                    os.kill(it, signal.SIGKILL if is_past(late) else 0 if it in told else signal.SIGTERM)
-                told.add(it)
+                    if is_past(late):
+                        os.kill(process, signal.SIGKILL)
+                    elif process not in asked:
+                        os.kill(process, signal.SIGTERM)
+                asked.add(process)
             time.sleep(0.02)
 
     def status(self) -> int:
         """Returns its status, which is that of a shell if a signal has ended it, and 1 if it can't be ended."""
         with contextlib.suppress(subprocess.TimeoutExpired):
-            self.ran.wait(1)
-        status = 1 if self.ran.returncode is None else self.ran.returncode
+            self.process.wait(1)
+        status = 1 if self.process.returncode is None else self.process.returncode
         return 128 - status if status < 0 else status
 
 
-def started() -> List[int]:
+def started() -> list[int]:
     """Returns the processes that this one has started, or one of those, and that have not ended. Each comes before what
     it has started: so a shell that gets a signal first runs no further command."""
-    rows, found = [], [os.getpid()]
-    for it in filter(str.isdigit, os.listdir("/proc")):
+    rows: list[tuple[int, int]] = []
+    for process in filter(str.isdigit, os.listdir("/proc")):
         # (it may have ended meanwhile)
-        with contextlib.suppress(OSError), open(f"/proc/{it}/stat", "rb") as file:
+        with contextlib.suppress(OSError), open(f"/proc/{process}/stat", "rb") as file:
             state, parent = file.read().rpartition(b")")[2].split()[:2]
-            rows += [(int(it), int(parent))] if state not in b"ZX" else []
-    for it in found:
-        found += [child for child, parent in rows if parent == it]
+            if state not in b"ZX":
+                rows.append((int(process), int(parent)))
+    found = [os.getpid()]
+    for ancestor in found:
+        found += [child for child, parent in rows if parent == ancestor]
     return found[1:]
 
 
 class Server:
     """The clients at a door, and the runs of a program for them."""
 
-    def __init__(self, door, program, idle, traffic):
+    def __init__(self, door: Door, program: list[str], idle: float | None, traffic: Traffic | None) -> None:
         self.door, self.program, self.idle, self.traffic, self.has_failed = door, program, idle, traffic, False
+        # whether clients get a Mega's bootloader, and what --json has of each session
+        self.is_mega = False
+        self.sessions: list[dict[str, object]] = []
 
-    def serve_all(self, command, limit):
+    def serve_all(self, command: list[str], limit: float | None) -> int:
         """Serves while this command runs, for at most `limit` seconds, or until a signal comes. Returns the status."""
         where = self.door.open()
         if not command:
@@ -210,66 +249,105 @@ class Server:
         try:
             self.serve_clients(GRACE)
             ended = ended_by()
-            whys = {None: f"{GRACE} seconds after that", signal.SIGALRM: f"{limit or 0:g} seconds (--timeout)"}
-            if ended in whys:
-                say(f"{command[0]} is ended: it went on for {whys[ended]}")
+            if ended is None:
+                say(f"{command[0]} is ended: it went on for {GRACE} seconds after that")
+            if ended == signal.SIGALRM:
+                say(f"{command[0]} is ended: it went on for {limit or 0:g} seconds (--timeout)")
         finally:
             if ended != signal.SIGCHLD:
                 job.end()
-        status = {None: 1, signal.SIGALRM: 124}.get(ended) or job.status()
+        status = 1 if ended is None else 124 if ended == signal.SIGALRM else job.status()
         return status or int(self.lacks_faults() or self.has_failed)
 
     def lacks_faults(self) -> bool:
         """Reports the faults that never struck, and returns whether the status depends on them."""
-        lacking = self.traffic.unstruck() if self.traffic else []
-        for it in lacking:
-            say(f"{it} never struck")
+        if not self.traffic:
+            return False
+        lacking = self.traffic.unstruck()
+        for fault in lacking:
+            say(f"{fault} never struck")
         return bool(lacking) and self.traffic.is_strict
 
-    def serve_clients(self, grace: Optional[int]) -> None:
+    def serve_clients(self, grace: int | None) -> None:
         """Serves clients until a signal comes. With `grace`, it ends so many seconds after a session that did not end
         well, unless one does that has begun before."""
-        until = None
-        for it in iter(lambda: self.door.next_client(until), None):
+        until: float | None = None
+        while True:
+            client = self.door.next_client(until)
+            if client is None:
+                return
             is_well = False
             try:
-                is_well = self.serve(it)
+                is_well = self.serve(client)
             except OSError as fault:
                 self.has_failed = True
                 say(f"a client can't be served: {fault.strerror}")
-            close(it)
-            until = None if is_well else until or grace and time.monotonic() + grace
+            close(client)
+            if is_well:
+                until = None
+            elif grace and until is None:
+                until = time.monotonic() + grace
 
-    def serve(self, client):
+    def serve(self, client: Client) -> bool:
+        """Serves one client, and notes the session for a report. Returns whether the client ended it, and its chip was
+        saved."""
+        traffic, begun = self.traffic, time.monotonic()
+        count, struck = (traffic.count, traffic.struck.copy()) if traffic else (0, None)
+        is_well = is_saved = False
+        try:
+            is_well, is_saved = self.run_for(client)
+        finally:
+            if traffic and struck is not None:
+                new = {fault: traffic.struck[fault] - struck[fault] for fault in traffic.given}
+                faults = [{"fault": fault, "struck": times} for fault, times in new.items() if times]
+                session: dict[str, object] = {"commands": traffic.count - count, "faults": faults}
+                session["seconds"] = round(time.monotonic() - begun, 3)
+                self.sessions.append({**session, "idle": is_saved and not is_well, "saved": is_saved})
+        return is_well and is_saved
+
+    def run_for(self, client: Client) -> tuple[bool, bool]:
         """Serves one client by a run of its own. On return the run has ended and saved the chip. Returns whether the
-        client ended the session, and its chip was saved."""
+        client was not idle, and whether its chip was saved."""
         line, other = socket.socketpair()
         with line:
-            with other:
-                # (it saves its chip even if all processes of a service are sent a signal)
-                how = {"stdin": other, "stdout": other, "start_new_session": True, "preexec_fn": ignore_signals}
-                run = subprocess.Popen(self.program, **how)
+            run = self.start(other)
             try:
                 line.setblocking(False)
                 is_well = self.pass_on(client, line)
             finally:
-                hang_up(line, run)
+                hang_up(line, run, PATIENCE_OF_MEGA if self.is_mega else PATIENCE)
                 if self.traffic:
                     self.traffic.end()
         if run.returncode:
             how = f"status {run.returncode}" if run.returncode > 0 else f"ended by signal {-run.returncode}"
             self.has_failed = True
             say(f"a session failed ({how}): its changes may not be in the chip file")
-        return is_well and not run.returncode
+        return is_well, not run.returncode
 
-    def pass_on(self, client, line):
+    def start(self, other: socket.socket) -> subprocess.Popen[bytes]:
+        """Starts a run with this end of a connection, or with --mega a bootloader there, and its run."""
+        programmer, own = socket.socketpair() if self.is_mega else (None, other)
+        with own:
+            # (it saves its chip even if all processes of a service are sent a signal)
+            run = subprocess.Popen(
+                self.program,
+                stdin=own.fileno(),
+                stdout=own.fileno(),
+                start_new_session=True,
+                preexec_fn=ignore_signals,
+            )
+        if programmer:
+            threading.Thread(target=Mega(other, programmer).live, daemon=True).start()
+        return run
+
+    def pass_on(self, client: Client, line: socket.socket) -> bool:
         """Passes bytes between a client and its run until either has gone, the client is idle, or a signal comes.
         Returns whether the client was not idle."""
-        changes = self.traffic.begin() if self.traffic else [lambda piece: piece] * 2
+        changes = self.traffic.begin() if self.traffic else (unchanged, unchanged)
         there, back = ways = Way(client, line, changes[0]), Way(line, client, changes[1])
         moved = time.monotonic()
         while not back.has_ended:
-            found = wait(ways, {came: READ}, self.idle and moved + self.idle)
+            found = wait(ways, {came: READ}, moved + self.idle if self.idle else None)
             if came in found:
                 break
             if not found:
@@ -286,9 +364,9 @@ class Server:
         return True
 
 
-def hang_up(line, run):
+def hang_up(line: socket.socket, run: subprocess.Popen[bytes], patience: float) -> None:
     """Ends what a run receives, and returns once it has saved the chip and ended, or was killed after too long."""
-    until = time.monotonic() + PATIENCE
+    until = time.monotonic() + patience
     # (if the run has ended, that is an error)
     with contextlib.suppress(OSError):
         line.shutdown(socket.SHUT_WR)
@@ -297,7 +375,7 @@ def hang_up(line, run):
     end(run, max(0, until - time.monotonic()))
 
 
-def end(run, seconds):
+def end(run: subprocess.Popen[bytes], seconds: float) -> None:
     """Waits until a run has ended, and kills it if it hasn't after some seconds."""
     try:
         run.wait(seconds)
@@ -306,7 +384,7 @@ def end(run, seconds):
         run.wait()
 
 
-def close(client):
+def close(client: Client) -> None:
     """Hangs up on a client. Reads its unread bytes first, so that the client sees the end and not a reset."""
     with contextlib.suppress(OSError):
         # (a terminal can't be closed in one direction)
@@ -317,59 +395,100 @@ def close(client):
     client.close()
 
 
-def door_of(places, options, idle, command):
+def door_of(places: list[str], options: Mapping[str, str], idle: float | None, command: list[str]) -> Door:
     """Returns what clients call: a port or a link."""
     if "--pty" in options:
-        refuse((places or "--listen" in options, "a port and --pty: give one of the two"))
+        if places or "--listen" in options:
+            raise Fault("a port and --pty: give one of the two")
         # (a command may look for it in another folder)
         return Link(os.path.abspath(options["--pty"]) if command else options["--pty"])
-    refuse((len(places) != 1, "one port is needed: avrstk-serve PORT -p PART --chip FILE"))
-    is_port = re.fullmatch("[0-9]{1,9}", places[0]) and int(places[0]) < 65_536
-    refuse((not is_port, f"{places[0]}: not a port from 0 to 65535"))
+    if len(places) != 1:
+        raise Fault("one port is needed: avrstk-serve PORT -p PART --chip FILE")
+    if not re.fullmatch("[0-9]{1,9}", places[0]) or int(places[0]) > 65_535:
+        raise Fault(f"{places[0]}: not a port from 0 to 65535")
     return Port(options.get("--listen", "127.0.0.1"), int(places[0]), idle)
 
 
-def has_sent(client):
+def has_sent(client: socket.socket) -> bool:
     with contextlib.suppress(OSError):
         return bool(client.recv(1, socket.MSG_PEEK))
+    return False
 
 
-def is_past(until: Optional[float]) -> bool:
+def is_past(until: float | None) -> bool:
     return until is not None and time.monotonic() >= until
 
 
-def stray(words: List[str]) -> Optional[str]:
+def stray(words: list[str]) -> str | None:
     """Returns the first word that is no option or its value, but names a program; None if there is none."""
-    takes_value = {"-p", *(f"--{it[:-1]}" for it in LONG if it.endswith("="))}
-    others = (it for before, it in zip(["", *words], words) if before not in takes_value and it[:1] != "-")
+    takes_value = {"-p", *(f"--{option[:-1]}" for option in LONG if option.endswith("="))}
+    others = (word for before, word in zip(["", *words], words) if before not in takes_value and word[:1] != "-")
     return next(filter(shutil.which, others), None)
 
 
-def fails(*command):
+def fails(*command: str) -> bool:
     """Runs a program that gets no input, and whose output is not shown."""
     return subprocess.run(command, stdin=subprocess.DEVNULL, stdout=subprocess.DEVNULL).returncode != 0
 
 
-def main():
+def main(help_text: str) -> int:
     at = sys.argv.index("--") if "--" in sys.argv else len(sys.argv)
     client, program = sys.argv[at + 1 :], stray(sys.argv[1:at])
-    refuse(
-        (sys.argv[-1] == "--", "no command after --"),
-        (program and not client, f"{program}: a command comes after --"),
-    )
+    if sys.argv[-1] == "--":
+        raise Fault("no command after --")
+    if program and not client:
+        raise Fault(f"{program}: a command comes after --")
     given, places = getopt.gnu_getopt(sys.argv[1:at], "p:h", LONG)
     options = dict(given)
     if {"-h", "--help", "--version"} & set(options) or not sys.argv[1:]:
-        return show(version() if "--version" in options else HELP if "--help" in options else BRIEF)
+        show(version() if "--version" in options else help_text if "--help" in options else brief(help_text))
+        return 0
+    if "--json" not in options:
+        return serve(given, places, client)
+    own = {name: options[name] for name in ("--chip", "--parts", "--log") if name in options}
+    same = [name for name, file in own.items() if os.path.realpath(file) == os.path.realpath(options["--json"])]
+    if same:
+        raise Fault(f"--json {options['--json']}: this is the file of {' and '.join(same)}")
+    report: dict[str, object] = {"status": 1, "error": None, "part": options.get("-p"), "chip": options.get("--chip")}
+    report.update({"command": client or None, "seed": None, "seconds": 0.0, "faults": [], "sessions": []})
+    try:
+        return serve(given, places, client, report)
+    except (Fault, OSError) as fault:
+        report["error"] = text_of(fault)
+        raise
+    finally:
+        write(options["--json"], {**build(), **report})
+
+
+def judge(options: Mapping[str, str], client: list[str]) -> str:
+    """Refuses options that don't fit each other. Returns the name of the chip file."""
+    chip, parts = options.get("--chip"), options.get("--parts")
+    if chip is None:
+        raise Fault("no chip file given (--chip)")
+    if re.search(r"[\udc80-\udcff]", chip):
+        raise Fault(f"--chip {chip}: the name is not UTF-8")
+    if parts is not None and not os.path.isfile(parts):
+        raise Fault(f"--parts {parts}: not a file that each client can read")
+    if "--timeout" in options and not client:
+        raise Fault("--timeout: no command after --")
+    others = [option for option in REFUSED if option in options]
+    if "--mega" in options and (parts is not None or options.get("-p", "").lower() not in ("m2560", "atmega2560")):
+        raise Fault("--mega is the bootloader of an ATmega2560: give -p m2560")
+    if "--mega" in options and others:
+        raise Fault(f"--mega and {' and '.join(others)}: give one of them")
+    return chip
+
+
+def serve(
+    given: list[tuple[str, str]], places: list[str], client: list[str], report: dict[str, object] | None = None
+) -> int:
+    """Serves by these options until a signal or the client's end. `report` gets its fields, if one is asked for.
+    Returns the status."""
+    options, begun = dict(given), time.monotonic()
     idle, limit = (seconds(it, options[it]) if it in options else None for it in ("--idle", "--timeout"))
-    door, chip, parts = door_of(places, options, idle, client), options.get("--chip"), options.get("--parts")
-    traffic = Traffic(given) if {"--log", *FAULTS, *REFUSED} & set(options) else None
-    refuse(
-        (chip is None, "no chip file given (--chip)"),
-        (re.search(r"[\udc80-\udcff]", chip or ""), f"--chip {chip}: the name is not UTF-8"),
-        (parts is not None and not os.path.isfile(parts), f"--parts {parts}: not a file that each client can read"),
-        (limit and not client, "--timeout: no command after --"),
-    )
+    door, parts = door_of(places, options, idle, client), options.get("--parts")
+    traffic = Traffic(given) if {"--log", "--json", *FAULTS, *REFUSED} & set(options) else None
+    chip = judge(options, client)
     # (avrstk_session itself reports a missing part)
     words = [*part_words(options.get("-p"), parts), "-P", f"emu:{chip}"]
     command = [session_program(), *words]
@@ -378,11 +497,18 @@ def main():
         return 1
     if traffic:
         traffic.open(chip, parts)
-    if "--locked" in options and fails(built(None), *words, "-q", "-q", "-U", "lock:w:0xFC:m"):
+    if "--locked" in options and fails(built(), *words, "-q", "-q", "-U", "lock:w:0xFC:m"):
         return 1
     heed_signals()
+    server, status = Server(door, command, idle, traffic), 1
+    server.is_mega = "--mega" in options
     try:
-        return Server(door, command, idle, traffic).serve_all(client, limit)
+        status = server.serve_all(client, limit)
+        return status
     finally:
         # (while Python ends, another signal would end it by that signal)
         ignore_signals()
+        if report is not None and traffic:
+            faults = [{"fault": fault, "struck": traffic.struck[fault]} for fault in traffic.given]
+            report.update({"status": status, "seed": traffic.seed, "faults": faults, "sessions": server.sessions})
+            report["seconds"] = round(time.monotonic() - begun, 3)

@@ -6,6 +6,8 @@ is brought into step again, and avrstk is told that its frame was corrupt: avrst
 times, and compares the chip at the end as ever. Each access to flash sends its own address.
 """
 
+from __future__ import annotations
+
 from avrstk_common import READ, WRITE, Frames, is_frame, ready
 
 import contextlib
@@ -15,6 +17,7 @@ import os
 import socket
 import threading
 import time
+from typing import Callable, Iterable, Protocol, Sequence
 
 # AVRDUDE's names of such programmers, with their speeds: the bootloaders of Uno and Nano, and of old Nanos; the sketch
 # ArduinoISP; programmers with firmware 1
@@ -43,10 +46,26 @@ class Unsure(Exception):
     """A reply wasn't as it should be: the device may still be at an earlier command."""
 
 
+class SerialDevice(Protocol):
+    """What avrstk_serial.Device does."""
+
+    def fileno(self) -> int:
+        ...
+
+    def set_speed(self, baud: int) -> None:
+        ...
+
+    def pulse(self) -> None:
+        ...
+
+    def close(self) -> None:
+        ...
+
+
 class Line:
     """The bytes of a serial device. `reset` resets a board by DTR and RTS, and waits until it has started."""
 
-    def __init__(self, device, wait: float):
+    def __init__(self, device: SerialDevice, wait: float) -> None:
         self.device, self.wait = device, wait
 
     def set_speed(self, baud: int) -> None:
@@ -80,14 +99,22 @@ class Version1:
     """Executes the bodies of frames by commands of version 1. `speeds` are tried in turn until the device replies.
     `alive` is called between the pieces of a long command, and `is_wanted` tells whether a reply is still awaited."""
 
-    def __init__(self, line, speeds, is_bootloader, alive=lambda: None, is_wanted=lambda: True):
+    def __init__(
+        self,
+        line: Line,
+        speeds: Sequence[int],
+        is_bootloader: bool,
+        alive: Callable[[], None] = lambda: None,
+        is_wanted: Callable[[], bool] = lambda: True,
+    ) -> None:
         self.line, self.speeds, self.is_bootloader = line, speeds, is_bootloader
         self.alive, self.is_wanted = alive, is_wanted
-        self.is_in_step, self.speed = False, None
+        self.is_in_step = False
+        self.speed: int | None = None
         self.address = self.page = self.segment = 0
         # the addresses of flash that were written since an erase; None without an erase
-        self.written = None
-        self.does = {
+        self.written: set[int] | None = None
+        self.does: dict[int, Callable[[bytes], bytes]] = {
             0x10: self.enter,
             0x11: lambda _: self.ask(LEAVE),
             0x13: lambda body: self.write_flash(body[10:]),
@@ -132,28 +159,29 @@ class Version1:
     def interrupt(self) -> None:
         """Ends whatever the device waits for."""
         if self.is_bootloader:
-            return self.line.reset()
+            self.line.reset()
+            return
         # (the sketch may wait for the bytes of a page. None of these ends a page, or is a command that does anything)
         self.line.send(SYNC * 300)
         self.line.receive(1_000, 0.1)
         self.line.send(END)
 
-    def enter(self, _) -> bytes:
+    def enter(self, _: bytes) -> bytes:
         self.segment = 0
         return self.ask(ENTER)
 
-    def spi(self, instruction) -> bytes:
+    def spi(self, instruction: Iterable[int]) -> bytes:
         """Lets the chip execute an instruction, and returns its fourth byte."""
         self.alive()
         return self.ask(UNIVERSAL + bytes(instruction), 1)
 
-    def erase(self, body) -> bytes:
+    def erase(self, body: bytes) -> bytes:
         self.spi(body[3:7])
         self.line.pause(ERASING)
         self.written = set()
         return b""
 
-    def write_byte(self, instruction) -> bytes:
+    def write_byte(self, instruction: bytes) -> bytes:
         """Writes a fuse or the lock."""
         self.spi(instruction)
         self.line.pause(WRITING)
@@ -182,12 +210,13 @@ class Version1:
         self.load_address()
         held = self.ask(READ_PAGE + count.to_bytes(2, "big") + b"F", count)
         # avrstk compares only the bytes of images. A corrupted erase, or a page at a wrong address, is noticed here
-        begin = self.address * 2
-        if self.written is not None and any(it != 0xFF for at, it in enumerate(held, begin) if at not in self.written):
-            raise Unsure
+        if self.written is not None:
+            begin = self.address * 2
+            if any(byte != 0xFF for at, byte in enumerate(held, begin) if at not in self.written):
+                raise Unsure
         return held
 
-    def write_eeprom(self, body) -> bytes:
+    def write_eeprom(self, body: bytes) -> bytes:
         """Writes a run of bytes inside a page of EEPROM by the instructions of the frame."""
         load, store = body[5], body[6]
         for at, byte in enumerate(body[10:], self.address):
@@ -196,11 +225,11 @@ class Version1:
         self.line.pause(WRITING)
         return b""
 
-    def read_eeprom(self, body) -> bytes:
+    def read_eeprom(self, body: bytes) -> bytes:
         places = range(self.address, self.address + int.from_bytes(body[1:3], "big"))
-        return b"".join(self.spi([body[3], it >> 8 & 255, it & 255, 0]) for it in places) + DONE
+        return b"".join(self.spi([body[3], at >> 8 & 255, at & 255, 0]) for at in places) + DONE
 
-    def do(self, body: bytes):
+    def do(self, body: bytes) -> bytes | None:
         """Executes a body, and returns what follows OK in the reply; None if the device can't do it."""
         if not self.is_in_step or body[0] == SIGN_ON:
             self.get_in_step()
@@ -210,9 +239,9 @@ class Version1:
             self.address = int.from_bytes(body[1:5], "big")
             return b""
         act = self.does.get(body[0])
-        return act and act(body)
+        return act(body) if act else None
 
-    def reply(self, body: bytes):
+    def reply(self, body: bytes) -> bytes | None:
         """Returns the body of the reply; None if there is none."""
         try:
             more = self.do(body)
@@ -227,8 +256,10 @@ class Version1:
 class Bridge:
     """A file for avrstk's frames, in place of a device that speaks version 1. A thread writes the replies."""
 
-    def __init__(self, device, speeds, is_bootloader, wait: float):
-        self.device, (self.inner, self.outer), self.talked, self.is_open = device, socket.socketpair(), 0.0, True
+    def __init__(self, device: SerialDevice, speeds: Sequence[int], is_bootloader: bool, wait: float) -> None:
+        self.device, (self.inner, self.outer) = device, socket.socketpair()
+        # when a byte of noise was sent, and whether avrstk's end is open
+        self.talked, self.is_open = 0.0, True
         self.outer.setblocking(False)
         line, is_wanted = Line(device, wait), lambda: self.is_open
         self.programmer = Version1(line, speeds, is_bootloader, self.keep_alive, is_wanted)

@@ -1,7 +1,9 @@
 //! Chip files that are missing, complete or of the wrong length, and desks that fail or lock nothing.
 use avr_desk::{ChipDesk, Desk, DeskFault, FailingDesk, MemDesk};
 use avr_part::{Chip, Mem, Part, PartFault, Parts};
-use avr_tool::{Unlocked, hold_chip, load_chip, save_chip};
+use avr_tool::{
+    Port, Settings, Text, Unlocked, hold_chip, load_chip, parse_update, run_emu, save_chip,
+};
 use std::alloc::{AllocError, Global};
 use std::test::Fail;
 
@@ -155,6 +157,35 @@ fn a_chip_that_is_refused_is_not_held(rt: HostRuntime) -> Result<(), Fail> {
         desk.messages() == b"avrstk: error: chip.bin: 3 bytes, 33796 expected\n".as_slice()
     );
     assert!(rt; desk.hold("chip.bin") == Ok(true));
+    Ok(())
+}
+
+/// Returns the status of a run over `chip.bin` that reads the EEPROM into this file.
+fn reads_into<D: ChipDesk>(alloc: Global, file: &str, desk: &mut D) -> Result<u8, Fail> {
+    let mut settings = Settings::for_link(alloc, "m328p")?;
+    settings.port = Port::Emulated(Text::new(alloc, "chip.bin")?);
+    let update = format!(in alloc; "eeprom:r:{file}:r")?;
+    settings
+        .updates
+        .push(parse_update(alloc, update.as_str())?)?;
+    Ok(run_emu(alloc, &settings, desk))
+}
+
+/// No desk needs to tell that the name is the chip's. If the desk fails at another name, its third call, the chip isn't
+/// locked any more.
+#[test]
+fn a_read_into_the_chip_is_refused(rt: HostRuntime) -> Result<(), Fail> {
+    let alloc = rt.alloc();
+    let mut desk = Unlocked::new(MemDesk::empty(alloc));
+    assert!(rt; reads_into(alloc, "chip.bin", &mut desk)? == 1);
+    let inner = desk.inner();
+    assert!(rt; inner.messages() == b"avrstk: error: chip.bin: cannot be created\n".as_slice());
+    assert!(rt; inner.uses().is_empty());
+    let mut desk = FailingDesk::new(MemDesk::empty(alloc), 3);
+    assert!(rt; reads_into(alloc, "out.bin", &mut desk)? == 1);
+    let inner = desk.inner();
+    assert!(rt; inner.messages() == b"avrstk: error: out.bin: cannot be created\n".as_slice());
+    assert!(rt; inner.file("chip.bin").is_none() && desk.hold("chip.bin") == Ok(true));
     Ok(())
 }
 

@@ -12,6 +12,7 @@ pub data ReportedDeskCall : Type 0 where
   Created : Bytes → Result ⊤ DeskFault → ReportedDeskCall
   Held : Bytes → Result Bool DeskFault → ReportedDeskCall
   Released : ReportedDeskCall
+  Checked : Bytes → Result ⊤ DeskFault → ReportedDeskCall
   Replaced : Bytes → Bytes → Result ⊤ DeskFault → ReportedDeskCall
   Read : Bytes → Result ℕ DeskFault → ReportedDeskCall
   Wrote : Stream → Bytes → Result ℕ DeskFault → ReportedDeskCall
@@ -22,6 +23,7 @@ reported_desk_call (call.Opened name outcome) = Opened name.now outcome
 reported_desk_call (call.Created name outcome) = Created name.now outcome
 reported_desk_call (call.Held name outcome) = Held name.now outcome
 reported_desk_call call.Released = Released
+reported_desk_call (call.Checked name outcome) = Checked name.now outcome
 reported_desk_call (call.Replaced name bytes outcome) = Replaced name.now bytes.now outcome
 reported_desk_call (call.Read buffer outcome) = Read buffer.now outcome
 reported_desk_call (call.Wrote stream bytes outcome) = Wrote stream bytes.now outcome

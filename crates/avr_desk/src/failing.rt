@@ -160,6 +160,17 @@ impl<D: ChipDesk> ChipDesk for FailingDesk<D> {
         self.inner.release();
     }
 
+    fn check_name(&mut self, name: &str) -> Result<(), DeskFault>
+        ensures kept { ChangesRecord (λ kept. kept) (D.view self.old.inner) (D.view self.new.inner) }
+        ensures call { IsCall (failing D.view) (of_inner D.started_as) (CountsFailure File) self.old self.new result }
+        ensures when_due { FailsWhenDue File D.view self.old self.new (CountsFailure File) result }
+    {
+        if self.is_due() {
+            return Err(DeskFault::Failed);
+        }
+        self.inner.check_name(name)
+    }
+
     fn replace(&mut self, name: &str, bytes: &[u8]) -> Result<(), DeskFault>
         ensures kept { Replaces name.now bytes.now result (D.view self.old.inner) (D.view self.new.inner) }
         ensures call { IsCall (failing D.view) (of_inner D.started_as) (CountsFailure File) self.old self.new result }

@@ -95,6 +95,11 @@ pub trait FileSystem {
         ensures keeps { Counts has_done (count_of (option_copied hold.entry)) self.old
             → CrashLeavesNoMore left self.old self.new };
 
+    /// Fails with `ResourceBusy` if a file created by this name would be the held one, or one that a run makes beside it.
+    /// `hold` is what this run holds.
+    fn check_named(&mut self, name: &str, hold: Option<&Self::Hold>) -> io::Result<()>
+        ensures stays { IsUncounted has_done left self.old self.new };
+
     /// Closes a file that was written.
     fn close_file(&mut self, file: Self::File)
         ensures closes { closed file }

@@ -149,6 +149,13 @@ impl<F: Folder> FileSystem for F {
         self.create(name)
     }
 
+    fn check_named(&mut self, name: &str, hold: Option<&Replacement<F>>) -> io::Result<()> {
+        match hold {
+            Some(hold) => self.check_not_held(name, &hold.held, &hold.seen),
+            None => Ok(()),
+        }
+    }
+
     fn close_file(&mut self, file: F::File) {
         self.close(file);
     }

@@ -361,6 +361,24 @@ impl<R: FileSystem + Drop, O: Outlet + Drop, E: Outlet + Drop> ChipDesk for Syst
         self.journal = self.journal.then(&Call::Released);
     }
 
+    fn check_name(&mut self, name: &str) -> Result<(), DeskFault>
+        ensures kept { self.new.kept ≡ self.old.kept }
+        ensures call { IsCall system_desk_view ⟦<Self as Desk>⟧.started_as
+            (CountsFailure File) self.old self.new result }
+        ensures quiet { Leaves (record (with_log_of self.old self.new) { system = self.new.system })
+            (writes_to_output self.old) self.old self.new result }
+    {
+        if name == "-" {
+            return Ok(());
+        }
+        match self.system.check_named(name, self.replacement.as_ref()) {
+            Err(error) if error.kind() == ErrorKind::ResourceBusy => {
+                Err(fail(&mut self.failures, &mut self.last_error, error))
+            }
+            _ => Ok(()),
+        }
+    }
+
     fn replace(&mut self, name: &str, bytes: &[u8]) -> Result<(), DeskFault>
         ensures kept { Replaces name.now bytes.now result (system_desk_view self.old) (system_desk_view self.new) }
         ensures tried { OnErr result (self.new.kept ≡ with_tried name.now bytes.now self.old.kept) }

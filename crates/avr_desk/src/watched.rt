@@ -3,7 +3,7 @@ ghost use Rattle.avr_desk.specs.Record.{ChangesRecord, after_open, after_create,
 ghost use Rattle.avr_desk.specs.Fault.{CountsFailure, IsCall};
 ghost use Rattle.avr_desk.specs.Stream.{IsWrite};
 ghost use Rattle.avr_desk.specs.declared.stream.Stream.TheVariants.{File, Output, Messages};
-ghost use Rattle.avr_desk.specs.Watching.{ReportedDeskCall, Opened, Created, Held, Released, Replaced, Read, Wrote, reported_desk_call};
+ghost use Rattle.avr_desk.specs.Watching.{ReportedDeskCall, Opened, Created, Held, Released, Checked, Replaced, Read, Wrote, reported_desk_call};
 ghost use Rattle.ghosts.specs.Preserves.{Preserves};
 
 use crate::desk::{ChipDesk, Desk, DeskFault};
@@ -21,6 +21,8 @@ pub enum DeskCall<'a> {
     Held(&'a str, Result<bool, DeskFault>),
     /// The held file was released, if there was one.
     Released,
+    /// A file of this name may be created, or not.
+    Checked(&'a str, Result<(), DeskFault>),
     /// The file of this name was replaced with these bytes.
     Replaced(&'a str, &'a [u8], Result<(), DeskFault>),
     /// The returned number of bytes of the open file was read into the start of this buffer.
@@ -37,6 +39,7 @@ impl fmt::Debug for DeskCall<'_> {
             DeskCall::Created(..) => "Created",
             DeskCall::Held(..) => "Held",
             DeskCall::Released => "Released",
+            DeskCall::Checked(..) => "Checked",
             DeskCall::Replaced(..) => "Replaced",
             DeskCall::Read(..) => "Read",
             DeskCall::Wrote(..) => "Wrote",
@@ -170,6 +173,16 @@ impl<D: ChipDesk, W: WatchDesk> ChipDesk for WatchedDesk<D, W> {
     {
         self.desk.release();
         self.watcher.on_call(&DeskCall::Released);
+    }
+
+    fn check_name(&mut self, name: &str) -> Result<(), DeskFault>
+        ensures kept { ChangesRecord (λ kept. kept) (D.view self.old.desk) (D.view self.new.desk) }
+        ensures call { IsCall D.view D.started_as (CountsFailure File) self.old.desk self.new.desk result }
+        ensures notice { W.after (Checked name.now result) self.old.watcher self.new.watcher }
+    {
+        let outcome = self.desk.check_name(name);
+        self.watcher.on_call(&DeskCall::Checked(name, outcome));
+        outcome
     }
 
     fn replace(&mut self, name: &str, bytes: &[u8]) -> Result<(), DeskFault>

@@ -13,7 +13,9 @@ pub mod Held
 pub mod Plans
 pub mod KnownFiles
 pub mod Outcomes
+pub mod Table
 pub mod ChipFile
 pub mod KeptByPort
+pub mod Readers
 pub mod TwoProcesses
 pub mod Rows

@@ -11,3 +11,8 @@ pub mod Folder
 pub mod Loss
 pub mod Edges
 pub mod Begun
+pub mod OtherChips
+pub mod EachSecond
+pub mod PageCounter
+pub mod WrongRows
+pub mod Bootloader

@@ -18,8 +18,9 @@ use Rattle.stk_emu.specs.Programmer.{Programmer}
 use Rattle.stk_frame.specs.Cut.{frames}
 use Rattle.stk_host.specs.Transcript.{LinkState, Transcript, heard, sent}
 
--- THE PLAN'S FIRST WRITE OPERATIONS WERE MADE, in order, and no others. The link forges no frame, and the chip has the
--- plan's part. The programmer may be in any state, lose any command, and restart.
+-- THE PLAN'S FIRST WRITE OPERATIONS WERE MADE, in order, and no others: perhaps none of them, perhaps all. The
+-- premises: the chip is sound and of the plan's part; the programmer received good frames that were sent, in order and
+-- each at most once; and the link forges no frame. The programmer may be in any state, lose any command, and restart.
 abbrev pub IsBegun : Plan → Transcript → Type 0
 IsBegun plan passed =
     (p : Programmer) (got : List ℕ) (later : List (List ℕ)) (executions : List Execution) → IsSoundChip p.chip
@@ -27,21 +28,23 @@ IsBegun plan passed =
     → NoneForged device (frames (sent passed)) (heard passed) p executions []
     → HasFirstOperations plan (memories_of p.chip) (memories_of (after_received_bytes device got later p).chip)
 
--- By the port. Without a plan nothing was sent.
+-- By the port. Over standard streams nothing was sent unless there is a plan. At another port nothing passed over them,
+-- and at one that is not of the network the network was left unused.
 abbrev pub BeginsPlanAt : ConnectionState → Type 0 → Port → Settings → Transcript → Record → Record → Type 0
 BeginsPlanAt At Unused Stdio settings passed old new =
-    (sent passed ≡ []) ⊎ KeepsPlan settings old new (λ plan. IsBegun plan passed)
+    ((sent passed ≡ []) ⊎ KeepsPlan settings old new (λ plan. IsBegun plan passed)) × Unused
 BeginsPlanAt At Unused (Network address) settings passed old new =
-    (Unused ⊎ At address None)
+    (passed ≡ []) × ((Unused ⊎ At address None)
     ⊎ ((link : LinkState) × At address (Some link)
-    × KeepsPlan settings old new (λ plan. IsBegun plan link.transcript))
-BeginsPlanAt At Unused (Emulated file) settings passed old new = Unit {0}
-BeginsPlanAt At Unused (Served port file) settings passed old new = Unit {0}
+    × KeepsPlan settings old new (λ plan. IsBegun plan link.transcript)))
+BeginsPlanAt At Unused (Emulated file) settings passed old new = (passed ≡ []) × Unused
+BeginsPlanAt At Unused (Served port file) settings passed old new = passed ≡ []
 
--- Nothing was sent and nothing connected to; or the words ask for these settings, and this holds of their plan.
+-- Nothing passed over standard streams and the network was left unused; or the words ask for these settings, and this
+-- holds of their plan.
 abbrev pub BeginsCommandLine : (List Bytes → Type 0) → ConnectionState → Type 0 → Transcript → Record → Record → Type 0
 BeginsCommandLine AreWords At Unused passed old new =
-    ((sent passed ≡ []) × Unused)
+    ((passed ≡ []) × Unused)
     ⊎ ((words : List Bytes) × AreWords words
     × ((settings : Settings) × (Ok settings ≡ settings_from_arguments words)
     × BeginsPlanAt At Unused settings.port settings passed old new))

@@ -10,7 +10,7 @@ use Rattle.avr_desk.specs.declared.record.Opening.{Opening}
 use Rattle.avr_laws.specs.AskedPlan.{FileGave, IsAsked}
 use Rattle.avr_laws.specs.ChipFound.{IsChipInFile}
 use Rattle.avr_laws.specs.FilesRead.{read_whole}
-use Rattle.avr_laws.specs.Kept.{IsKept, Keeps}
+use Rattle.avr_laws.specs.Kept.{Keeps}
 use Rattle.avr_part.specs.ChipFile.{chip_file}
 use Rattle.avr_part.specs.State.{ChipState as Chip}
 use Rattle.avr_plan.specs.Plan.{Plan}
@@ -39,22 +39,25 @@ KeepsPlan settings old new IsSo = (plan : Plan) × (IsAsked settings (FileGave o
 abbrev pub ConnectionState : Type 1
 ConnectionState = Bytes → Option LinkState → Type 0
 
--- The plan was kept: over standard streams and over a connection to the address, by what passed over the link; over the
--- emulator, by its chip file. A service has no plan.
-abbrev pub KeepsPlanAt : ConnectionState → Port → Settings → Transcript → Record → Record → Type 0
-KeepsPlanAt At Stdio settings passed old new = KeepsPlan settings old new (λ plan. IsKept plan passed old new)
-KeepsPlanAt At (Network address) settings passed old new =
-    (link : LinkState) × At address (Some link)
-    × KeepsPlan settings old new (λ plan. IsKept plan link.transcript old new)
-KeepsPlanAt At (Emulated file) settings passed old new =
-    KeepsPlan settings old new (λ plan. IsKeptInFile file plan old new)
-KeepsPlanAt At (Served port file) settings passed old new = Unit {0}
+-- The plan was kept, by what `Kept` says: over standard streams and over a connection to the address, by what passed
+-- over the link; over the emulator, by its chip file. A service has no plan. At another port nothing passed over standard
+-- streams.
+abbrev pub KeepsPlanAt : (Plan → Transcript → Record → Record → Type 0) → ConnectionState → Port → Settings
+    → Transcript → Record → Record → Type 0
+KeepsPlanAt Kept At Stdio settings passed old new = KeepsPlan settings old new (λ plan. Kept plan passed old new)
+KeepsPlanAt Kept At (Network address) settings passed old new =
+    (passed ≡ []) × ((link : LinkState) × At address (Some link)
+    × KeepsPlan settings old new (λ plan. Kept plan link.transcript old new))
+KeepsPlanAt Kept At (Emulated file) settings passed old new =
+    (passed ≡ []) × KeepsPlan settings old new (λ plan. IsKeptInFile file plan old new)
+KeepsPlanAt Kept At (Served port file) settings passed old new = passed ≡ []
 
 -- WHAT STATUS 0 MEANS, by what passed over standard streams and by the desk's records. If the command line asks for a
 -- run, and not for help, its plan was kept.
-abbrev pub KeepsCommandLine : (List Bytes → Type 0) → ConnectionState → Transcript → Record → Record → Type 0
-KeepsCommandLine AreWords At passed old new =
+abbrev pub KeepsCommandLine : (Plan → Transcript → Record → Record → Type 0) → (List Bytes → Type 0)
+    → ConnectionState → Transcript → Record → Record → Type 0
+KeepsCommandLine Kept AreWords At passed old new =
     (words : List Bytes) × AreWords words
     × (takes avrstk words ≡ true
     → (settings : Settings) × (Ok settings ≡ settings_from_arguments words)
-    × KeepsPlanAt At settings.port settings passed old new)
+    × KeepsPlanAt Kept At settings.port settings passed old new)

@@ -23,7 +23,14 @@ pub mod ChipFound
 pub mod Promise
 pub mod Worked
 pub mod WorkedLoss
+pub mod WorkedBootloader
 pub mod Killed
+-- any programmer that keeps the rows
+pub mod Table
+pub mod Sheet
+pub mod KeptByAny
+pub mod Reader
+pub mod EmulatedStates
 -- the program, port by port
 pub mod KeptByPort
 pub mod BegunByPort

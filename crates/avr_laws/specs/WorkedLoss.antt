@@ -22,8 +22,8 @@ use Rattle.stk_host.specs.Tape.{Tape, on_tape}
 use Rattle.stk_host.specs.declared.link.Item.TheVariants.{Silence}
 
 -- A part with eight bytes of flash in two pages, and two of EEPROM.
-abbrev pub tiny : Part
-tiny = record {
+abbrev pub loss_part : Part
+loss_part = record {
   id = codes "tiny";
   signature = 0x1E ∷ 0x90 ∷ 0x07 ∷ [];
   flash_size = 8;
@@ -38,7 +38,7 @@ abbrev pub old_file : Bytes
 old_file = 1 ∷ 2 ∷ 3 ∷ 4 ∷ 5 ∷ 6 ∷ 7 ∷ 8 ∷ 9 ∷ 10 ∷ 0x62 ∷ 0xD9 ∷ 0xFF ∷ 0xFF ∷ []
 
 abbrev pub old_chip : ChipState
-old_chip = record (fresh_state tiny) {
+old_chip = record (fresh_state loss_part) {
   flash = 1 ∷ 2 ∷ 3 ∷ 4 ∷ 5 ∷ 6 ∷ 7 ∷ 8 ∷ [];
   eeprom = 9 ∷ 10 ∷ [];
   lfuse = 0x62;
@@ -60,7 +60,7 @@ loss_updates = record { memory = Flash; op = op.Write; format = Ihex; file = cod
 -- The image has two bytes.
 abbrev pub loss_plan : Plan
 loss_plan = record {
-  part = tiny;
+  part = loss_part;
   tasks = Write Flash (Some 0x12 ∷ Some 0x34 ∷ None ∷ None ∷ None ∷ None ∷ None ∷ None ∷ []) ∷ [];
   switches = worked_settings.switches;
 }

@@ -1,8 +1,9 @@
 //! Laws of runs above the program: whatever the link loses, delays and spoils, and whatever becomes of a run.
 //!
 //! No program depends on it. A law is a function with an empty body, and its contract is a theorem about definitions
-//! alone. What a call itself promises is in the contracts of avr_tool. Two laws are functions with one of its calls for
-//! a body: [`a_program_with_status_0_kept_its_plan`] and [`status_0_means_the_images`].
+//! alone. What a call itself promises is in the contracts of avr_tool. Six laws are functions with one of its calls for
+//! a body: those of [`program`](a_program_with_status_0_kept_its_plan), [`status_0_means_the_images`],
+//! [`status_0_means_the_images_on_an_emulated_chip`] and [`a_program_with_status_0_left_what_it_compared_last`].
 #![tactic(auto)]
 
 // what a plan asks of files
@@ -15,7 +16,10 @@ mod damaged_frames;
 mod few_bad_frames;
 // what a plan writes, address by address
 mod written;
+// a programmer of any kind
+mod any_programmer;
 // runs from settings to a status, and worked ones
+mod bootloaders;
 mod chip_file;
 mod crashes;
 mod program;
@@ -31,6 +35,11 @@ pub use any_line::{
     a_run_times_out_at_most_once_for_each_frame, a_session_outputs_its_expected_run_up_to_a_fault,
     a_session_over_a_wire_can_be_believed, a_session_over_any_link, what_a_run_reports_is_true,
     what_was_reported_was_true, whatever_becomes_of_a_session_its_first_write_operations_were_done,
+};
+pub use any_programmer::{AnyProgrammer, the_emulated_programmer_keeps_the_table};
+pub use bootloaders::{
+    AnyReader, a_program_with_status_0_left_what_it_compared_last,
+    a_run_over_a_bootloader_meets_all_premises,
 };
 pub use chip_file::{
     a_further_run_over_its_chip_file_repairs, a_run_finds_and_leaves_the_chip_of_its_file,
@@ -55,13 +64,16 @@ pub use planning::{
     a_plan_only_reads_and_warns, a_sound_plan_is_refused_aloud, what_is_promised_is_what_runs_do,
 };
 pub use program::{
-    a_program_with_status_0_kept_its_plan, whatever_the_status_first_write_operations_were_made,
+    a_program_with_status_0_kept_its_plan,
+    a_program_with_status_0_kept_its_plan_on_an_emulated_chip,
+    whatever_the_status_first_write_operations_were_made,
 };
 pub use runs::{
     a_forged_frame_voids_the_promise, a_further_run_repairs, a_run_in_memory_has_one_outcome,
     a_run_in_memory_is_a_function_of_its_files, a_run_over_a_bad_link_meets_all_premises,
     a_sound_run_is_its_expected_run, a_worked_run_has_one_outcome, a_wrong_outcome_is_refused,
     an_ended_run_and_one_with_status_0_are_as_one, status_0_means_the_images,
+    status_0_means_the_images_on_an_emulated_chip,
 };
 pub use two_processes::{
     a_prompt_link_brings_the_expected_run, a_server_sends_the_replies_to_what_it_received,

@@ -3,10 +3,13 @@ ghost use Rattle.std.specs.Prelude.{◌≡◌, []};
 ghost use Rattle.avr_desk.specs.Handles.{IsTrueRecord};
 ghost use Rattle.avr_desk.specs.Shown.{IsNewDesk, IsTrueSince as IsTrueDesk};
 ghost use Rattle.avr_laws.specs.BegunByPort.{BeginsCommandLine};
+ghost use Rattle.avr_laws.specs.Kept.{IsKept};
+ghost use Rattle.avr_laws.specs.KeptByAny.{IsKeptByAny};
 ghost use Rattle.avr_laws.specs.KeptByPort.{KeepsCommandLine};
 ghost use Rattle.avr_tool.specs.Sockets.{IsOverAddress};
 ghost use Rattle.stk_host.specs.Links.{TranscriptIsTrueSince};
 
+use super::any_programmer::AnyProgrammer;
 use avr_desk::{FileSystem, SystemDesk};
 use avr_tool::{CommandLine, Network, run_command_line};
 use ghosts::Outlet;
@@ -16,10 +19,12 @@ use stk_host::StreamLink;
 
 /// Runs a command line as [`avr_tool::run_command_line`] does, at a new desk and over a link on which nothing has
 /// passed. States what its status 0 means, over any files, any network and any streams: the plan that the command line
-/// and the opened files ask for was kept.
-// Proof: `words_kept` (KeptByPort/EachPort), by `kept` (Outcomes/Kept) over a link, and `file_kept` (KeptByPort/InFile)
-// over the emulator.
+/// and the opened files ask for was kept. It holds for any programmer that keeps the rows of the table. The clause
+/// `files` holds for any desk.
+// Proof: `words_kept` (KeptByPort/EachPort), by `promised_by_any` (Table/Kept) over a link, and `file_kept`
+// (KeptByPort/InFile) over the emulator.
 pub fn a_program_with_status_0_kept_its_plan<
+    T: AnyProgrammer,
     C: CommandLine,
     N: Network,
     S: FileSystem + Drop,
@@ -35,7 +40,8 @@ pub fn a_program_with_status_0_kept_its_plan<
     link: &mut StreamLink<R, W>,
 ) -> u8
     ensures plan { result ≡ 0 → link.old.transcript ≡ []
-        → KeepsCommandLine C.is_words (IsOverAddress N.Network N.Stream.Read N.Stream.Write N.Stream.closed)
+        → KeepsCommandLine (IsKeptByAny T.part T.device T.view T.IsIn T.IsReady T.becomes) C.is_words
+        (IsOverAddress N.Network N.Stream.Read N.Stream.Write N.Stream.closed)
         link.new.transcript desk.old.kept desk.new.kept }
     // A new desk's record of files, and the link's transcript, are what these gave and took.
     ensures files { IsNewDesk S.FileSystem desk.old
@@ -48,9 +54,42 @@ pub fn a_program_with_status_0_kept_its_plan<
     run_command_line(line, network, alloc, desk, link)
 }
 
+/// Runs a command line as [`a_program_with_status_0_kept_its_plan`] does. States what its status 0 means if the
+/// programmer and the chip are the emulated ones: the same, for any plan and any state of the lock and the fuses.
+// Proof: `words_kept` (KeptByPort/EachPort), by `promised` (Outcomes/Kept).
+pub fn a_program_with_status_0_kept_its_plan_on_an_emulated_chip<
+    C: CommandLine,
+    N: Network,
+    S: FileSystem + Drop,
+    O: Outlet + Drop,
+    M: Outlet + Drop,
+    R: Read + Drop,
+    W: Write + Drop,
+>(
+    line: &C,
+    network: N,
+    alloc: Global,
+    desk: &mut SystemDesk<S, O, M>,
+    link: &mut StreamLink<R, W>,
+) -> u8
+    ensures plan { result ≡ 0 → link.old.transcript ≡ []
+        → KeepsCommandLine IsKept C.is_words
+        (IsOverAddress N.Network N.Stream.Read N.Stream.Write N.Stream.closed)
+        link.new.transcript desk.old.kept desk.new.kept }
+{
+    run_command_line(line, network, alloc, desk, link)
+}
+
 /// Runs a command line as [`a_program_with_status_0_kept_its_plan`] does. States what its run made of a chip behind a
 /// link, whatever its status: the first write operations of the plan that the command line and the opened files ask
-/// for, in order, and nothing else. The chip has the plan's part. Over the emulator this law states nothing.
+/// for, in order, and nothing else. They may be none of the plan's write operations, or all.
+///
+/// The premises are those of status 0, on a chip that has the plan's part. The chip's memories have the sizes of its
+/// part. The programmer receives good frames that were sent, in order and each at most once, and the link forges no
+/// frame.
+///
+/// At a port other than `stdio:` nothing passes over `link`. At a port that isn't of the network, `network` is left
+/// unused.
 // Proof: `words_begun` (Outcomes/Begun), by `first_go_along` (Lines/FirstFrames).
 pub fn whatever_the_status_first_write_operations_were_made<
     C: CommandLine,

@@ -26,8 +26,9 @@ ghost use Rattle.avr_session.specs.Session.{session};
 ghost use Rattle.avr_session.specs.Stopping.{IsSound, EndWithLine, keeping, link_state};
 ghost use Rattle.avr_tool.specs.Headline.{IsRun, IsStopped};
 ghost use Rattle.avr_laws.specs.InMemory.{AreUnused, LeavesOutcome, LeavesOverStreams, RunOutcome, outcome_shown};
+ghost use Rattle.avr_laws.specs.KeptByAny.{IsKeptByAny};
 ghost use Rattle.avr_laws.specs.Worked.{absent_outcome, absent_settings, worked_frames, fuse_plan, worked_lines, forged_replies, no_stock, worked_replies, worked_outcome, worked_settings};
-ghost use Rattle.avr_laws.specs.WorkedLoss.{image_read, loss_executions, loss_frames, loss_plan, loss_programmer, loss_replies, loss_updates, old_chip, old_file, received_first, received_later, tiny};
+ghost use Rattle.avr_laws.specs.WorkedLoss.{image_read, loss_executions, loss_frames, loss_part, loss_plan, loss_programmer, loss_replies, loss_updates, old_chip, old_file, received_first, received_later};
 ghost use Rattle.avr_laws.specs.ChipFound.{IsChipInFile};
 ghost use Rattle.stk_emu.specs.Device.{device};
 ghost use Rattle.stk_emu.specs.Effect.{memories_of, erase_keeps_eeprom, effects, memory_in};
@@ -49,6 +50,7 @@ ghost use Rattle.stk_host.specs.Dialog.{Event, played, bytes_sent, frames_in, ou
 ghost use Rattle.stk_host.specs.Transcript.{Transcript, heard, sent};
 ghost use Rattle.stk_host.specs.Tape.{Tape};
 
+use super::any_programmer::AnyProgrammer;
 use avr_desk::Desk;
 use avr_plan::Settings;
 use avr_tool::run;
@@ -59,19 +61,38 @@ use stk_host::Link;
 /// Runs what the settings ask for over a new link, as [`avr_tool::run`] does, and states what status 0 means then. The
 /// settings and the files that were opened ask for a plan, and the chip holds what that plan makes of it.
 ///
-/// The programmer may be in any state. It received any bytes whose good frames are some of those sent, also after it
-/// restarted, and no reply was forged. Then the memories of its chip are what the plan's writes make of them, and all
-/// that the plan compares agreed. If the run was verified, each memory holds its images. Elsewhere it holds what it
-/// held before, or the FF of an erase. Each file that a memory was read into has the text of what the chip held then.
+/// The programmer keeps the rows of the table that the chip's data sheet vouches for, and the plan asks for no other
+/// row. It may be in any state. It received any bytes whose good frames are some of those sent, also after it restarted,
+/// and no reply was forged. Then the memories of its chip are what the plan's writes make of them, and all that the plan
+/// compares agreed. If the run was verified, each memory holds its images. Elsewhere it holds what it held before, or
+/// the FF of an erase. Each file that a memory was read into has the text of what the chip held then.
 ///
 /// The chip has the sizes and pages of the plan's part, and EESAVE at the same bit of the high fuse. Its id and
 /// signature may be others: the plan that was kept is the one for the chip's own part. Without `-F` status 0 means that
 /// the chip has the signature of the plan's part.
-// Proof: `promised` (Outcomes/Kept), by `over_bytes` (AnyLink) and avr_tool's `ends_over_exchanges` (OverExchanges).
-// Another id and signature are by `session_alike` (Outcomes/OtherPart), none without `-F` by `own_signature`
-// (Outcomes/OwnSignature). The memories are `session_leaves` (OverFaultyLink/Outcomes), the images `run_written`
-// (Memories/VerifiedRuns), the files `expected_writes` (Outcomes/Saved), the plan `desk_asked` (Plans/Given).
-pub fn status_0_means_the_images<D: Desk, L: Link>(
+// Proof: `promised_by_any` (Table/Kept): the rows are the steps of a host (`real_of`, Table/RealOf), and
+// the plan takes rows that are vouched for (`plan_works`, Table/ByTasks). Another id and signature are by
+// `session_alike` (Outcomes/OtherPart), none without `-F` by `own_signature` (Outcomes/OwnSignature). The memories are
+// `session_leaves` (OverFaultyLink/Outcomes), the images `run_written` (Memories/VerifiedRuns), the files
+// `expected_writes` (Outcomes/Saved), the plan `desk_asked` (Plans/Given).
+pub fn status_0_means_the_images<T: AnyProgrammer, D: Desk, L: Link>(
+    alloc: Global,
+    settings: &Settings,
+    desk: &mut D,
+    link: &mut L,
+) -> u8
+    ensures promise { result ≡ 0 → (L.view link.old).transcript ≡ []
+        → (plan : Plan) × (IsAsked settings.now (FileGave (D.view desk.old).kept (D.view desk.new).kept)
+        plan × IsKeptByAny T.part T.device T.view T.IsIn T.IsReady T.becomes plan (L.view link.new).transcript
+        (D.view desk.old).kept (D.view desk.new).kept) }
+{
+    run(alloc, settings, desk, link)
+}
+
+/// Runs what the settings ask for as [`status_0_means_the_images`] does. States what status 0 means if the programmer
+/// and the chip are the emulated ones: the same, for any plan and any state of the lock and the fuses.
+// Proof: `promised` (Outcomes/Kept), by `emulated` (avr_tool's Emulated).
+pub fn status_0_means_the_images_on_an_emulated_chip<D: Desk, L: Link>(
     alloc: Global,
     settings: &Settings,
     desk: &mut D,
@@ -89,11 +110,11 @@ pub fn status_0_means_the_images<D: Desk, L: Link>(
 /// file holds, and the chip that of a chip file.
 // Proof: the lemmas of Rows/Loss.
 pub fn a_run_over_a_bad_link_meets_all_premises()
-    ensures image { AreTasksOf (FileGave nothing_kept image_read) tiny loss_updates loss_plan.tasks }
+    ensures image { AreTasksOf (FileGave nothing_kept image_read) loss_part loss_updates loss_plan.tasks }
     ensures ends { (played (session loss_plan) 1 loss_replies).outcome ≡ Some (0, 17, []) }
     ensures sends { frames_in (played (session loss_plan) 1 loss_replies).events ≡ loss_frames }
-    ensures chip { IsChipInFile tiny (Some old_file) old_chip × IsSoundChip old_chip
-        × HasGeometryOf tiny old_chip.part }
+    ensures chip { IsChipInFile loss_part (Some old_file) old_chip × IsSoundChip old_chip
+        × HasGeometryOf loss_part old_chip.part }
     ensures came { ReceivedSentFrames received_first (received_later ∷ []) loss_frames loss_executions }
     ensures forged { NoneForged device loss_frames loss_replies loss_programmer loss_executions [] }
     ensures left { (after_received_bytes device received_first (received_later ∷ []) loss_programmer).chip.flash

@@ -198,13 +198,10 @@ impl<'a, D: Desk, L: Link> Session<'a, D, L> {
         requires fits { All (IsFitted self.old.plan.now.part) tasks.now }
         ensures { Does L.Link D.Desk (tasks_actions self.old.plan.now.switches tasks.now) self.old self.new result }
     {
-        match tasks {
-            [] => Ok(()),
-            [task, more @ ..] => {
-                self.perform(task)?;
-                self.perform_all(more)
-            }
+        for task in tasks {
+            self.perform(task)?;
         }
+        Ok(())
     }
 
     /// Does all actions of the plan, up to the first fault.

@@ -1,6 +1,13 @@
 -- A run over the emulated programmer, from its stages.
-use Rattle.std.proofs.Common.{◌≡◌, ℕ, [], All, subst, rules}
-use Rattle.avr_tool.specs.Holding.{LockedAndLoaded}
+use Rattle.std.proofs.Common.{◌≡◌, ◌∙◌, ap, sym, ℕ, true, List, [], All, Ok, Err, length, subst, rules}
+use Rattle.std.specs.Prelude.{◌<◌, get_or}
+use Rattle.std.specs.Str.{bytes_eq}
+use Rattle.std.proofs.lemmas.List.Folds.{list_any_at}
+use Rattle.std.proofs.lemmas.Slice.Eq.{bytes_eq-Decides}
+use Rattle.avr_part.specs.declared.part.Mem.{Mem}
+use Rattle.avr_plan.specs.declared.planned.Task.{Task}
+use Rattle.avr_plan.specs.declared.planned.Task.TheVariants.{Read}
+use Rattle.avr_plan.specs.declared.update.Format.{Format}
 use Rattle.avr_plan.specs.declared.settings.Settings.{Settings}
 use Rattle.avr_desk.specs.Fault.{CountsNeverFall}
 use Rattle.avr_desk.specs.Record.{DeskState, Bytes}
@@ -19,7 +26,20 @@ use Rattle.stk_emu.specs.Wired.{WiredState, ComesOf, wired_link}
 use Rattle.avr_session.specs.Run.{RunsSession}
 use Rattle.avr_session.specs.Runs.{devices}
 use Rattle.avr_tool.specs.OverFaultyLink.{SessionOverWire}
-use Rattle.avr_tool.specs.Emulated.{IsSavedIfSent, new_wire, RunsOverEmulator}
+use Rattle.avr_tool.specs.Emulated.{ChecksRead, ChecksReads, IsSavedIfSent, RefusesRead, TakesChip, any_reads_into, new_wire, reads_into, RunsOverEmulator}
+
+same_name : (one other : Bytes) → one ≡ other → bytes_eq other one ≡ true
+same_name one other same = search (rules, bytes_eq-Decides)
+
+-- the refused name is that of a task
+pub read_refused : (tasks : List Task) (i : ℕ) (task : Task) (memory : Mem) (format : Format) (into file : Bytes)
+    (old mid new : DeskState) (status told : ℕ) → i < length tasks → task ≡ get_or tasks i task
+    → task ≡ Read memory format file → into ≡ file → mid ≡ old → status ≡ told → ChecksRead into mid new (Err told)
+    → ChecksReads tasks old new (Err status)
+read_refused tasks i task memory format into file old mid new status told below is reads same here one checks =
+    let among : any_reads_into into tasks ≡ true =
+    list_any_at (reads_into into) tasks i task below (ap (reads_into into) (sym is ∙ reads) ∙ same_name into file same) in
+    (one ∙ checks.0, into, among, subst (λ (d : DeskState). RefusesRead into d new) here checks.1)
 
 module _ (settings : Settings) (file : Bytes) (plan : Plan) (chip : Chip) (w v : WiredState) (held : w.held ≡ [])
     (begun : w.wire ≡ fresh_wire (fresh_programmer chip) []) (waits : w.waits ≡ []) (silent : w.transcript ≡ [])
@@ -30,13 +50,13 @@ module _ (settings : Settings) (file : Bytes) (plan : Plan) (chip : Chip) (w v :
   is_new = search rules
 
   pub runs_over_emulator : (old planned_desk loaded_desk played_desk now : DeskState) (ran status : ℕ)
-      → StageCompleted (planned settings) old planned_desk (Produced plan) → LockedAndLoaded plan.part file planned_desk
-      loaded_desk chip → CountsNeverFall played_desk now
+      → StageCompleted (planned settings) old planned_desk (Produced plan)
+      → TakesChip plan file planned_desk loaded_desk (Ok chip) → CountsNeverFall played_desk now
       → RunsSession plan (devices (wired_link w) loaded_desk) (devices (wired_link v) played_desk) ran
       → Preserves ComesOf w v → (w.wire.programmer.chip.part ≡ plan.part
       → SessionOverWire plan w v loaded_desk played_desk ran) → IsSavedIfSent (sent v.transcript) played_desk now file
       (chip_file v.wire.programmer.chip) ran status → RunsOverEmulator settings file old now status
-  runs_over_emulator old planned_desk loaded_desk played_desk now ran status made is_loaded by_saving runs
+  runs_over_emulator old planned_desk loaded_desk played_desk now ran status made takes by_saving runs
       comes line saved = record {
         plan = plan;
         chip = chip;
@@ -47,7 +67,8 @@ module _ (settings : Settings) (file : Bytes) (plan : Plan) (chip : Chip) (w v :
         played_desk = played_desk;
         made = made;
         fitted = fitted;
-        loaded = is_loaded;
+        apart = takes.0;
+        loaded = takes.1;
         part = part_is;
         sound = is_sound;
         runs = search (rules, is_new);

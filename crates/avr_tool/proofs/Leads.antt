@@ -36,22 +36,6 @@ memories_after_steps part (suc count) [] m = m
 memories_after_steps part (suc count) (commands ∷ steps) m =
     memories_after_steps part count steps (memories_after_step part commands m)
 
--- the memories after some number of first steps
-pub record Reached (part : Part) (steps : List (List Command)) (m : Memories) (q : Programmer) : Type 0 where
-  pub count : ℕ
-  pub stands : Settled part (memories_after_steps part count steps m) q
-
--- with data, the memories after all steps, and what these give; with a fault, those after some first steps
-abbrev pub AfterSteps : Part → List (List Command) → Memories → List ℕ → StepOutcome → Programmer → Type 0
-AfterSteps part steps m before (Ok got) q =
-    Settled part (memories_after_steps part (length steps) steps m) q × (got ≡ before ++ data_of_steps part steps m)
-AfterSteps part steps m before (Err fault) q = Reached part steps m q
-
--- after SIGN_ON, ENTER and the reading of the signature
-abbrev pub AfterBeginning : Part → Memories → StepOutcome → Programmer → Type 0
-AfterBeginning part m (Ok found) q = Settled part m q × (found ≡ part.signature)
-AfterBeginning part m (Err fault) q = HasMemories part m q
-
 -- each step leads from its own condition to the next one
 abbrev pub AllFit : {P : Type 0} → Device P → (ℕ → P → Type 0) → List (List Command) → Type 0
 AllFit m At [] = Unit {0}

@@ -3,10 +3,12 @@ pub mod Printed
 -- a session over any link
 pub mod Each
 pub mod Leads
+pub mod Real
 pub mod Lines
 pub mod Given
 pub mod Hosts
 pub mod WriteOperations
+pub mod Emulated
 pub mod Plans
 pub mod Memories
 pub mod OverFaultyLink

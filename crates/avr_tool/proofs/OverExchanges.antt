@@ -19,6 +19,10 @@ use Rattle.avr_tool.specs.OverFaultyLink.{AllArriveRight, OverExchanges, EndsOve
 use Rattle.avr_tool.specs.Items.{asked_items}
 use Rattle.avr_tool.specs.Outcome.{IsDone, IsExpectedRun}
 use Rattle.avr_tool.specs.Written.{written_to}
+use Rattle.stk_host.specs.ReadSteps.{signature_steps}
+use Rattle.avr_tool.proofs.Emulated.{actions_work, all_work, emulated}
+use Rattle.avr_tool.proofs.Plans.Fits.{work}
+use Rattle.avr_tool.proofs.Real.{ActionsWork, AllWork, Real}
 use Rattle.avr_tool.proofs.OverFaultyLink.FrameSizes.{session_asks}
 use Rattle.avr_tool.proofs.OverFaultyLink.Outcomes.{session_leaves, session_succeeds}
 use Rattle.avr_tool.proofs.OverFaultyLink.WriteOperationOrder.{session_makes}
@@ -42,6 +46,15 @@ module _ (plan : Plan) (begun : Programmer) (is_sound : IsSoundChip begun.chip) 
 
   pub is_idle : HasMemories plan.part before begun
   is_idle = subst (λ part. HasMemories part before begun) part_is (sound_idle begun is_sound)
+
+  abbrev real : Real plan.part
+  real = emulated plan.part its_part
+
+  signs : AllWork real signature_steps before
+  signs = all_work plan.part its_part signature_steps before
+
+  works : ActionsWork real (work plan) before
+  works = actions_work plan.part its_part (work plan) before
 
   pub asks : SendsValidBodies (session plan)
   asks = session_asks plan its_part fitted
@@ -76,11 +89,13 @@ module _ (plan : Plan) (begun : Programmer) (is_sound : IsSoundChip begun.chip) 
 
       is_done : status ≡ 0 → IsDone plan before after
       is_done zero = subst (λ (r : Programmer). IsDone plan before (memories_of r.chip)) (sym stands)
-          ((session_leaves plan its_part before its_sizes fitted begun exchanges is_idle).after count status comes zero)
+          ((session_leaves plan its_part real before its_sizes fitted signs works begun exchanges is_idle).after count
+          status comes zero)
 
       pub ends_over_exchanges : EndsOverExchanges plan before after exchanges output_events status
       ends_over_exchanges = record {
-        success = search (rules, has_expected, session_succeeds, its_part, its_sizes, is_idle);
+        success = λ zero. has_expected (session_succeeds plan its_part real before its_sizes fitted signs works begun
+            exchanges is_idle count status comes zero);
         done = is_done;
         images = λ zero verified. run_written plan before after fitted verified (is_done zero) its_part its_sizes;
         further = λ zero verified s mems kept.

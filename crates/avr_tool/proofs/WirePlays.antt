@@ -1,7 +1,7 @@
 -- A session that ran over a wire went along the exchanges of its fates.
 use Rattle.std.proofs.Common.{◌≡◌, ℕ, [], List, All, length, sym, ap, ◌∙◌, inl, inr, rules}
 use Rattle.std.proofs.lemmas.List.{append-nil}
-use Rattle.avr_desk.specs.OutputEvents.{OutputEvent, IsPartOfEvent, after_events}
+use Rattle.avr_desk.specs.OutputEvents.{IsPartOfEvent, after_events}
 use Rattle.avr_part.specs.Sound.{IsSoundChip}
 use Rattle.avr_plan.specs.Plan.{Plan, IsFitted}
 use Rattle.avr_desk.specs.Record.{DeskState, ChangesRecord}

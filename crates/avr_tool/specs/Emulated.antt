@@ -1,10 +1,16 @@
 -- A run over the emulator, whose chip has a file.
-use Rattle.std.specs.Prelude.{◌≡◌, ◌⊎◌, ℕ, List, [], ◌∷◌, All, Err}
+use Rattle.std.specs.Prelude.{◌≡◌, ◌⊎◌, ℕ, Bool, true, false, List, [], ◌∷◌, All, Result, Ok, Err, ⊤}
+use Rattle.std.specs.List.{list_any}
+use Rattle.std.specs.Str.{bytes_eq}
 use Rattle.avr_tool.specs.Holding.{LocksAndLoads, LockedAndLoaded}
 use Rattle.avr_tool.specs.Saving.{SavesAfterRun}
 use Rattle.avr_plan.specs.declared.settings.Settings.{Settings}
+use Rattle.avr_plan.specs.declared.planned.Task.{Task}
+use Rattle.avr_plan.specs.declared.planned.Task.TheVariants.{Read}
 use Rattle.avr_desk.specs.Fault.{CountsNeverFall}
-use Rattle.avr_desk.specs.Record.{DeskState, Bytes, released}
+use Rattle.avr_desk.specs.Lines.{error, not_created_pieces}
+use Rattle.avr_desk.specs.OutputEvents.{ReportsFailureAs, ReportsLine}
+use Rattle.avr_desk.specs.Record.{DeskState, Bytes, ChangesRecord, after_err, released}
 use Rattle.avr_part.specs.ChipFile.{chip_file}
 use Rattle.avr_part.specs.Sound.{IsSoundChip}
 use Rattle.avr_part.specs.State.{ChipState as Chip}
@@ -21,6 +27,48 @@ use Rattle.stk_emu.specs.declared.fate.Fate.{Fate}
 use Rattle.avr_session.specs.Run.{LacksPlan, RunsSession, WithPlan}
 use Rattle.avr_tool.specs.OverFaultyLink.{SessionOverWire, wire_and_desk}
 
+-- whether the task reads a memory into the file of this name
+abbrev pub reads_into : Bytes → Task → Bool
+reads_into file (Read memory format into) = bytes_eq into file
+reads_into file task = false
+
+abbrev pub any_reads_into : Bytes → List Task → Bool
+any_reads_into file = list_any (reads_into file)
+
+-- The desk failed at the name of a file to read into. The held file was unlocked, and this was reported.
+pub record RefusesRead (into : Bytes) (old new : DeskState) : Type 0 where
+  pub notice : Bytes
+  pub is_reported : ReportsFailureAs (error (not_created_pieces into)) notice old new
+  pub kept : ChangesRecord (after_err notice) (released old) new
+
+-- A name was checked, and nothing was done; or it was refused.
+abbrev pub ChecksRead : Bytes → DeskState → DeskState → Result ⊤ ℕ → Type 0
+ChecksRead into old new (Ok done) = new ≡ old
+ChecksRead into old new (Err status) = (status ≡ 1) × RefusesRead into old new
+
+-- The same for all tasks that read a memory: the refused name is one of theirs.
+abbrev pub ChecksReads : List Task → DeskState → DeskState → Result ⊤ ℕ → Type 0
+ChecksReads tasks old new (Ok done) = new ≡ old
+ChecksReads tasks old new (Err status) =
+    (status ≡ 1) × (into : Bytes) × (any_reads_into into tasks ≡ true) × RefusesRead into old new
+
+-- The chip's file was locked and the chip was loaded, and then the desk failed at the name of a read.
+pub record LoadedThenRefused (plan : Plan) (file : Bytes) (old new : DeskState) (status : ℕ) : Type 0 where
+  pub chip : Chip
+  pub loaded_desk : DeskState
+  pub loaded : LockedAndLoaded plan.part file old loaded_desk chip
+  pub refused : ChecksReads plan.tasks loaded_desk new (Err status)
+
+-- No task reads a memory into the chip's file, which was locked, and the chip was loaded. Or a task does, and this was
+-- reported. Or the file could not be locked, or its chip or a read was refused.
+abbrev pub TakesChip : Plan → Bytes → DeskState → DeskState → Result Chip ℕ → Type 0
+TakesChip plan file old new (Ok chip) =
+    (any_reads_into file plan.tasks ≡ false) × LockedAndLoaded plan.part file old new chip
+TakesChip plan file old new (Err status) =
+    ((any_reads_into file plan.tasks ≡ true) × (status ≡ 1) × ReportsLine old new (error (not_created_pieces file)))
+    ⊎ ((any_reads_into file plan.tasks ≡ false)
+    × (LocksAndLoads plan.part file old new (Err status) ⊎ LoadedThenRefused plan file old new status))
+
 -- The chip's file is replaced if anything was sent, otherwise only unlocked. If it can't be replaced, the status is 1.
 abbrev pub IsSavedIfSent : List ℕ → DeskState → DeskState → Bytes → Bytes → ℕ → ℕ → Type 0
 IsSavedIfSent [] old now file bytes session_status status = (now ≡ released old) × (status ≡ session_status)
@@ -32,11 +80,11 @@ abbrev pub new_wire : Chip → List Fate → WiredState
 new_wire chip fates =
     record { held = []; wire = fresh_wire (fresh_programmer chip) fates; waits = []; transcript = []; failures = 0 }
 
--- A plan was made, whose images have the sizes of their memories. The file was locked, and a chip of the plan's part,
--- with memories of its sizes, was loaded from it. The session ran to a status over a new wire to that chip, on which
--- no frame goes wrong. Unless it stopped, it is the expected run. If anything was sent, the chip as the wire left it
--- was saved to the file, which was then unlocked. The desk after planning, loading and the session is `planned_desk`,
--- `loaded_desk` and `played_desk`.
+-- A plan was made, whose images have the sizes of their memories, and which reads no memory into the file. The file was
+-- locked, and a chip of the plan's part, with memories of its sizes, was loaded from it. The session ran to a status
+-- over a new wire to that chip, on which no frame goes wrong. Unless it stopped, it is the expected run. If anything was
+-- sent, the chip as the wire left it was saved to the file, which was then unlocked. The desk after planning, loading
+-- and the session is `planned_desk`, `loaded_desk` and `played_desk`.
 pub record RunsOverEmulator (settings : Settings) (file : Bytes) (old now : DeskState) (status : ℕ) : Type 0 where
   pub plan : Plan
   pub chip : Chip
@@ -47,6 +95,7 @@ pub record RunsOverEmulator (settings : Settings) (file : Bytes) (old now : Desk
   pub played_desk : DeskState
   pub made : StageCompleted (planned settings) old planned_desk (Produced plan)
   pub fitted : All (IsFitted plan.part) plan.tasks
+  pub apart : any_reads_into file plan.tasks ≡ false
   pub loaded : LockedAndLoaded plan.part file planned_desk loaded_desk chip
   pub part : chip.part ≡ plan.part
   pub sound : IsSoundChip chip
@@ -62,5 +111,5 @@ pub record RunsOverEmulator (settings : Settings) (file : Bytes) (old now : Desk
 -- sent.
 abbrev pub RunsEmulator : Settings → Bytes → DeskState → DeskState → ℕ → Type 0
 RunsEmulator settings file old now status = RunsOverEmulator settings file old now status
-    ⊎ (WithPlan settings old (λ plan desk. LocksAndLoads plan.part file desk now (Err status))
+    ⊎ (WithPlan settings old (λ plan desk. TakesChip plan file desk now (Err status))
     ⊎ LacksPlan settings old now status)

@@ -8,15 +8,17 @@ use Rattle.avr_desk.specs.Record.{DeskState, ChangesRecord, Bytes, after_err}
 use Rattle.avr_desk.specs.declared.record.Opening.{Opening}
 use Rattle.avr_desk.specs.declared.record.Opening.TheVariants.{Found}
 use Rattle.avr_desk.specs.Lines.{memory_line, not_opened_line, not_read_line}
-use Rattle.avr_desk.specs.StageRuns.{BreakCause, LineNotPrinted, NotOpened, NotRead, NoMemory, NoMemoryForFile, opened_and_read_in_part}
+use Rattle.avr_desk.specs.StageRuns.{AllocatesThere, BreakCause, BreakFitsNext, LineNotPrinted, NotOpened, NotRead, NoMemoryForFile, opened_and_read_in_part}
 use Rattle.avr_desk.specs.OutputEvents.{OutputEvent, Opens, PrintsLine, IsPartOfEvent, IsBytePrefixOf, after_events}
 use Rattle.avr_plan.specs.Plan.{Plan}
 use Rattle.avr_plan.specs.Planning.{LacksPart, planned}
 use Rattle.avr_plan.specs.AllocationPoints.{AtAllocatingUpdate}
 use Rattle.avr_desk.specs.StageRuns.{StageBrokeOff}
-use Rattle.avr_desk.specs.Stage.{StageOutcome, Produced, Refused, NotReadToEnd, next_opening}
+use Rattle.avr_desk.specs.Stage.{StageOutcome, Produced, Refused, NotReadToEnd}
 use Rattle.avr_session.specs.Run.{LacksPlan, RunsSession, StopsSession, WithPlan}
-use Rattle.avr_session.specs.Runs.{Devices, devices, start, Cause, NoDeviceFailed, StopsAt, cause_line}
+use Rattle.avr_session.specs.Actions.{actions}
+use Rattle.avr_session.specs.AllocationPoints.{AtAllocation}
+use Rattle.avr_session.specs.Runs.{Devices, devices, start, Cause, AllocationFailed, NoDeviceFailed, StopsAt, cause_line}
 use Rattle.avr_session.specs.Session.{session}
 use Rattle.avr_tool.specs.OverFaultyLink.{SessionOverWire, wire_and_desk}
 use Rattle.stk_emu.specs.Wired.{WiredState}
@@ -105,25 +107,31 @@ opened_at (InPlanning (NotRead name bytes)) = opened_and_read_in_part name bytes
 opened_at (InPlanning (NoMemoryForFile reading)) = Opens (Found reading) ∷ []
 opened_at reason = []
 
--- This event is the next one of the run.
-abbrev pub IsNext : OutputEvent → List (Event OutputEvent) → Type 0
-IsNext event later = (behind : List (Event OutputEvent)) × (later ≡ Emitted event ∷ behind)
-
--- A break in planning fits what it left out: the line that couldn't be printed, or the file that couldn't be opened or
--- read, is the next one.
+-- A break in planning fits what it left out, which begins with output events: the line that couldn't be printed, or the
+-- file that couldn't be opened or read, is the next one.
 abbrev pub FitsNext : BreakCause → List Opening → List (Event OutputEvent) → Type 0
-FitsNext (LineNotPrinted line) openings later = IsNext (PrintsLine line) later
-FitsNext (NotOpened name) openings later = IsNext (Opens (next_opening name openings)) later
-FitsNext (NotRead name bytes) openings later = IsNext (Opens (next_opening name openings)) later
-FitsNext NoMemory openings later = Unit {0}
-FitsNext (NoMemoryForFile reading) openings later = IsNext (Opens (next_opening reading.name openings)) later
+FitsNext break openings later = (next : List OutputEvent) × (behind : List (Event OutputEvent))
+    × (later ≡ map Emitted next ++ behind) × BreakFitsNext break openings next
 
--- The reason fits the place where the run stopped, given the openings that would have followed. In planning the last
--- event is whole.
-abbrev pub StopsThere : {shown events : List (Event OutputEvent)} → Reason → Transcript → List Opening
-    → IsPrefixOfEvents IsPartOfEvent shown events → Type 0
-StopsThere (InSession cause) during openings prefix = StopsAt cause during prefix.whole prefix.begun prefix.later
-StopsThere (InPlanning break) during openings prefix = (prefix.begun ≡ []) × FitsNext break openings prefix.later
+-- These events are those of planning, which made a plan, and then those of its session up to an action that allocates.
+abbrev pub StopsAtAllocation : Settings → List Opening → Transcript → List (Event OutputEvent) → Type 0
+StopsAtAllocation settings openings during events =
+    let p = planned settings openings in
+    (plan : Plan) × (shown : List (Event OutputEvent)) × (p.stage_outcome ≡ Produced plan)
+    × (events ≡ map Emitted p.output_events ++ shown)
+    × AtAllocation plan.part plan.switches (actions plan) start during shown
+
+-- The reason fits the place where the run stopped, given the openings so far and those that would have followed. In
+-- planning the last event is whole. Allocation failed only for the next file, at an update that allocates without a
+-- file, or at an action that allocates.
+abbrev pub StopsThere : {shown events : List (Event OutputEvent)} → Settings → List Opening → Reason → Transcript
+    → List Opening → IsPrefixOfEvents IsPartOfEvent shown events → Type 0
+StopsThere {shown = shown} settings openings (InSession cause) during later prefix =
+    StopsAt cause during prefix.whole prefix.begun prefix.later
+    × (cause ≡ AllocationFailed → StopsAtAllocation settings (openings ++ later) during shown)
+StopsThere settings openings (InPlanning break) during later prefix =
+    (prefix.begun ≡ []) × FitsNext break later prefix.later
+    × AllocatesThere (AtAllocatingUpdate settings) break openings (outputs prefix.whole)
 
 -- What a stopped run did is a prefix of the run over what was received; only the last event may be incomplete. At the
 -- desk this was done, and then perhaps a part of the next file was read. Then the line of the reason was reported, or a
@@ -136,7 +144,7 @@ pub record IsPrefixOfRun (settings : Settings) (before now : Devices) : Type 0 w
   pub notice : Bytes
   pub prefix : (later : List Opening) → IsPrefixOfEvents IsPartOfEvent shown
       (run settings (openings ++ later) (heard during)).events
-  pub place : (later : List Opening) → StopsThere reason during later (prefix later)
+  pub place : (later : List Opening) → StopsThere settings openings reason during later (prefix later)
   pub in_turn : (later : List Opening) → IsInTurn (planned settings (openings ++ later)).stage_outcome during
   pub all_sent : bytes_sent shown ≡ sent during
   pub grows : Grows before.link.transcript during now.link.transcript

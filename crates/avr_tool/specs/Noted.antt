@@ -3,7 +3,7 @@ use Rattle.std.specs.Prelude.{ℕ, List, [], Option, None}
 use Rattle.avr_desk.specs.Record.{Bytes}
 use Rattle.avr_desk.specs.declared.record.Writing.{Writing}
 
--- The held file, all replacements, also failed ones, and how many releases were asked for.
+-- The held file, the replacements that created their file, also failed ones, and how many releases were asked for.
 pub record Noted : Type 0 where
   pub held : Option Bytes
   pub tried : List Writing

@@ -16,7 +16,7 @@ pub(crate) enum Note<'a> {
     Tried(&'a [u8], &'a [u8]),
 }
 
-/// The held file, all replacements, and how many releases were asked for.
+/// The held file, the replacements that created their file, also failed ones, and how many releases were asked for.
 #[derive(Debug, Drop)]
 pub(crate) struct Notes {
     pub ghost noted: { Noted },

@@ -43,6 +43,7 @@ pub fn the_numbers_are()
         (if nat_lt 131072 part.flash_size then start / 2 + EXTENDED_ADDRESS else start / 2) }
     ensures extended { EXTENDED_ADDRESS ≡ 2147483648 }
     ensures reads { READS ≡ 16777216 }
+    // The limits of `block` and `noise` are private constants of stk_emu, so their definitions are unfolded here.
     ensures block { (f : ReadBlock) (p : Programmer) → read_flash f p ≡
         if_programming 0x14 p (not (f.count == 0) && f.count % 2 == 0 && nat_le f.count 272)
         (block_response 0x14 (flash_reads p.wide f.cmd1 p.address 0 f.count p.chip)

@@ -1,4 +1,4 @@
-ghost use Rattle.std.specs.Prelude.{◌≡◌};
+ghost use Rattle.std.specs.Prelude.{◌≡◌, IfOk};
 ghost use Rattle.avr_desk.specs.Fault.{CountsNeverFall};
 ghost use Rattle.avr_tool.specs.OverFaultyLink.{SessionOverWire};
 ghost use Rattle.avr_session.specs.Run.{RunsSession};
@@ -7,13 +7,14 @@ ghost use Rattle.stk_emu.specs.Wired.{ComesOf, IsFresh, wired_link};
 ghost use Rattle.ghosts.specs.Preserves.{Preserves};
 ghost use Rattle.stk_host.specs.Transcript.{sent};
 ghost use Rattle.avr_part.specs.ChipFile.{chip_file};
-ghost use Rattle.avr_tool.specs.Emulated.{IsSavedIfSent, RunsEmulator};
+ghost use Rattle.avr_tool.specs.Emulated.{IsSavedIfSent, ChecksRead, ChecksReads, RunsEmulator, TakesChip, any_reads_into, reads_into};
 ghost use Rattle.avr_tool.specs.Ports.{IsEmulated, chip_file_of};
 
 use crate::chip_files::{hold_chip, save_after};
 use crate::ports::chip_file as file_of;
-use avr_desk::{ChipDesk, Desk};
-use avr_plan::{Plan, Settings, plan};
+use avr_desk::{ChipDesk, Desk, not_created_message, refuse};
+use avr_part::Chip;
+use avr_plan::{Plan, Settings, Task, plan};
 use avr_session::drive;
 use std::alloc::Global;
 use stk_emu::{Fates, Recorder, Wired};
@@ -45,6 +46,63 @@ pub fn drive_wired<D: Desk, R: Recorder>(
     plan.is_sound();
     wire.chip().is_sound();
     drive(alloc, plan, desk, wire)
+}
+
+/// Returns whether the task reads a memory into the file of this name.
+fn reads_into(task: &Task, file: &str) -> bool
+    ensures { result ≡ reads_into file.now task.now }
+{
+    matches!(task, Task::Read { file: into, .. } if into.as_str() == file)
+}
+
+/// Returns whether one of the tasks does.
+fn any_reads_into(tasks: &[Task], file: &str) -> bool
+    ensures { result ≡ any_reads_into file.now tasks.now }
+{
+    tasks.iter().any(|task| reads_into(task, file))
+}
+
+/// Checks that a memory read into this file is read neither into the held file nor into one that the desk makes beside
+/// it. Otherwise the held file is unlocked.
+fn check_read<D: ChipDesk>(into: &str, desk: &mut D) -> Result<(), u8>
+    ensures checks { ChecksRead into.now (D.view desk.old) (D.view desk.new) result }
+    ensures stays { Preserves D.started_as desk.old desk.new }
+{
+    match desk.check_name(into) {
+        Ok(()) => Ok(()),
+        Err(_) => {
+            desk.release();
+            Err(refuse(desk, &not_created_message(into)))
+        }
+    }
+}
+
+/// Does the same for each task that reads a memory.
+fn check_reads<D: ChipDesk>(tasks: &[Task], desk: &mut D) -> Result<(), u8>
+    ensures checks { ChecksReads tasks.now (D.view desk.old) (D.view desk.new) result }
+    ensures stays { Preserves D.started_as desk.old desk.new }
+{
+    for task in tasks {
+        if let Task::Read { file, .. } = task {
+            check_read(file.as_str(), desk)?;
+        }
+    }
+    Ok(())
+}
+
+/// Locks the chip file of a plan and loads its chip. Refuses a plan that reads a memory into this file, or into one that
+/// the desk makes beside it: what was read would be lost when the chip is saved.
+fn take_chip<D: ChipDesk>(alloc: Global, plan: &Plan, file: &str, desk: &mut D) -> Result<Chip, u8>
+    ensures takes { TakesChip plan.now file.now (D.view desk.old) (D.view desk.new) result }
+    ensures part { IfOk result (λ c. c.part ≡ plan.now.part) }
+    ensures stays { Preserves D.started_as desk.old desk.new }
+{
+    if any_reads_into(plan.tasks(), file) {
+        return Err(refuse(desk, &not_created_message(file)));
+    }
+    let chip = hold_chip(alloc, plan.part(), file, desk)?;
+    check_reads(plan.tasks(), desk)?;
+    Ok(chip)
 }
 
 /// Saves the chip of a wire if anything was sent over it, unlocks its file, and returns the run's status.
@@ -92,7 +150,7 @@ pub fn run_emu<D: ChipDesk>(alloc: Global, settings: &Settings, desk: &mut D) ->
         Err(status) => return status,
     };
     let file = file_of(&settings.port);
-    let chip = match hold_chip(alloc, plan.part(), file, desk) {
+    let chip = match take_chip(alloc, &plan, file, desk) {
         Ok(chip) => chip,
         Err(status) => return status,
     };

@@ -1,7 +1,6 @@
 //! Runs with a chip file at a desk that can neither lock a file nor replace it whole.
 ghost use Rattle.std.specs.Prelude.{◌≡◌, ◌+◌, ◌&&◌, not, false, OnOk, OnErr};
 ghost use Rattle.ghosts.specs.Failures.{counted};
-ghost use Rattle.ghosts.specs.Preserves.{Preserves};
 ghost use Rattle.avr_desk.specs.Fault.{CountsFailure, IsCall};
 ghost use Rattle.avr_desk.specs.Record.{ChangesRecord, Replaces, after_write};
 ghost use Rattle.avr_desk.specs.Stream.{SendsPart};
@@ -21,7 +20,8 @@ use std::marker::Model;
 /// - [`ChipDesk::replace`] creates the file and writes it. If a write fails or the process ends meanwhile, the file
 ///   has only a prefix of the new bytes, and the old bytes are lost.
 ///
-/// After a failed replacement each call for a file fails. A file that `inner` had open counts as closed.
+/// After a replacement that created the file and then failed, opening, creating, reading, writing and replacing a file
+/// fail. A file that `inner` had open counts as closed.
 ///
 /// ```text
 /// let mut settings = Settings::for_link(alloc, "m328p")?;

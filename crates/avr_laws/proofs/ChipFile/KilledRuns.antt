@@ -10,11 +10,12 @@ use Rattle.avr_desk.specs.Shown.{IsNewDesk, Shown, RecordsAll, system_desk_view}
 use Rattle.avr_desk.specs.Stage.{Stage, StageOutcome}
 use Rattle.avr_desk.specs.declared.file_system.FileSystem.{Ghosts}
 use Rattle.avr_desk.specs.declared.record.Writing.{Writing}
-use Rattle.avr_tool.specs.Emulated.{RunsEmulator}
+use Rattle.avr_tool.specs.Emulated.{RunsEmulator, TakesChip}
 use Rattle.avr_tool.specs.Holding.{LocksAndLoads, LockedAndLoaded}
 use Rattle.avr_laws.specs.Killed.{LeavesOldOrNew, chip_file_of_part, chip_file_of_run, chip_file_of_server}
 use Rattle.avr_tool.specs.ServedRun.{RunsServedFor, ServesPart, ReportsIfAny, end_pieces}
 use Rattle.avr_part.specs.Part.{Part}
+use Rattle.avr_plan.specs.Plan.{Plan}
 use Rattle.avr_part.specs.State as chips
 use Rattle.avr_session.specs.Runs.{Devices, devices}
 use Rattle.stk_host.specs.Transcript.{LinkState}
@@ -50,6 +51,13 @@ pub tried_unloaded : (part : Part) (file : Bytes) (old new : DeskState) (status 
 tried_unloaded part file old new status (inl unheld) = grind arith
 tried_unloaded part file old new status (inr vain) = cc (tried_goes _ _ _ _ _ vain.refused)
 
+tried_untaken : (plan : Plan) (file : Bytes) (old new : DeskState) (status : ℕ)
+    → TakesChip plan file old new (Err status) → tried_at new ≡ tried_at old
+tried_untaken plan file old new status (inl own) = grind arith
+tried_untaken plan file old new status (inr (apart, inl unloaded)) = tried_unloaded _ _ _ _ _ unloaded
+tried_untaken plan file old new status (inr (apart, inr then)) =
+    (search rules) ∙ tried_loaded _ _ _ _ _ then.loaded
+
 -- ---- it tries no other bytes than its chip's
 
 -- no replacement was tried, or one with the file of the chip
@@ -62,7 +70,7 @@ run_tries : (settings : Settings) (file : Bytes) (old new : DeskState) (status :
     → TriesOnly file (chip_file_of_run settings file old new status r) (tried_at new)
 run_tries settings file old new status (inl r) none = search (rules, tried_loaded, tried_went, tried_all)
 run_tries settings file old new status (inr (inl with)) none =
-    tried_unloaded _ _ _ _ _ with.then_is ∙ tried_went _ _ _ _ with.made ∙ none
+    tried_untaken _ _ _ _ _ with.then_is ∙ tried_went _ _ _ _ with.made ∙ none
 run_tries settings file old new status (inr (inr lacks)) none = tried_goes _ _ _ _ _ lacks.goes ∙ none
 
 pub part_tries : (part : Part) (file : Bytes) (most_reads : ℕ) (old new : Devices) (status : ℕ)

@@ -161,7 +161,7 @@ few_steady (one_exchange ∷ exchanges) few =
 -- ---- attempts and steps of a programmer that never restarts
 
 -- whenever the dialog ends with a reply, an attempt of `size` frames was tried
-abbrev Tries : ℕ → List Exchange → List ℕ → Dialog ⊥ Reply → Spot → Type 0
+abbrev Tries : ℕ → List Exchange → List ℕ → Dialog ⊥ Reply → Spot Programmer → Type 0
 Tries size exchanges got d z = Runs steady (λ y. ⊤) (λ reply y. Tried size exchanges got reply y.1
     × AtMostThreeBadOfSeven y.1) d z
 
@@ -189,7 +189,8 @@ module _ (go_on : List ℕ → Dialog ⊥ Reply) (go : List ℕ → Reply) (size
   by_exchange one_exchange command p is calm each has = search (rules, replied)
 
 -- an attempt whose commands would all have data: the data come, or a frame went wrong
-attempt_tried : (commands : List Command) (before : List ℕ) (z : Spot) (got : List ℕ) → AtMostThreeBadOfSeven z.1
+attempt_tried : (commands : List Command) (before : List ℕ) (z : Spot Programmer) (got : List ℕ)
+    → AtMostThreeBadOfSeven z.1
     → joined_reply steady commands before z.0 ≡ Data got → Tries (length commands) z.1 got (attempt commands before) z
 unfolding attempt exchange
 attempt_tried [] before z got few has = done (inl has, few)
@@ -205,20 +206,20 @@ attempt_tried (command ∷ commands) before z got few has =
 module _ (Before After : Programmer → Type 0) (commands : List Command) (got : List ℕ)
     (fits : IsRepeatable steady commands Before After) (short : length commands ≤ 2)
     (has : (q : Programmer) → Before q ⊎ After q → joined_reply device commands [] q ≡ Data got) where
-  abbrev Whole : StepOutcome → Spot → Type 0
+  abbrev Whole : StepOutcome → Spot Programmer → Type 0
   Whole o z = ((o ≡ Ok got) × After z.0) × AtMostThreeBadOfSeven z.1
 
   -- with this many attempts left
-  abbrev Begins : ℕ → Spot → Type 0
+  abbrev Begins : ℕ → Spot Programmer → Type 0
   Begins zero z = ⊥
   Begins (suc more) z = (Before z.0 ⊎ After z.0) × (AtMostThreeBadOfSeven z.1 × Clear more z.1)
 
-  again : (more : ℕ) (place : ℕ) (exchanges : List Exchange) (y : Spot) → suc place ≤ length commands
+  again : (more : ℕ) (place : ℕ) (exchanges : List Exchange) (y : Spot Programmer) → suc place ≤ length commands
       → 1 ≤ badness (first_exchange (behind place exchanges)) → y.1 ≡ later_exchanges (behind place exchanges)
       → Clear more exchanges → Before y.0 ⊎ After y.0 → AtMostThreeBadOfSeven y.1 → Begins more y
   again more place exchanges y near wrong is clear stood few = search (rules, clear_behind)
 
-  after_try : (more : ℕ) (exchanges : List Exchange) → Clear more exchanges → (reply : Reply) (y : Spot)
+  after_try : (more : ℕ) (exchanges : List Exchange) → Clear more exchanges → (reply : Reply) (y : Spot Programmer)
       → OnReply (λ q. Before q ⊎ After q) (AfterStep steady commands Before After fits) reply y.0
       × (Tried (length commands) exchanges got reply y.1 × AtMostThreeBadOfSeven y.1)
       → OnReply (Begins more) Whole reply y
@@ -230,7 +231,8 @@ module _ (Before After : Programmer → Type 0) (commands : List Command) (got :
       again more s.place exchanges y s.near s.went_wrong s.behind_it clear stood few
   after_try more exchanges clear (Stop fault) y f' = search rules
 
-  step_steady : (z : Spot) → Before z.0 → AtMostThreeBadOfSeven z.1 → Runs steady (λ y. ⊤) Whole (step commands) z
+  step_steady : (z : Spot Programmer) → Before z.0 → AtMostThreeBadOfSeven z.1
+      → Runs steady (λ y. ⊤) Whole (step commands) z
   step_steady z before few =
       attempts (this_link steady) (λ bytes y. ⊤) commands Begins Whole
       (λ more y begins. wider (λ bytes y x. tt) (λ e y x. x) (after_try more y.1 begins.1.1)

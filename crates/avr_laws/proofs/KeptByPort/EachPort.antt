@@ -1,82 +1,95 @@
 -- Status 0 of the program means that its plan was kept, whatever its port.
-use Rattle.std.proofs.Common.{◌≡◌, ◌∙◌, inl, inr, refl, sym, subst, ℕ, [], Some}
+use Rattle.std.proofs.Common.{◌≡◌, ◌⊎◌, ◌∙◌, inl, inr, refl, sym, ap, subst, ℕ, [], Some}
 use Rattle.avr_plan.specs.declared.settings.Port.{Port}
 use Rattle.avr_plan.specs.declared.settings.Port.TheVariants.{Stdio, Emulated, Network, Served}
 use Rattle.avr_plan.specs.declared.settings.Settings.{Settings}
-use Rattle.avr_desk.specs.Record.{Bytes, DeskState}
+use Rattle.avr_desk.specs.Record.{Bytes, DeskState, Record}
+use Rattle.avr_plan.specs.Plan.{Plan}
 use Rattle.avr_session.specs.Run.{RunsSession, WithPlan}
 use Rattle.avr_session.specs.Runs.{Devices, devices}
 use Rattle.avr_tool.proofs.Runs.Joined.{session_is_run}
 use Rattle.avr_tool.specs.Emulated.{RunsEmulator}
+use Rattle.avr_tool.specs.Headline.{IsRun, IsStopped}
 use Rattle.avr_tool.specs.OverNet.{RunsOverNet, new_link}
 use Rattle.avr_tool.specs.Program.{ActsAtPort, StartsProgram}
 use Rattle.avr_tool.specs.Sockets.{Peers}
 use Rattle.avr_tool.specs.declared.command_line.CommandLine.{Ghosts as CommandLine}
-use Rattle.stk_host.specs.Transcript.{LinkState}
+use Rattle.stk_host.specs.Transcript.{LinkState, Transcript}
 use Rattle.avr_laws.proofs.KeptByPort.InFile.{file_kept, no_one}
-use Rattle.avr_laws.proofs.Outcomes.Kept.{promised}
-use Rattle.avr_laws.specs.Kept.{IsKept}
+use Rattle.avr_laws.specs.AskedPlan.{FileGave, IsAsked}
 use Rattle.avr_laws.specs.KeptByPort.{IsKeptInFile, KeepsPlanAt, KeepsPlan, KeepsCommandLine}
 
--- ---- a connection
+-- `run` with status 0 keeps so much of its plan
+module _ (Kept : Plan → Transcript → Record → Record → Type 0)
+    (promised : (s : Settings) (x y : Devices) (status : ℕ) → (IsRun s x y status ⊎ IsStopped s x y status)
+    → status ≡ 0 → x.link.transcript ≡ [] → (plan : Plan) × (IsAsked s (FileGave x.desk.kept y.desk.kept) plan
+    × Kept plan y.link.transcript x.desk.kept y.desk.kept)) where
+  -- ---- a connection
 
-over_link : (s : Settings) (old new : DeskState) (link : LinkState)
-    → WithPlan s old (λ plan desk. RunsSession plan (devices new_link desk) (devices link new) 0)
-    → KeepsPlan s old.kept new.kept (λ plan. IsKept plan link.transcript old.kept new.kept)
-over_link s old new link with =
-    elim (session_is_run s with.plan (devices new_link old) with.between (devices link new) 0 with.made
-    with.then_is).1 [
-      | inl ran ↦ promised s (devices new_link old) (devices link new) 0 (inl ran.0) refl refl
-      | inr stopped ↦ absurd (no_one stopped.1)
-    ]
+  over_link : (s : Settings) (old new : DeskState) (link : LinkState)
+      → WithPlan s old (λ plan desk. RunsSession plan (devices new_link desk) (devices link new) 0)
+      → KeepsPlan s old.kept new.kept (λ plan. Kept plan link.transcript old.kept new.kept)
+  over_link s old new link with =
+      elim (session_is_run s with.plan (devices new_link old) with.between (devices link new) 0 with.made
+      with.then_is).1 [
+        | inl ran ↦ promised s (devices new_link old) (devices link new) 0 (inl ran.0) refl refl
+        | inr stopped ↦ absurd (no_one stopped.1)
+      ]
 
-over_net : (peers : Peers) (s : Settings) (address : Bytes) (old new : DeskState)
-    → RunsOverNet peers.unused (peers.at_address address) s address old new 0
-    → (link : LinkState) × peers.at_address address (Some link)
-    × KeepsPlan s old.kept new.kept (λ plan. IsKept plan link.transcript old.kept new.kept)
-over_net peers s address old new (inl (link, over, with)) = (link, over, over_link s old new link with)
-over_net peers s address old new (inr (inl (over, with, one))) = absurd (no_one one)
-over_net peers s address old new (inr (inr (lacks, unused))) = absurd (no_one lacks.goes.0)
+  over_net : (peers : Peers) (s : Settings) (address : Bytes) (old new : DeskState)
+      → RunsOverNet peers.unused (peers.at_address address) s address old new 0
+      → (link : LinkState) × peers.at_address address (Some link)
+      × KeepsPlan s old.kept new.kept (λ plan. Kept plan link.transcript old.kept new.kept)
+  over_net peers s address old new (inl (link, over, with)) = (link, over, over_link s old new link with)
+  over_net peers s address old new (inr (inl (over, with, one))) = absurd (no_one one)
+  over_net peers s address old new (inr (inr (lacks, unused))) = absurd (no_one lacks.goes.0)
 
--- ---- the emulator
+  -- ---- the emulator
 
-over_emulator : (s : Settings) (file : Bytes) (old new : DeskState) → RunsEmulator s file old new 0
-    → KeepsPlan s old.kept new.kept (λ plan. IsKeptInFile file plan old.kept new.kept)
-over_emulator s file old new (inl r) = file_kept s file old new r
-over_emulator s file old new (inr (inl with)) = elim with.then_is [
-  | inl unheld ↦ absurd (no_one unheld.0)
-  | inr vain ↦ absurd (no_one vain.refused.0)
-]
-over_emulator s file old new (inr (inr lacks)) = absurd (no_one lacks.goes.0)
+  over_emulator : (s : Settings) (file : Bytes) (old new : DeskState) → RunsEmulator s file old new 0
+      → KeepsPlan s old.kept new.kept (λ plan. IsKeptInFile file plan old.kept new.kept)
+  over_emulator s file old new (inl r) = file_kept s file old new r
+  over_emulator s file old new (inr (inl with)) = elim with.then_is [
+    | inl (own, one, told) ↦ absurd (no_one one)
+    | inr (apart, inl (inl unheld)) ↦ absurd (no_one unheld.0)
+    | inr (apart, inl (inr vain)) ↦ absurd (no_one vain.refused.0)
+    | inr (apart, inr then) ↦ absurd (no_one then.refused.0)
+  ]
+  over_emulator s file old new (inr (inr lacks)) = absurd (no_one lacks.goes.0)
 
--- ---- each port
+  -- ---- each port
 
-at_port : (peers : Peers) (port : Port) (s : Settings) (old new : Devices) → old.link.transcript ≡ []
-    → ActsAtPort peers port s old new 0
-    → KeepsPlanAt peers.at_address port s new.link.transcript old.desk.kept new.desk.kept
-at_port peers Stdio s old new silent acts = promised s old new 0 acts.0 refl silent
-at_port peers (Emulated file) s old new silent acts = over_emulator s file old.desk new.desk acts.0
-at_port peers (Network address) s old new silent acts = over_net peers s address old.desk new.desk acts.0
-at_port peers (Served port file) s old new silent acts = tt
+  none_passed : (old new : Devices) → old.link.transcript ≡ [] → new.link ≡ old.link → new.link.transcript ≡ []
+  none_passed old new silent same = ap (λ (link : LinkState). link.transcript) same ∙ silent
 
--- ---- the whole program
+  at_port : (peers : Peers) (port : Port) (s : Settings) (old new : Devices) → old.link.transcript ≡ []
+      → ActsAtPort peers port s old new 0
+      → KeepsPlanAt Kept peers.at_address port s new.link.transcript old.desk.kept new.desk.kept
+  at_port peers Stdio s old new silent acts = promised s old new 0 acts.0 refl silent
+  at_port peers (Emulated file) s old new silent acts =
+      (none_passed old new silent acts.1, over_emulator s file old.desk new.desk acts.0)
+  at_port peers (Network address) s old new silent acts =
+      (none_passed old new silent acts.1, over_net peers s address old.desk new.desk acts.0)
+  at_port peers (Served port file) s old new silent acts = none_passed old new silent acts.1
 
-pub words_kept : {C : Type 0} (line : CommandLine C) (peers : Peers) (old new : Devices) (status : ℕ)
-    → StartsProgram line peers old new status → status ≡ 0 → old.link.transcript ≡ []
-    → KeepsCommandLine line.is_words peers.at_address new.link.transcript old.desk.kept new.desk.kept
-words_kept line peers old new status (inl (words, are, inl (inl took))) zero silent = (
-  words,
-  are,
-  λ takes. (
-    took.settings,
-    took.asked,
-    at_port peers took.settings.port took.settings old new silent
-        (subst (λ (k : ℕ). ActsAtPort peers took.settings.port took.settings old new k) zero took.runs),
-  ),
-)
-words_kept line peers old new status (inl (words, are, inl (inr refuses))) zero silent =
-    absurd (no_one (sym zero ∙ refuses.status_is))
-words_kept line peers old new status (inl (words, are, inr usage)) zero silent =
-    (words, are, λ taken. absurd (usage.leaves.not_taken taken))
-words_kept line peers old new status (inr (unread, one, notice, same, unused)) zero silent =
-    absurd (no_one (sym zero ∙ one))
+  -- ---- the whole program
+
+  pub words_kept : {C : Type 0} (line : CommandLine C) (peers : Peers) (old new : Devices) (status : ℕ)
+      → StartsProgram line peers old new status → status ≡ 0 → old.link.transcript ≡ []
+      → KeepsCommandLine Kept line.is_words peers.at_address new.link.transcript old.desk.kept new.desk.kept
+  words_kept line peers old new status (inl (words, are, inl (inl took))) zero silent = (
+    words,
+    are,
+    λ takes. (
+      took.settings,
+      took.asked,
+      at_port peers took.settings.port took.settings old new silent
+          (subst (λ (k : ℕ). ActsAtPort peers took.settings.port took.settings old new k) zero took.runs),
+    ),
+  )
+  words_kept line peers old new status (inl (words, are, inl (inr refuses))) zero silent =
+      absurd (no_one (sym zero ∙ refuses.status_is))
+  words_kept line peers old new status (inl (words, are, inr usage)) zero silent =
+      (words, are, λ taken. absurd (usage.leaves.not_taken taken))
+  words_kept line peers old new status (inr (unread, one, notice, same, unused)) zero silent =
+      absurd (no_one (sym zero ∙ one))

@@ -2,7 +2,6 @@
 use Rattle.std.proofs.Common.{◌≡◌, ℕ, zero, suc, List, subst, rules, []}
 use Rattle.stk_emu.specs.DialogOverExchanges.{state_after}
 use Rattle.stk_emu.specs.Device.{Device}
-use Rattle.stk_emu.specs.Programmer.{Programmer}
 use Rattle.stk_emu.specs.Exchange.{Exchange, first_exchange}
 use Rattle.stk_host.proofs.Dialogs.Logic.{HoldsFrom, NoOutput}
 use Rattle.stk_host.specs.Dialog.{Dialog, Done, Emit, Ask, Event, played, bytes_sent}
@@ -13,13 +12,14 @@ use Rattle.stk_host.specs.Play.{Progress, progress_at, Plays, IsBytePrefixOf}
 use Rattle.avr_tool.proofs.Hosts.OneLink.{Spot, this_link, Runs, spot}
 use Rattle.avr_tool.proofs.Sure.Good.{IsSteady, AreSteady}
 
-module _ (m : Device Programmer) where
+module _ {P : Type 0} (m : Device P) where
   -- when it is done
-  pub where_done : {R : Type 0} {During : Spot → Type 0} {After : R → Spot → Type 0} (d : Dialog ⊥ R) (z : Spot)
+  pub where_done : {R : Type 0} {During : Spot P → Type 0} {After : R → Spot P → Type 0} (d : Dialog ⊥ R)
+      (z : Spot P)
       → Runs m During After d z → (k : ℕ) (r : R) → (state_after m k d z.0 z.1).dialog ≡ Done r → After r (spot m k d z)
   where_done {R = R} {During = During} {After = After} d z l = on d z l.holds
     where
-      on : (d : Dialog ⊥ R) (z : Spot) → HoldsFrom (this_link m) (λ bytes y. During y) NoOutput After d z → (k : ℕ)
+      on : (d : Dialog ⊥ R) (z : Spot P) → HoldsFrom (this_link m) (λ bytes y. During y) NoOutput After d z → (k : ℕ)
           → (r : R) → (state_after m k d z.0 z.1).dialog ≡ Done r → After r (spot m k d z)
       on (Done a) z h k r e = subst (λ x. After x z) (done_is {E = ⊥} a r e) h
       on (Emit e d) z h k r is = absurd e

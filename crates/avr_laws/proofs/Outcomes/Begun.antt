@@ -1,4 +1,4 @@
--- Whatever the status, the plan's first write operations were made, and perhaps one more.
+-- Whatever the status, some of the plan's first write operations were made, in order, and no others.
 use Rattle.std.proofs.Common.{◌≡◌, ◌∙◌, ◌⊎◌, ◌≤◌, ℕ, All, List, [], ◌++◌, map, length, take, arith, rules, append-nil, length-append, inl, inr, refl, sym, ap, subst, Some, None}
 use Rattle.std.proofs.lemmas.List.{take-append-le, take_all}
 use Rattle.avr_plan.specs.declared.settings.Port.{Port}
@@ -221,17 +221,17 @@ over_net peers s address old new status (inl (link, over, with)) =
 over_net peers s address old new status (inr (inl (over, with, one))) = inl (inr over)
 over_net peers s address old new status (inr (inr (lacks, unused))) = inl (inl unused)
 
+none : (old new : Devices) → new.link ≡ old.link → old.link.transcript ≡ [] → new.link.transcript ≡ []
+none old new same silent = ap (λ (l : LinkState). l.transcript) same ∙ silent
+
 at_port : (peers : Peers) (port : Port) (s : Settings) (old new : Devices) (status : ℕ) → old.link.transcript ≡ []
     → ActsAtPort peers port s old new status
     → BeginsPlanAt peers.at_address peers.unused port s new.link.transcript old.desk.kept new.desk.kept
-at_port peers Stdio s old new status silent acts = over_streams s old new status silent acts.0
-at_port peers (Emulated file) s old new status silent acts = tt
-at_port peers (Network address) s old new status silent acts =
-    over_net peers s address old.desk new.desk status acts.0
-at_port peers (Served port file) s old new status silent acts = tt
-
-none : (old new : Devices) → new.link ≡ old.link → old.link.transcript ≡ [] → sent new.link.transcript ≡ []
-none old new same silent = ap (λ (l : LinkState). sent l.transcript) same ∙ ap sent silent
+at_port peers Stdio s old new status silent (runs, unused) = (over_streams s old new status silent runs, unused)
+at_port peers (Emulated file) s old new status silent (runs, same, unused) = (none old new same silent, unused)
+at_port peers (Network address) s old new status silent (runs, same) =
+    (none old new same silent, over_net peers s address old.desk new.desk status runs)
+at_port peers (Served port file) s old new status silent (serves, same) = none old new same silent
 
 pub words_begun : {C : Type 0} (line : CommandLine C) (peers : Peers) (old new : Devices) (status : ℕ)
     → StartsProgram line peers old new status → old.link.transcript ≡ []

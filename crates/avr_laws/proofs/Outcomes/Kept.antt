@@ -4,31 +4,34 @@ use Rattle.std.specs.Prelude.{false}
 use Rattle.avr_plan.specs.declared.settings.Settings.{Settings}
 use Rattle.avr_desk.specs.OutputEvents.{OutputEvent}
 use Rattle.avr_desk.specs.Stage.{Produced}
-use Rattle.avr_part.specs.Sound.{IsSoundChip}
+use Rattle.avr_part.specs.Part.{Part, IsPart}
 use Rattle.avr_plan.specs.Plan.{Plan, IsFitted}
 use Rattle.avr_plan.specs.Planning.{planned}
 use Rattle.avr_session.specs.Runs.{Devices}
 use Rattle.avr_session.specs.Session.{session}
 use Rattle.stk_emu.specs.DialogOverExchanges.{SendsValidBodies}
-use Rattle.stk_emu.specs.Device.{Device, device}
+use Rattle.stk_emu.specs.Device.{Device}
 use Rattle.stk_emu.specs.Effect.{Memories, memories_of}
 use Rattle.stk_emu.specs.Exchange.{Execution, after_execution}
-use Rattle.stk_emu.specs.Programmer.{Programmer}
-use Rattle.stk_emu.specs.Settled.{HasMemories}
+use Rattle.stk_emu.specs.Settled.{FitsPart}
 use Rattle.stk_frame.specs.Cut.{cut, frames}
 use Rattle.stk_frame.proofs.Laws.{body_of_frame}
 use Rattle.stk_host.proofs.Dialogs.Logic.{Upholds, NoOutput}
 use Rattle.stk_host.specs.Dialog.{Dialog, Done, Emit, Ask, Played, bytes_sent, continue_with_reading, frames_in, next, played}
 use Rattle.stk_host.specs.Operations.{handshake}
+use Rattle.stk_host.specs.ReadSteps.{signature_steps}
 use Rattle.stk_host.specs.Tape.{Tape, Reading, answer, leading_bytes, reply_byte_limit}
 use Rattle.stk_host.specs.Transcript.{Transcript, heard, sent}
 use Rattle.avr_tool.specs.Headline.{IsRun, IsStopped}
 use Rattle.avr_tool.specs.Authentic.{first_execution, on_reading, later_executions}
 use Rattle.avr_tool.proofs.Hosts.AnyExchange.{over_any_exchange}
 use Rattle.avr_tool.proofs.Hosts.Operations.{beginning_goes}
-use Rattle.avr_tool.proofs.Leads.{AfterBeginning}
+use Rattle.avr_tool.proofs.Emulated.{actions_work, all_work, emulated}
+use Rattle.avr_tool.proofs.Given.FirstSteps.{sound_fits, sound_idle}
 use Rattle.avr_tool.proofs.Lines.InTurn.{frames_sent, sends_whole}
-use Rattle.avr_tool.proofs.OverExchanges.{asks, is_idle, its_part as sound_part, its_sizes}
+use Rattle.avr_tool.proofs.OverFaultyLink.FrameSizes.{session_asks}
+use Rattle.avr_tool.proofs.Plans.Fits.{work}
+use Rattle.avr_tool.proofs.Real.{ActionsWork, AfterBeginning, AllWork, HasMemories, Real}
 use Rattle.avr_laws.specs.AnyTape.{ReceivedSentFrames, after_received_bytes}
 use Rattle.avr_laws.specs.AskedPlan.{FileGave, IsAsked}
 use Rattle.avr_laws.specs.Kept.{HasGeometryOf, IsKept, KeepsOnPart, NoneForged, on_part}
@@ -123,84 +126,93 @@ module _ (s : Settings) (plan : Plan) (x y : Devices) (r : IsRun s x y 0)
       ∙ (ap frames (sym (other_sent s x y r plan made_is silent other are_alike))
       ∙ frames_sent (played (session other) 1 tape).events (sends_whole (session other) 1 tape bodies))
 
-  module _ (p : Programmer) (executions : List Execution) (sound : IsSoundChip p.chip)
-      (fits : HasGeometryOf plan.part p.chip.part) where
+  module _ (part : Part) (sound : IsPart part) (fits : HasGeometryOf plan.part part) where
     -- the plan on the chip's own part
     abbrev its_plan : Plan
-    its_plan = on_part p.chip.part plan
+    its_plan = on_part part plan
 
-    abbrev before : Memories
-    before = memories_of p.chip
-
-    its_tasks : All (IsFitted p.chip.part) plan.tasks
-    its_tasks = tasks_fit plan p.chip.part fits (plan_fitted s r.openings plan made_is)
+    its_tasks : All (IsFitted part) plan.tasks
+    its_tasks = tasks_fit plan part fits (plan_fitted s r.openings plan made_is)
 
     pub its_bodies : SendsValidBodies (session its_plan)
-    its_bodies = asks its_plan p sound refl its_tasks
+    its_bodies = session_asks its_plan sound its_tasks
 
-    -- ---- without -F it has the signature of the plan's part
+    module _ (real : Real part) (p : real.P) (executions : List Execution) (sizes : FitsPart part (real.memories p))
+        (idle : HasMemories real (real.memories p) p) (signs : AllWork real signature_steps (real.memories p))
+        (works : ActionsWork real (work its_plan) (real.memories p)) where
+      abbrev before : Memories
+      before = real.memories p
 
-    begins : Upholds (over_any_exchange device) (λ body q. HasMemories p.chip.part before q) NoOutput
-        (AfterBeginning p.chip.part before) handshake p
-    begins = beginning_goes p.chip.part (sound_part its_plan p sound refl its_tasks) before p
-        (its_sizes its_plan p sound refl its_tasks) (is_idle its_plan p sound refl its_tasks)
+      -- ---- without -F it has the signature of the plan's part
 
-    abbrev run : Dialog OutputEvent ℕ → Played OutputEvent ℕ
-    run d = played d 1 tape
+      begins : Upholds (over_any_exchange real.device) (λ body q. HasMemories real before q) NoOutput
+          (AfterBeginning real before) handshake p
+      begins = beginning_goes part sound real before p sizes signs idle
 
-    ended : (run (from_handshake plan handshake)).outcome ≡ Some (0, r.next, left_over s x y r)
-    ended = sym (ap (λ (d : Dialog OutputEvent ℕ). (run d).outcome) (session_is plan))
-        ∙ ap (λ (q : Played OutputEvent ℕ). q.outcome) (played_is s x y r plan made_is silent)
+      abbrev run : Dialog OutputEvent ℕ → Played OutputEvent ℕ
+      run d = played d 1 tape
 
-    module _ (first : ForgesNoFrame device handshake 1 tape p executions []) where
-      pub own : plan.switches.force ≡ false → p.chip.part.signature ≡ plan.part.signature
-      own unforced =
-          own_signature plan p.chip.part before handshake 1 tape p executions r.next (left_over s x y r) begins.holds
-          (no_forged_frame_authentic device handshake 1 tape p executions [] tt first) ended unforced
+      ended : (run (from_handshake plan handshake)).outcome ≡ Some (0, r.next, left_over s x y r)
+      ended = sym (ap (λ (d : Dialog OutputEvent ℕ). (run d).outcome) (session_is plan))
+          ∙ ap (λ (q : Played OutputEvent ℕ). q.outcome) (played_is s x y r plan made_is silent)
 
-      -- so its session differs in printed lines alone
-      pub are_alike : AreAlike (session plan) (session its_plan)
-      are_alike = session_alike plan p.chip.part fits own
+      module _ (first : ForgesNoFrame real.device handshake 1 tape p executions []) where
+        pub own : plan.switches.force ≡ false → part.signature ≡ plan.part.signature
+        own unforced =
+            own_signature plan part real before handshake 1 tape p executions r.next (left_over s x y r) begins.holds
+            (no_forged_frame_authentic real.device handshake 1 tape p executions [] tt first) ended unforced
 
-    -- ---- none of the frames was forged
+        -- so its session differs in printed lines alone
+        pub are_alike : AreAlike (session plan) (session its_plan)
+        are_alike = session_alike plan part fits own
 
-    module _ (got : List ℕ) (later : List (List ℕ))
-        (came : ReceivedSentFrames got later (frames (sent passed)) executions)
-        (none : NoneForged device (frames (sent passed)) (heard passed) p executions []) where
-      -- none of these, as a reply to those of a dialog that were sent first
-      none_of : {E R : Type 0} (d : Dialog E R) (more : List (List ℕ))
-          → frames (sent passed) ≡ frames_in (played d 1 tape).events ++ more
-          → ForgesNoFrame device d 1 tape p executions []
-      none_of d more are =
-          none_forged device d 1 tape p executions [] more
-          (subst (λ (fs : List (List ℕ)). NoneForged device fs tape p executions []) are
-          (subst (λ (t : Transcript). NoneForged device (frames (sent passed)) (heard t) p executions []) these none))
+      -- ---- none of the frames was forged
 
-      sent_first : IsFirstPart (played handshake 1 tape) (run (from_handshake plan handshake))
-      sent_first = first_frames plan handshake 1 tape (sends_valid its_plan handshake
-          (subst (λ (d : Dialog OutputEvent ℕ). SendsValidBodies d) (session_is its_plan) its_bodies))
+      module _ (got : List ℕ) (later : List (List ℕ))
+          (came : ReceivedSentFrames got later (frames (sent passed)) executions)
+          (none : NoneForged real.device (frames (sent passed)) (heard passed) p executions []) where
+        -- none of these, as a reply to those of a dialog that were sent first
+        none_of : {E R : Type 0} (d : Dialog E R) (more : List (List ℕ))
+            → frames (sent passed) ≡ frames_in (played d 1 tape).events ++ more
+            → ForgesNoFrame real.device d 1 tape p executions []
+        none_of d more are =
+            none_forged real.device d 1 tape p executions [] more
+            (subst (λ (fs : List (List ℕ)). NoneForged real.device fs tape p executions []) are
+            (subst (λ (t : Transcript). NoneForged real.device (frames (sent passed)) (heard t) p executions []) these
+            none))
 
-      first_are : frames (sent passed) ≡ frames_in (played handshake 1 tape).events ++ sent_first.0
-      first_are = ap (λ (t : Transcript). frames (sent t)) these
-          ∙ (ap frames (sym (sent_is s x y r plan made_is silent))
-          ∙ (ap (λ (d : Dialog OutputEvent ℕ). frames (bytes_sent (run d).events)) (session_is plan) ∙ sent_first.1))
+        sent_first : IsFirstPart (played handshake 1 tape) (run (from_handshake plan handshake))
+        sent_first = first_frames plan handshake 1 tape (sends_valid its_plan handshake
+            (subst (λ (d : Dialog OutputEvent ℕ). SendsValidBodies d) (session_is its_plan) its_bodies))
 
-      first_forged : ForgesNoFrame device handshake 1 tape p executions []
-      first_forged = none_of handshake sent_first.0 first_are
+        first_are : frames (sent passed) ≡ frames_in (played handshake 1 tape).events ++ sent_first.0
+        first_are = ap (λ (t : Transcript). frames (sent t)) these
+            ∙ (ap frames (sym (sent_is s x y r plan made_is silent))
+            ∙ (ap (λ (d : Dialog OutputEvent ℕ). frames (bytes_sent (run d).events)) (session_is plan) ∙ sent_first.1))
 
-      kept_on_part : KeepsOnPart p.chip.part plan before (memories_of (after_received_bytes device got later p).chip)
-          x.desk.kept y.desk.kept
-      kept_on_part = record {
-        keeps = promise_for s x y r plan made_is silent its_plan (are_alike first_forged) its_tasks p got later
-            executions sound refl came
-            (subst (λ (t : Transcript). ForgesNoFrame device (session its_plan) 1 (heard t) p executions []) (sym these)
-            (none_of (session its_plan) [] (frames_alike its_plan (are_alike first_forged) its_bodies
-            ∙ sym (append-nil (frames_in (run (session its_plan)).events)))));
-        signature = own first_forged;
-      }
+        first_forged : ForgesNoFrame real.device handshake 1 tape p executions []
+        first_forged = none_of handshake sent_first.0 first_are
+
+        pub kept_on_part : KeepsOnPart part plan before (real.memories (after_received_bytes real.device got later p))
+            x.desk.kept y.desk.kept
+        kept_on_part = record {
+          keeps = promise_for s x y r plan made_is silent its_plan (are_alike first_forged) its_tasks real sound p sizes
+              idle signs works
+              got later executions
+              (subst (λ (t : Transcript). ReceivedSentFrames got later (frames (sent t)) executions) these came)
+              (none_of (session its_plan) [] (frames_alike its_plan (are_alike first_forged) its_bodies
+              ∙ sym (append-nil (frames_in (run (session its_plan)).events))));
+          signature = own first_forged;
+        }
+
+  -- ---- so it is on the emulated chip
 
   pub kept : IsKept plan passed x.desk.kept y.desk.kept
-  kept p got later executions sound fits came none = kept_on_part p executions sound fits got later came none
+  kept p got later executions sound fits came none =
+      let part = p.chip.part in
+      kept_on_part part sound.part fits (emulated part sound.part) p executions (sound_fits p.chip sound)
+      (sound_idle p sound) (all_work part sound.part signature_steps (memories_of p.chip))
+      (actions_work part sound.part (work (on_part part plan)) (memories_of p.chip)) got later came none
 
 -- ---- whatever a call over a link and a desk came to, as avr_tool's `run` states it
 

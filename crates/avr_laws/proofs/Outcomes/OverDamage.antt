@@ -31,6 +31,10 @@ use Rattle.avr_laws.specs.Damaged.{Arrived, Arrival, BringsReplies, tape_of_arri
 use Rattle.avr_laws.specs.NoForgedFrame.{ForgesNoFrame}
 use Rattle.avr_laws.proofs.Lines.Damaged.{arrived_came, brings_no_frame}
 use Rattle.avr_laws.proofs.Outcomes.Alike.{AreAlike, same_frames}
+use Rattle.stk_host.specs.ReadSteps.{signature_steps}
+use Rattle.avr_tool.proofs.Emulated.{actions_work, all_work, emulated}
+use Rattle.avr_tool.proofs.Given.FirstSteps.{sound_fits, sound_idle}
+use Rattle.avr_tool.proofs.Plans.Fits.{work}
 use Rattle.avr_laws.proofs.Outcomes.Kept.{NotForgedThen, are_alike, frames_alike, its_bodies, its_none_forged, kept, on_each_reading}
 use Rattle.avr_laws.proofs.Outcomes.OwnSignature.{from_handshake, session_is}
 use Rattle.avr_laws.proofs.Outcomes.Promise.{same, tape}
@@ -91,13 +95,16 @@ module _ (s : Settings) (plan : Plan) (x y : Devices) (r : IsRun s x y 0)
   its = session (on_part p.chip.part plan)
 
   are : AreAlike (session plan) its
-  are = are_alike s plan x y r made_is silent p executions sound fits
+  are = are_alike s plan x y r made_is silent p.chip.part sound.part fits (emulated p.chip.part sound.part) p executions
+      (sound_fits p.chip sound) (sound_idle p sound)
+      (all_work p.chip.part sound.part signature_steps (memories_of p.chip))
+      (actions_work p.chip.part sound.part (work (on_part p.chip.part plan)) (memories_of p.chip))
       (handshake_forges_none device plan handshake 1 (tape s x y r) p executions []
       (subst (λ (d : Dialog OutputEvent ℕ). ForgesNoFrame device d 1 (tape s x y r) p executions []) (session_is plan)
       forges_none))
 
   bodies : SendsValidBodies its
-  bodies = its_bodies s plan x y r made_is silent p executions sound fits
+  bodies = its_bodies s plan x y r made_is silent p.chip.part sound.part fits
 
   these : frames (sent y.link.transcript) ≡ frames_in (played its 1 (tape s x y r)).events
   these = frames_alike s plan x y r made_is silent (on_part p.chip.part plan) are bodies

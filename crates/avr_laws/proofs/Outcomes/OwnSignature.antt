@@ -12,13 +12,10 @@ use Rattle.avr_plan.specs.Plan.{Plan}
 use Rattle.avr_session.specs.Actions.{Action, erase_actions, tasks_actions}
 use Rattle.avr_session.specs.Session.{emits, standing, reported, unless_fault, opening_output, actions_dialog, ending, session, status_of}
 use Rattle.avr_session.specs.Standing.{Standing, NoFault, Faulty, Over}
-use Rattle.stk_emu.specs.Device.{device}
 use Rattle.stk_emu.specs.DialogOverExchanges.{SendsValidBodies}
 use Rattle.stk_emu.specs.Effect.{Memories}
 use Rattle.stk_emu.specs.Exchange.{Execution, after_exchange, after_execution, IsAuthentic}
 use Rattle.stk_emu.specs.Lawful.{IsFrameBody}
-use Rattle.stk_emu.specs.Programmer.{Programmer}
-use Rattle.stk_emu.specs.Settled.{HasMemories}
 use Rattle.stk_frame.proofs.Laws.{cut_first, frame_is_good, frame_is_piece}
 use Rattle.stk_frame.specs.Cut.{frames}
 use Rattle.stk_frame.specs.Frame.{frame}
@@ -30,7 +27,7 @@ use Rattle.stk_host.specs.Operations.{handshake, host_fault, checked_by, signatu
 use Rattle.stk_host.specs.Steps.{StepOutcome}
 use Rattle.stk_host.specs.Tape.{Tape, Reading, answer}
 use Rattle.avr_tool.proofs.Hosts.AnyExchange.{over_any_exchange}
-use Rattle.avr_tool.proofs.Leads.{AfterBeginning}
+use Rattle.avr_tool.proofs.Real.{Real, HasMemories, AfterBeginning}
 use Rattle.avr_tool.proofs.Lines.InTurn.{IsWhole}
 use Rattle.avr_tool.specs.Authentic.{first_execution, later_executions, on_reading, RepliesAreAuthentic}
 use Rattle.avr_laws.specs.AnyTape.{exchange_by}
@@ -153,13 +150,13 @@ module _ (plan : Plan) where
 
   -- ---- over a link that forges no frame it is the chip's
 
-  module _ (part : Part) (m : Memories) where
-    abbrev Begins : Dialog ⊥ StepOutcome → Programmer → Type 0
-    Begins d p = HoldsFrom (over_any_exchange device) (λ body q. HasMemories part m q) NoOutput
-        (AfterBeginning part m) d p
+  module _ (part : Part) (real : Real part) (m : Memories) where
+    abbrev Begins : Dialog ⊥ StepOutcome → real.P → Type 0
+    Begins d p = HoldsFrom (over_any_exchange real.device) (λ body q. HasMemories real m q) NoOutput
+        (AfterBeginning real m) d p
 
-    pub own_signature : (d : Dialog ⊥ StepOutcome) (n : ℕ) (tape : Tape) (p : Programmer) (executions : List Execution)
-        (seq : ℕ) (left : Tape) → Begins d p → RepliesAreAuthentic device d n tape p executions
+    pub own_signature : (d : Dialog ⊥ StepOutcome) (n : ℕ) (tape : Tape) (p : real.P) (executions : List Execution)
+        (seq : ℕ) (left : Tape) → Begins d p → RepliesAreAuthentic real.device d n tape p executions
         → (played (from_handshake d) n tape).outcome ≡ Some (0, seq, left)
         → s.force ≡ false → part.signature ≡ plan.part.signature
     own_signature (Done outcome) n tape p executions seq left begins authentic is unforced =
@@ -167,22 +164,23 @@ module _ (plan : Plan) where
         (checked_by (signature_checked plan.part.signature s.force) outcome))
         (standing (checked_by (signature_checked plan.part.signature s.force) outcome)) n tape seq left is) in
         let found : a.0 ≡ part.signature =
-        (subst (λ (o : StepOutcome). AfterBeginning part m o p) a.1 begins).1 in
+        (subst (λ (o : StepOutcome). AfterBeginning real m o p) a.1 begins).1 in
         sym found ∙ a.2 unforced
     own_signature (Emit e d) n tape p executions seq left begins authentic is unforced = absurd e
     own_signature (Ask body go_on) n tape p executions seq left begins authentic is unforced =
         succeeds_by 0 seq left (part.signature ≡ plan.part.signature)
         (λ reading. played (from_handshake (go_on reading)) (next n)) (answer n tape)
         (λ reading rest e so.
-        let read = subst (on_reading (λ reading rest. IsAuthentic device body p (first_execution executions) reading
-        × RepliesAreAuthentic device (go_on reading) (next n) rest
-        (after_execution (first_execution executions) (device.after body p) p device.reset)
+        let read = subst (on_reading
+        (λ reading rest. IsAuthentic real.device body p (first_execution executions) reading
+        × RepliesAreAuthentic real.device (go_on reading) (next n) rest
+        (after_execution (first_execution executions) (real.device.after body p) p real.device.reset)
         (later_executions executions))) e authentic in
-        let exchange = authentic_exchange device body p (first_execution executions) reading read.0 in
+        let exchange = authentic_exchange real.device body p (first_execution executions) reading read.0 in
         own_signature (go_on reading) (next n) rest
-        (after_execution (first_execution executions) (device.after body p) p device.reset)
+        (after_execution (first_execution executions) (real.device.after body p) p real.device.reset)
         (later_executions executions) seq left
-        (subst (λ (q : Programmer). Begins (go_on reading) q) exchange.1
+        (subst (λ (q : real.P). Begins (go_on reading) q) exchange.1
         (subst (λ (r : Reading). Begins (go_on r) (after_exchange (exchange_by (first_execution executions) reading)
-        (device.after body p) p device.reset)) exchange.0
+        (real.device.after body p) p real.device.reset)) exchange.0
         (begins.1 (exchange_by (first_execution executions) reading)))) read.1 so unforced) is

@@ -1,27 +1,21 @@
 -- Status 0 means the images, over any link that forges no frame.
-use Rattle.std.proofs.Common.{◌≡◌, ℕ, All, List, [], ◌++◌, map, Option, Some, refl, sym, ap, ◌∙◌, subst, rules}
-use Rattle.std.proofs.lemmas.List.{append-nil}
+use Rattle.std.proofs.Common.{◌≡◌, ℕ, length, arith, All, List, [], ◌++◌, map, Option, Some, refl, sym, ap, ◌∙◌, subst, rules}
+use Rattle.std.proofs.lemmas.List.{append-nil, take_all}
 use Rattle.avr_plan.specs.declared.settings.Settings.{Settings}
 use Rattle.avr_desk.specs.Record.{ChangesRecord}
 use Rattle.avr_desk.specs.OutputEvents.{OutputEvent, after_events}
 use Rattle.avr_desk.specs.Stage.{Produced, StageOutcome, events_with_refusal}
-use Rattle.avr_part.specs.Sound.{IsSoundChip}
 use Rattle.avr_plan.specs.Plan.{Plan, IsFitted}
 use Rattle.avr_plan.specs.Planning.{planned}
-use Rattle.avr_laws.proofs.Plans.Fitted.{plan_fitted}
 use Rattle.avr_session.specs.Runs.{Devices}
 use Rattle.avr_session.specs.Session.{session}
-use Rattle.avr_laws.specs.AnyLink.{WholeSessionOverExchanges}
-use Rattle.avr_laws.specs.AnyTape.{ReceivedSentFrames, after_received_bytes, exchanges_on_tape}
+use Rattle.avr_laws.specs.AnyTape.{GoesAlongExchanges, ReceivedSentFrames, after_received_bytes, after_sent_frames, exchanges_on_tape}
 use Rattle.avr_tool.specs.ExpectedRun.{expected_run}
 use Rattle.avr_laws.specs.NoForgedFrame.{ForgesNoFrame}
-use Rattle.avr_laws.proofs.AnyLink.{over_bytes}
-use Rattle.stk_emu.specs.Device.{device}
-use Rattle.stk_emu.specs.Effect.{Memories, memories_of}
-use Rattle.stk_emu.specs.Programmer.{Programmer}
+use Rattle.stk_emu.specs.Effect.{Memories}
 use Rattle.stk_emu.specs.Exchange.{Execution}
 use Rattle.stk_frame.specs.Cut.{frames}
-use Rattle.stk_host.specs.Dialog.{Event, Played, Emitted, prepend_events, bytes_sent, outputs, played}
+use Rattle.stk_host.specs.Dialog.{Done, Event, Played, Emitted, frames_in, prepend_events, bytes_sent, outputs, played}
 use Rattle.stk_host.specs.Tape.{Tape, on_tape}
 use Rattle.stk_host.specs.Transcript.{Transcript, heard, sent}
 use Rattle.avr_tool.specs.Headline.{run_after_planning, IsRun}
@@ -29,11 +23,25 @@ use Rattle.avr_tool.proofs.Runs.Joined.{emitted_bytes, emitted_outputs}
 use Rattle.avr_laws.specs.AskedPlan.{FileGave, IsAsked}
 use Rattle.avr_laws.specs.Kept.{FilesAreSaved, Keeps, saved_files}
 use Rattle.avr_laws.specs.OnlyReading.{OnlyReadsAndPrints}
-use Rattle.avr_laws.proofs.Outcomes.Alike.{AreAlike, alike, same_bytes, same_events, same_outcome}
+use Rattle.avr_laws.proofs.Outcomes.Alike.{AreAlike, same_bytes, same_events, same_outcome}
 use Rattle.avr_laws.proofs.Outcomes.ByTasks.{made_by_tasks, tasks_agree}
 use Rattle.avr_laws.proofs.Outcomes.Saved.{WritesFiles, both, expected_writes, reading_writes, these_saved, writes_alike}
 use Rattle.avr_laws.proofs.Plans.Given.{desk_asked}
 use Rattle.avr_laws.proofs.Plans.OnlyReading.{only_reads}
+use Rattle.avr_part.specs.Part.{IsPart}
+use Rattle.stk_host.specs.ReadSteps.{signature_steps}
+use Rattle.avr_tool.proofs.Plans.Fits.{work}
+use Rattle.avr_tool.proofs.Real.{ActionsWork, AllWork, Real, HasMemories}
+use Rattle.avr_tool.proofs.OverFaultyLink.Outcomes.{session_leaves, session_succeeds}
+use Rattle.stk_emu.specs.Settled.{FitsPart}
+use Rattle.stk_emu.specs.Exchange.{Exchange}
+use Rattle.stk_emu.specs.DialogOverExchanges.{state_after, outputs_after, SendsValidBodies}
+use Rattle.avr_tool.specs.Outcome.{IsDone, IsExpectedRun}
+use Rattle.avr_tool.proofs.OverFaultyLink.FrameSizes.{session_asks}
+use Rattle.avr_tool.proofs.Lines.InTurn.{sends_whole, frames_sent}
+use Rattle.avr_tool.proofs.Memories.VerifiedRuns.{run_written}
+use Rattle.avr_laws.proofs.Lines.AnyTape.{goes_as, through_after}
+use Rattle.avr_laws.proofs.Lines.NoForgedFrame.{no_forged_frame_authentic}
 
 module _ (s : Settings) (x y : Devices) (r : IsRun s x y 0) where
   abbrev pub tape : Tape
@@ -113,32 +121,60 @@ module _ (s : Settings) (x y : Devices) (r : IsRun s x y 0) where
           (subst (λ (output_events : List OutputEvent). ChangesRecord (after_events output_events) x.desk y.desk)
           outputs_are r.kept)
 
-      pub promise_for : All (IsFitted other.part) other.tasks → (p : Programmer) (got : List ℕ)
-          (later : List (List ℕ)) (executions : List Execution) → IsSoundChip p.chip → p.chip.part ≡ other.part
-          → ReceivedSentFrames got later (frames (sent y.link.transcript)) executions
-          → ForgesNoFrame device (session other) 1 (heard y.link.transcript) p executions []
-          → Keeps other (memories_of p.chip) (memories_of (after_received_bytes device got later p).chip) x.desk.kept
-          y.desk.kept
-      promise_for fitted p got later executions sound part_is came none =
-          let whole : WholeSessionOverExchanges other p (after_received_bytes device got later p)
-          (exchanges_on_tape (session other) 1 tape executions) (sent r.during) done_other 0 =
-          over_bytes other p sound part_is fitted got (sent r.during) later executions
-          tape (subst (λ (t : Transcript). ReceivedSentFrames got later (frames (sent t)) executions) same came)
-          (subst (λ (t : Transcript). ForgesNoFrame device (session other) 1 (heard t) p executions []) same none)
-          left_over done_other 0 r.next other_played other_sent in
-          let come = whole.1.comes in
-          let expected = come.success refl in record {
-            made = made_by_tasks other (memories_of p.chip)
-                (memories_of (after_received_bytes device got later p).chip) (come.done refl);
-            agrees = tasks_agree other (memories_of p.chip) (come.done refl).agrees;
-            images = come.images refl;
-            saved = keeps_files (memories_of p.chip) (sym expected.status_is) expected.emitted;
-          }
+      module _ (fitted : All (IsFitted other.part) other.tasks) (real : Real other.part) (sound : IsPart other.part)
+          (p : real.P) (sizes : FitsPart other.part (real.memories p)) (idle : HasMemories real (real.memories p) p)
+          (signs : AllWork real signature_steps (real.memories p))
+          (works : ActionsWork real (work other) (real.memories p)) (got : List ℕ)
+          (later : List (List ℕ)) (executions : List Execution)
+          (came : ReceivedSentFrames got later (frames (sent r.during)) executions)
+          (none : ForgesNoFrame real.device (session other) 1 tape p executions []) where
+        abbrev m0 : Memories
+        m0 = real.memories p
 
-    -- so was the plan itself
-    pub promise : (p : Programmer) (got : List ℕ) (later : List (List ℕ)) (executions : List Execution)
-        → IsSoundChip p.chip → p.chip.part ≡ plan.part → ReceivedSentFrames got later (frames (sent y.link.transcript))
-        executions → ForgesNoFrame device (session plan) 1 (heard y.link.transcript) p executions []
-        → Keeps plan (memories_of p.chip) (memories_of (after_received_bytes device got later p).chip) x.desk.kept
-        y.desk.kept
-    promise = promise_for plan (alike (session plan)) (plan_fitted s r.openings plan made_is)
+        abbrev q : real.P
+        q = after_received_bytes real.device got later p
+
+        abbrev exchanges : List Exchange
+        exchanges = exchanges_on_tape (session other) 1 tape executions
+
+        abbrev count : ℕ
+        count = length (frames_in done_other)
+
+        bodies : SendsValidBodies (session other)
+        bodies = session_asks other sound fitted
+
+        goes : GoesAlongExchanges real.device (session other) 1 tape p executions
+        goes = goes_as real.device (session other) 1 tape p executions bodies
+            (no_forged_frame_authentic real.device (session other) 1 tape p executions [] tt none)
+
+        frames_are : frames_in done_other ≡ frames (sent r.during)
+        frames_are = sym (frames_sent done_other (sends_whole (session other) 1 tape bodies)) ∙ ap frames other_sent
+
+        stands : (state_after real.device count (session other) p exchanges).programmer ≡ q
+        stands =
+            goes.programmer count (omega arith)
+            ∙ (ap (λ (fs : List (List ℕ)). after_sent_frames real.device fs executions p)
+            (take_all count (frames_in done_other) (omega arith) ∙ frames_are)
+            ∙ sym (through_after real.device got later (frames (sent r.during)) executions p came))
+
+        ended : ((state_after real.device count (session other) p exchanges).dialog ≡ Done 0)
+            × (outputs done_other ≡ outputs_after real.device count (session other) p exchanges)
+        ended = goes.outcome 0 r.next left_over (ap (λ (o : Played OutputEvent ℕ). o.outcome) other_played)
+
+        done_there : IsDone other m0 (real.memories q)
+        done_there = subst (λ (z : real.P). IsDone other m0 (real.memories z)) stands
+            ((session_leaves other sound real m0 sizes fitted signs works p exchanges idle).after count 0 ended.0 refl)
+
+        expected_there : IsExpectedRun other m0
+            (real.memories (state_after real.device count (session other) p exchanges).programmer)
+            (outputs_after real.device count (session other) p exchanges) 0
+        expected_there = session_succeeds other sound real m0 sizes fitted signs works p exchanges idle count 0 ended.0
+            refl
+
+        pub promise_for : Keeps other m0 (real.memories q) x.desk.kept y.desk.kept
+        promise_for = record {
+          made = made_by_tasks other m0 (real.memories q) done_there;
+          agrees = tasks_agree other m0 done_there.agrees;
+          images = λ verified. run_written other m0 (real.memories q) fitted verified done_there sound sizes;
+          saved = keeps_files m0 (sym expected_there.status_is) (ended.1 ∙ expected_there.emitted);
+        }

@@ -30,6 +30,9 @@ use Rattle.avr_tool.proofs.Given.Comparisons.{no_difference}
 use Rattle.avr_tool.proofs.WriteOperations.Pages.{effects_on}
 use Rattle.avr_tool.specs.Items.{action_items, actions_items, items}
 use Rattle.avr_laws.specs.TrueReports.{ReportsTrue, count_line, saved_bytes, IsTrueReport, ChipErased, BytesWritten, BytesVerified, Differed, BytesSaved, BytesRead, EraseLeftOut, WriteLeftOut, StepFailed, SessionDone}
+use Rattle.stk_host.specs.ReadSteps.{signature_steps}
+use Rattle.avr_tool.proofs.Emulated.{actions_work, all_work, emulated}
+use Rattle.avr_tool.proofs.Real.{Real}
 use Rattle.avr_tool.proofs.OverFaultyLink.EachAction.{Comes, Passes, ActionTrue, ActionsTrue, opening_comes}
 use Rattle.avr_tool.proofs.OverFaultyLink.Sessions.{AtMoment, AtEnd, anyhow, session_prints}
 use Rattle.avr_laws.proofs.Memories.Bytes.{bytes_same, no_difference_if_fine}
@@ -40,12 +43,13 @@ use Rattle.avr_tool.proofs.Plans.Fits.{FitsAction, AllFitActions, work, work_fit
 use Rattle.avr_tool.proofs.Plans.Items.{items_on}
 use Rattle.avr_laws.proofs.Plans.Items.{erase_first}
 
-abbrev link : World Spot ⊤
+abbrev link : World (Spot Programmer) ⊤
 link = this_link device
 
 -- each output event of a dialog that prints what is true is true at that moment
-all_true : (True : OutputEvent → Programmer → Type 0) {R : Type 0} (Now : Moment) (After : End R) (k : ℕ)
-    (d : Dialog OutputEvent R) (z : Spot) → PrintsFrom True Now After d z
+all_true : (True : OutputEvent → Programmer → Type 0) {R : Type 0} (Now : Moment Programmer)
+    (After : End Programmer R) (k : ℕ) (d : Dialog OutputEvent R) (z : Spot Programmer)
+    → PrintsFrom device True Now After d z
     → ReportsTrue device (λ q event. True event q) k d z.0 z.1
 all_true True Now After k (Done r) z h = tt
 all_true True Now After k (Emit event d) z h =
@@ -64,6 +68,9 @@ hold_unless T true x q t = tt
 hold_unless T false x q t = (t, tt)
 
 module _ (plan : Plan) (sound : IsPart plan.part) (m0 : Memories) (f0 : FitsPart plan.part m0) where
+  abbrev real : Real plan.part
+  real = emulated plan.part sound
+
   abbrev pub T : OutputEvent → Programmer → Type 0
   T event q = IsTrueReport plan m0 (memories_of q.chip) event
 
@@ -116,7 +123,7 @@ module _ (plan : Plan) (sound : IsPart plan.part) (m0 : Memories) (f0 : FitsPart
 
   action_true : (action : Action) (done later : List Action) → FitsAction plan.part action
       → actions plan ≡ done ++ action ∷ later
-      → ActionTrue plan.part plan.switches T action (effects plan.part (actions_items done) m0)
+      → ActionTrue plan.part real plan.switches T action (effects plan.part (actions_items done) m0)
   action_true action done later fits order = by_kind action fits here among
     where
       here : Contains (actions plan) action
@@ -131,7 +138,7 @@ module _ (plan : Plan) (sound : IsPart plan.part) (m0 : Memories) (f0 : FitsPart
 
       by_kind : (a : Action) → FitsAction plan.part a → Contains (actions plan) a
           → items plan ≡ actions_items done ++ (action_items a ++ actions_items later)
-          → ActionTrue plan.part plan.switches T a m
+          → ActionTrue plan.part real plan.switches T a m
       by_kind OpenSession fits has order = absurd fits
       by_kind EraseChip fits has order = λ q is.
           informs_hold plan.switches.quiet (codes "chip erased" ∷ []) q
@@ -164,37 +171,41 @@ module _ (plan : Plan) (sound : IsPart plan.part) (m0 : Memories) (f0 : FitsPart
   one_more done action = search (rules, items_on, append-nil, effects_on)
 
   actions_true : (later done : List Action) → AllFitActions plan.part later → actions plan ≡ done ++ later
-      → ActionsTrue plan.part plan.switches T later (effects plan.part (actions_items done) m0)
+      → ActionsTrue plan.part real plan.switches T later (effects plan.part (actions_items done) m0)
   actions_true [] done fit order = tt
   actions_true (action ∷ later) done fit order = (
     action_true action done later fit.0 order,
-    subst (ActionsTrue plan.part plan.switches T later) (one_more done action)
+    subst (ActionsTrue plan.part real plan.switches T later) (one_more done action)
         (actions_true later (done ++ action ∷ []) fit.1 (order ∙ sym (append_assoc done (action ∷ []) later))),
   )
 
   -- ---- a session
 
   -- over any link, or if no step fails
-  pub session_prints_true : All (IsFitted plan.part) plan.tasks → (At : Memories → Spot → Type 0) (Fails : Type 0)
-      → Passes plan.part plan.switches At Fails → (z : Spot) → Comes plan.part plan.switches At Fails OpenSession m0 z
-      → Prints T (AtMoment plan m0) (AtEnd plan m0 Fails) (session plan) z
+  pub session_prints_true : All (IsFitted plan.part) plan.tasks → (At : Memories → Spot Programmer → Type 0)
+      (Fails : Type 0) → Passes plan.part real plan.switches At Fails → (z : Spot Programmer)
+      → Comes plan.part real plan.switches At Fails OpenSession m0 z
+      → Prints device T (AtMoment plan real m0) (AtEnd plan real m0 Fails) (session plan) z
   session_prints_true fitted At Fails pass z opened =
-      session_prints plan sound fitted T failed
+      session_prints plan sound real fitted T failed
       (λ q. informs_hold plan.switches.quiet (codes "done" ∷ []) q (SessionDone refl)) At Fails pass m0 f0
+      (actions_work plan.part sound (work plan) m0)
       (λ q is. own_signature plan.switches.quiet q)
       (actions_true (work plan) (OpenSession ∷ []) (work_fits plan fitted) refl) z opened
 
   pub session_goes : All (IsFitted plan.part) plan.tasks → (p : Programmer) (exchanges : List Exchange)
-      → HasMemories plan.part m0 p → Prints T (AtMoment plan m0) (AtEnd plan m0 ⊤) (session plan) (p, exchanges)
+      → HasMemories plan.part m0 p
+      → Prints device T (AtMoment plan real m0) (AtEnd plan real m0 ⊤) (session plan) (p, exchanges)
   session_goes fitted p exchanges idle =
-      session_prints_true fitted (λ m z. Settled plan.part m z.0) ⊤ (anyhow plan.part sound plan.switches) (
+      session_prints_true fitted (λ m z. Settled plan.part m z.0) ⊤ (anyhow plan.part sound real plan.switches) (
         p,
         exchanges,
-      ) (on_link device (opening_comes plan.part sound plan.switches m0 f0 p idle))
+      ) (on_link device (opening_comes plan.part sound real plan.switches m0 f0
+      (all_work plan.part sound signature_steps m0) p idle))
 
   pub session_reports : All (IsFitted plan.part) plan.tasks → (k : ℕ) (p : Programmer) (exchanges : List Exchange)
       → HasMemories plan.part m0 p
       → ReportsTrue device (λ q event. IsTrueReport plan m0 (memories_of q.chip) event) k (session plan) p exchanges
   session_reports fitted k p exchanges idle =
-      all_true T (AtMoment plan m0) (AtEnd plan m0 ⊤) k (session plan) (p, exchanges)
+      all_true T (AtMoment plan real m0) (AtEnd plan real m0 ⊤) k (session plan) (p, exchanges)
       (session_goes fitted p exchanges idle).holds

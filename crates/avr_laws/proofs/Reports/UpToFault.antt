@@ -1,5 +1,6 @@
 -- The output of a session is that of its expected run, up to the first action that doesn't complete.
 use Rattle.std.proofs.Common.{◌≡◌, ℕ, List, [], ◌∷◌, ◌++◌, append_assoc, refl, sym, ap, ◌∙◌, All, Option, Some, None, rules}
+use Rattle.std.specs.Prelude.{⊤}
 use Rattle.avr_plan.specs.declared.settings.Switches.{Switches}
 use Rattle.avr_desk.specs.OutputEvents.{OutputEvent}
 use Rattle.avr_part.specs.Part.{Part, IsPart}
@@ -17,7 +18,12 @@ use Rattle.stk_emu.specs.Settled.{HasMemories, FitsPart}
 use Rattle.stk_emu.specs.Exchange.{Exchange, Execution}
 use Rattle.avr_tool.proofs.OverFaultyLink.FrameSizes.{session_asks}
 use Rattle.avr_laws.proofs.Lines.AnyTape.{goes_as}
+use Rattle.stk_host.specs.ReadSteps.{signature_steps}
+use Rattle.avr_tool.proofs.Emulated.{actions_work, all_work, emulated}
+use Rattle.avr_tool.proofs.Hosts.Outputs.{Printed}
 use Rattle.avr_tool.proofs.OverFaultyLink.Outcomes.{session_along}
+use Rattle.avr_tool.proofs.OverFaultyLink.Sessions.{AtEnd, AtMoment}
+use Rattle.avr_tool.proofs.Plans.Fits.{work}
 use Rattle.avr_laws.specs.AnyTape.{GoesAlongExchanges}
 use Rattle.avr_tool.specs.Authentic.{RepliesAreAuthentic}
 use Rattle.avr_tool.specs.ExpectedRun.{Expected, then_from, ◌then◌, action_expected, actions_expected, working_expected, ending_output, expected_run}
@@ -25,15 +31,21 @@ use Rattle.avr_tool.specs.ExpectedOutput.{FirstActionsOutput, IsExpectedOutput, 
 
 module _ (plan : Plan) (sound : IsPart plan.part) (fitted : All (IsFitted plan.part) plan.tasks) (m : Memories)
     (f : FitsPart plan.part m) where
+  along : (k : ℕ) (p : Programmer) (exchanges : List Exchange) → HasMemories plan.part m p
+      → Printed device (AtMoment plan (emulated plan.part sound) m) (AtEnd plan (emulated plan.part sound) m ⊤) k
+      (session plan) (p, exchanges)
+  along k p exchanges idle = session_along plan sound (emulated plan.part sound) m f fitted
+      (all_work plan.part sound signature_steps m) (actions_work plan.part sound (work plan) m) p exchanges idle k
+
   -- AT EACH MOMENT, and at its end
   pub expected_now : (k : ℕ) (p : Programmer) (exchanges : List Exchange) → HasMemories plan.part m p
       → IsExpectedOutput plan m (outputs_after device k (session plan) p exchanges)
-  expected_now k p exchanges idle = (session_along plan sound m f fitted p exchanges idle k).now.1
+  expected_now k p exchanges idle = (along k p exchanges idle).now.1
 
   pub expected_end : (k status : ℕ) (p : Programmer) (exchanges : List Exchange) → HasMemories plan.part m p
       → (state_after device k (session plan) p exchanges).dialog ≡ Done status
       → EndsAsExpected plan m (outputs_after device k (session plan) p exchanges) status
-  expected_end k status p exchanges idle e = search (rules, session_along plan sound m f fitted p exchanges idle k)
+  expected_end k status p exchanges idle e = search (rules, along k p exchanges idle)
 
   -- and in a play over any tape that is authentic
   pub expected_on_tape : (p : Programmer) (tape : Tape) (executions : List Execution) → HasMemories plan.part m p

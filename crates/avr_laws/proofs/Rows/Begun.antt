@@ -1,11 +1,15 @@
--- What a run made whatever its status: a worked run, and one that wrote another byte than its plan has.
+-- What a run made whatever its status: a worked run, one that wrote another byte than its plan has, and one over the
+-- emulator that sent a byte over standard output.
 use Rattle.std.proofs.Common.{◌≡◌, ap, arith, refl, ℕ, zero, suc, All, List, [], ◌∷◌, take, append-nil, Some}
 use Rattle.std.proofs.lemmas.List.Elements.{All-cons, All-nil}
+use Rattle.avr_desk.specs.Record.{Bytes, Record}
 use Rattle.avr_part.specs.BuiltIn.{m328p}
 use Rattle.avr_part.specs.State.{fresh_state}
 use Rattle.avr_part.specs.declared.part.Mem.TheVariants.{Lfuse}
 use Rattle.avr_plan.specs.Plan.{Plan, IsFitted}
 use Rattle.avr_plan.specs.declared.planned.Task.TheVariants.{Write}
+use Rattle.avr_plan.specs.declared.settings.Port.TheVariants.{Emulated}
+use Rattle.avr_plan.specs.declared.settings.Settings.{Settings}
 use Rattle.avr_session.specs.Session.{session}
 use Rattle.stk_emu.specs.Device.{device}
 use Rattle.stk_emu.specs.Effect.{Memories, effects, memories_of}
@@ -16,16 +20,17 @@ use Rattle.stk_host.specs.Operations.{handshake, opening, closing, operation}
 use Rattle.stk_host.specs.Play.{IsBytePrefixOf}
 use Rattle.stk_host.specs.Steps.{exchange, attempt, attempts_or_fault, play}
 use Rattle.stk_host.specs.Tape.{answer}
-use Rattle.stk_host.specs.Transcript.{Transcript, heard, sent}
+use Rattle.stk_host.specs.Transcript.{Transcript, Sent, heard, sent}
 use Rattle.avr_tool.specs.Outcome.{write_operations}
+use Rattle.avr_laws.proofs.Lines.NoneForgedTest.{by_test}
 use Rattle.avr_laws.proofs.Outcomes.Begun.{first_made}
 use Rattle.avr_laws.proofs.Rows.Kept.{programmer}
-use Rattle.avr_laws.proofs.Rows.Loss.{by_test}
 use Rattle.avr_laws.proofs.Rows.Promise.{chip_is_sound}
 use Rattle.avr_laws.proofs.TwoProcesses.PerfectLine.{calls_of}
 use Rattle.avr_laws.specs.AnyTape.{ReceivedSentFrames}
-use Rattle.avr_laws.specs.BegunByPort.{IsBegun}
+use Rattle.avr_laws.specs.BegunByPort.{IsBegun, BeginsPlanAt}
 use Rattle.avr_laws.specs.Kept.{NoneForged}
+use Rattle.avr_laws.specs.KeptByPort.{ConnectionState}
 use Rattle.avr_laws.specs.TwoProcesses.{host_transcript}
 use Rattle.avr_laws.specs.Worked.{worked_settings}
 
@@ -74,3 +79,9 @@ unfolding session opening handshake operation closing play attempts_or_fault att
 another_byte_begun begun =
     let made = begun programmer (sent (passed 0x62)) [] executions chip_is_sound refl came none_forged in
     first_of made.count (ap (λ (m : Memories). m.lfuse) made.memories)
+
+-- ---- over the emulator nothing may pass over standard streams
+
+pub passed_elsewhere : (At : ConnectionState) (Unused : Type 0) (file : Bytes) (s : Settings) (old new : Record)
+    → BeginsPlanAt At Unused (Emulated file) s (Sent (0x1B ∷ []) ∷ []) old new → ⊥
+passed_elsewhere At Unused file s old new (none, unused) = cc

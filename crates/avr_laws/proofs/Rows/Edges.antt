@@ -1,4 +1,4 @@
--- What the definitions of the promise refuse at their edges: a weaker definition doesn't meet one of these.
+-- What the definitions of the promise just refuse, and for two limits the last value that they allow.
 use Rattle.std.proofs.Common.{◌≡◌, ap, subst, arith, ℕ, zero, suc, List, [], ◌∷◌, ◌++◌, ◌∙◌, length, refl, inl, inr, Option, Some, true}
 use Rattle.std.specs.Prelude.{codes, replicate, slice_index}
 use Rattle.avr_plan.specs.declared.update.Format.TheVariants.{Raw}

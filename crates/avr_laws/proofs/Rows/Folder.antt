@@ -1,9 +1,11 @@
--- The laws of a crash aren't about nothing: a model of a folder meets each clause of avr_desk's `Folder`, and a crash can
--- leave several things in it. It has definitions and lemmas, and no code. `tools/reach.py --check` compares its clauses
--- with those of the trait.
+-- The laws of a crash aren't about nothing: a model of a folder meets each clause of avr_desk's `Folder`, and a crash
+-- can leave several things in it. It has definitions and lemmas, and no code. `tools/reach.py --check` compares its
+-- clauses with those of the trait.
 --
--- The model is the worst system that the clauses allow: what a file has that isn't synced is lost when it gets its name,
--- and a folder's sync says nothing of the disk. A crash leaves of each name what it has on the disk, or what it has now.
+-- In two things the model is as bad as the clauses allow. What a new file has that isn't synced is lost when the file
+-- gets its name, and the sync of a folder says nothing of the disk. In others it is better than a real system: each
+-- call is one step, also writing over a file. A crash leaves of the held file what it has on the disk, or what it has
+-- now.
 use Rattle.std.proofs.Common.{◌≡◌, ◌∙◌, ap, sym, subst, refl, arith, rules, inl, inr, ℕ, ◌+◌, Bool, true, false, List, [], ◌∷◌, ◌++◌, Option, Some, None, Result, Ok, Err}
 use Rattle.std.specs.Prelude.{◌⊎◌, codes, if◌then◌else◌, IfErr, IfOk, MatchOption, MatchResult, OnOk}
 use Rattle.std.proofs.lemmas.Bool.{cases_Bool}

@@ -24,7 +24,7 @@ use Rattle.avr_laws.specs.AnyTape.{executions_by_arrival}
 use Rattle.avr_laws.specs.Damaged.{Arrived, Arrival, FrameArrives, BringsReplies, tape_of_arrivals}
 use Rattle.avr_laws.specs.Kept.{FilesAreSaved, HasGeometryOf, KeepsOnPart, named_files, on_part, saved_files}
 use Rattle.avr_laws.specs.Worked.{worked_frames, worked_replies, worked_settings}
-use Rattle.avr_laws.proofs.Rows.Kept.{programmer, first, second, third, fourth, fifth, sixth}
+use Rattle.avr_laws.proofs.Rows.Kept.{programmer}
 
 abbrev pub m328 : Part
 m328 = record m328p { id = codes "m328"; signature = 0x1E ∷ 0x95 ∷ 0x14 ∷ [] }
@@ -50,6 +50,25 @@ pub chip_fits : HasGeometryOf m328 m328p
 chip_fits = refl
 
 -- ---- over a link that damages one byte: the first reply came twice, at first with another number
+
+abbrev first : List ℕ
+first = 0x1B ∷ 0x01 ∷ 0x00 ∷ 0x0B ∷ 0x0E ∷ 0x01 ∷ 0x00 ∷ 0x08 ∷ 0x53 ∷ 0x54 ∷ 0x4B ∷ 0x35 ∷ 0x30 ∷ 0x30 ∷ 0x5F ∷ 0x32
+    ∷ 0x02 ∷ []
+
+abbrev second : List ℕ
+second = 0x1B ∷ 0x02 ∷ 0x00 ∷ 0x02 ∷ 0x0E ∷ 0x10 ∷ 0x00 ∷ 0x05 ∷ []
+
+abbrev third : List ℕ
+third = 0x1B ∷ 0x03 ∷ 0x00 ∷ 0x04 ∷ 0x0E ∷ 0x1B ∷ 0x00 ∷ 0x1E ∷ 0x00 ∷ 0x17 ∷ []
+
+abbrev fourth : List ℕ
+fourth = 0x1B ∷ 0x04 ∷ 0x00 ∷ 0x04 ∷ 0x0E ∷ 0x1B ∷ 0x00 ∷ 0x95 ∷ 0x00 ∷ 0x9B ∷ []
+
+abbrev fifth : List ℕ
+fifth = 0x1B ∷ 0x05 ∷ 0x00 ∷ 0x04 ∷ 0x0E ∷ 0x1B ∷ 0x00 ∷ 0x0F ∷ 0x00 ∷ 0x00 ∷ []
+
+abbrev sixth : List ℕ
+sixth = 0x1B ∷ 0x06 ∷ 0x00 ∷ 0x02 ∷ 0x0E ∷ 0x11 ∷ 0x00 ∷ 0x00 ∷ []
 
 abbrev damaged : List ℕ
 damaged = 0x1B ∷ 0x07 ∷ 0x00 ∷ 0x0B ∷ 0x0E ∷ drop 5 first

@@ -35,9 +35,10 @@ use Rattle.avr_part.specs.ChipFile.{chip_file}
 use Rattle.avr_part.specs.Part.{Part, IsPart}
 use Rattle.avr_part.specs.Sound.{IsSoundChip}
 use Rattle.avr_part.specs.State.{ChipState as Chip, fresh_state}
-use Rattle.avr_part.specs.declared.part.Mem.TheVariants.{Lfuse}
+use Rattle.avr_part.specs.declared.part.Mem.{Mem}
+use Rattle.avr_part.specs.declared.part.Mem.TheVariants.{Calibration, Lfuse}
 use Rattle.avr_plan.specs.Plan.{Plan, IsFitted}
-use Rattle.avr_plan.specs.declared.planned.Task.TheVariants.{Write}
+use Rattle.avr_plan.specs.declared.planned.Task.TheVariants.{Verify, Write}
 use Rattle.avr_laws.specs.SavedText.{saved_text}
 use Rattle.avr_session.specs.Runs.{devices}
 use Rattle.avr_session.specs.Session.{session}
@@ -74,6 +75,14 @@ use Rattle.avr_laws.specs.AskedPlan.{FileGave, GivesText, IsAsked}
 use Rattle.avr_laws.specs.ChipFound.{IsChipInFile}
 use Rattle.avr_laws.specs.Damaged.{Arrival, FrameArrives, BringsReplies, tape_of_arrivals}
 use Rattle.avr_laws.specs.Kept.{FilesAreSaved, HasGeometryOf, IsKept, Keeps, KeepsOnPart, NoneForged, PlanAgrees, saved_files}
+use Rattle.avr_laws.specs.EmulatedStates.{HasEmptyBuffers, HasPart, chip_memories}
+use Rattle.avr_laws.specs.KeptByAny.{IsKeptByAny}
+use Rattle.avr_laws.specs.Sheet.{IsVouched, SuitsPlan}
+use Rattle.avr_laws.specs.Table.{IsProgrammer}
+use Rattle.stk_emu.specs.Settled.{FitsPart}
+use Rattle.avr_laws.proofs.Table.Emulated.{emulated_meets}
+use Rattle.avr_laws.proofs.Table.Kept.{kept_by_any}
+use Rattle.avr_tool.proofs.Given.FirstSteps.{sound_fits, sound_idle}
 use Rattle.avr_laws.specs.KeptByPort.{ConnectionState, IsKeptInFile, KeepsCommandLine, KeepsPlanAt}
 use Rattle.avr_laws.specs.TwoProcesses.{host_transcript}
 use Rattle.avr_laws.specs.Worked.{fuse_plan, worked_frames, worked_replies, worked_settings}
@@ -223,6 +232,59 @@ write_unsent old now kept =
     (memories_of (after_received_bytes device worked_frames [] programmer).chip) old now =
     kept programmer worked_frames [] executed chip_is_sound refl worked_came worked_forges_none in
     let byte : 255 ≡ 0xE2 = ap (λ (m : Memories). m.lfuse) keeps.keeps.made in omega (arith, byte)
+
+-- ---- by the table
+
+abbrev whole : Mem → ℕ → ℕ
+whole mem byte = byte
+
+-- what is kept with the emulated programmer and a fresh chip, of which no fuse bit stays
+abbrev pub Any : Plan → Transcript → Record → Record → Type 0
+Any = IsKeptByAny m328p device chip_memories (HasPart m328p) (HasEmptyBuffers m328p) whole
+
+pub run_is_kept_by_any : IsKeptByAny m328p device chip_memories (HasPart m328p) (HasEmptyBuffers m328p) whole plan
+    passed
+    nothing_kept reported.kept
+run_is_kept_by_any =
+    kept_by_any m328p device chip_memories (HasPart m328p) (HasEmptyBuffers m328p) whole settings plan
+    (devices (link_state [] 0) empty_desk) (devices (link_state passed 0) reported) ran refl refl
+
+pub rows_kept : IsProgrammer m328p device chip_memories (HasPart m328p) (HasEmptyBuffers m328p) (IsVouched whole m328p)
+rows_kept = emulated_meets m328p is_part (IsVouched whole m328p)
+
+is_in : HasPart m328p programmer
+is_in =
+    let idle = sound_idle programmer chip_is_sound in
+    record { part_is = idle.part_is; flash_buffer = idle.flash_buffer; eeprom_buffer = idle.eeprom_buffer }
+
+pub chip_fits_part : FitsPart m328p fresh
+chip_fits_part = sound_fits (fresh_state m328p) chip_is_sound
+
+pub flash_short : FitsPart m328p (record fresh { flash = 1 ∷ 2 ∷ [] }) → ⊥
+flash_short fits = let short = fits.flash in omega (arith, short)
+
+pub plan_suits : SuitsPlan whole plan fresh
+plan_suits = ((λ written. refl), tt)
+
+pub kept_by_table : KeepsOnPart m328p plan fresh (memories_of left) nothing_kept reported.kept
+kept_by_table =
+    run_is_kept_by_any is_part refl rows_kept programmer (sent passed) [] executions is_in
+    chip_fits_part plan_suits came none_forged
+
+pub write_unsent_to_any : (old now : Record)
+    → IsKeptByAny m328p device chip_memories (HasPart m328p) (HasEmptyBuffers m328p) whole plan
+    (Sent worked_frames ∷ Got worked_replies ∷ []) old now → ⊥
+write_unsent_to_any old now kept =
+    let keeps : KeepsOnPart m328p plan fresh
+    (memories_of (after_received_bytes device worked_frames [] programmer).chip) old now =
+    kept is_part refl rows_kept programmer worked_frames [] executed is_in chip_fits_part plan_suits worked_came
+    worked_forges_none in
+    let byte : 255 ≡ 0xE2 = ap (λ (m : Memories). m.lfuse) keeps.keeps.made in omega (arith, byte)
+
+-- a plan that compares the calibration
+pub calibration_unvouched : (becomes : Mem → ℕ → ℕ) (m : Memories)
+    → SuitsPlan becomes (record plan { tasks = Verify Calibration (Some 255 ∷ []) ∷ [] }) m → ⊥
+calibration_unvouched becomes m suits = suits.0
 
 -- a reply that the programmer didn't send
 pub frame_forged : NoneForged device (frame 1 (0x05 ∷ []) ∷ []) (on_tape (frame 1 (0x05 ∷ 0x00 ∷ []))) programmer
@@ -402,35 +464,41 @@ call_unrecorded truly =
 
 -- ---- each port
 
-pub over_streams : (At : ConnectionState) → KeepsPlanAt At Stdio settings passed nothing_kept reported.kept
-over_streams At = (plan, (plan_asked (FileGave nothing_kept reported.kept), run_is_kept))
+pub over_streams : (At : ConnectionState) → KeepsPlanAt Any At Stdio settings passed nothing_kept reported.kept
+over_streams At = (plan, (plan_asked (FileGave nothing_kept reported.kept), run_is_kept_by_any))
 
-pub over_network : KeepsPlanAt (IsOverAddress network reads writes (λ side. Unit {0})) (Network address) settings
+pub over_network : KeepsPlanAt Any (IsOverAddress network reads writes (λ side. Unit {0})) (Network address) settings
     [] nothing_kept reported.kept
-over_network =
-    (link_state passed 0, connected passed, (plan, (plan_asked (FileGave nothing_kept reported.kept), run_is_kept)))
+over_network = (
+  refl,
+  (
+    link_state passed 0,
+    connected passed,
+    (plan, (plan_asked (FileGave nothing_kept reported.kept), run_is_kept_by_any)),
+  ),
+)
 
-pub over_emulator : (At : ConnectionState) → KeepsPlanAt At (Emulated file) settings [] nothing_kept saved
-over_emulator At = (plan, (plan_asked (FileGave nothing_kept saved), chip_saved))
+pub over_emulator : (At : ConnectionState) → KeepsPlanAt Any At (Emulated file) settings [] nothing_kept saved
+over_emulator At = (refl, (plan, (plan_asked (FileGave nothing_kept saved), chip_saved)))
 
 -- a part that nobody knows
 abbrev unknown : Settings
 unknown = record worked_settings { part = codes "none" }
 
 pub part_unknown : (At : ConnectionState) (during : Transcript) (old new : Record)
-    → KeepsPlanAt At Stdio unknown during old new → ⊥
+    → KeepsPlanAt Any At Stdio unknown during old new → ⊥
 part_unknown At during old new (other, (asked, keeps)) =
     let none : ◌≡◌ {A = Option Part} None (Some other.part) =
     subst (λ (parts : List Part). find (has_id (codes "none")) (parts ++ built_in_parts) ≡ Some other.part)
     asked.are_parts asked.part in cc
 
 pub not_connected : (At : ConnectionState) (name : Bytes) (s : Settings) (during : Transcript) (old new : Record)
-    → ((link : LinkState) → At name (Some link) → ⊥) → KeepsPlanAt At (Network name) s during old new → ⊥
-not_connected At name s during old new none (link, over, keeps) = none link over
+    → ((link : LinkState) → At name (Some link) → ⊥) → KeepsPlanAt Any At (Network name) s during old new → ⊥
+not_connected At name s during old new none (_, (link, over, keeps)) = none link over
 
 pub file_unsaved : (At : ConnectionState) (name : Bytes) (s : Settings) (during : Transcript) (old new : Record)
-    → new.tried ≡ [] → KeepsPlanAt At (Emulated name) s during old new → ⊥
-file_unsaved At name s during old new none (other, (asked, keeps)) = chip_unsaved name other old new none keeps
+    → new.tried ≡ [] → KeepsPlanAt Any At (Emulated name) s during old new → ⊥
+file_unsaved At name s during old new none (_, (other, (asked, keeps))) = chip_unsaved name other old new none keeps
 
 -- ---- the command line
 
@@ -447,7 +515,7 @@ words_read : settings_from_arguments words ≡ Ok settings
 unfolding avrstk options bundle_met walked chars encode
 words_read = refl
 
-pub line_kept : KeepsCommandLine (λ given. given ≡ words) (λ name seen. ⊥) passed nothing_kept
+pub line_kept : KeepsCommandLine Any (λ given. given ≡ words) (λ name seen. ⊥) passed nothing_kept
     reported.kept
 line_kept = (words, refl, λ taken. (settings, sym words_read, over_streams (λ name seen. ⊥)))
 
@@ -466,8 +534,8 @@ ok_is : (a b : Settings) → ◌≡◌ {A = Result Settings SettingsFault} (Ok a
 ok_is a b e = cc
 
 pub line_unkept : (At : ConnectionState) (during : Transcript) (old new : Record)
-    → KeepsCommandLine (λ given. given ≡ other_words) At during old new → ⊥
+    → KeepsCommandLine Any (λ given. given ≡ other_words) At during old new → ⊥
 line_unkept At during old new (given, is, keeps) =
     let k = keeps (ap (takes avrstk) is ∙ other_taken) in
-    part_unknown At during old new (subst (λ (s : Settings). KeepsPlanAt At s.port s during old new)
+    part_unknown At during old new (subst (λ (s : Settings). KeepsPlanAt Any At s.port s during old new)
     (ok_is k.0 unknown (k.1 ∙ (ap settings_from_arguments is ∙ other_read))) k.2)

@@ -1,8 +1,7 @@
 -- Actions of a session, one after another.
-use Rattle.std.proofs.Common.{◌≡◌, ℕ, Bool, true, false, ◌||◌, ◌++◌, ◌≤◌, arith, List, [], ◌∷◌, length, refl, ap, ◌∙◌, append_assoc, None, Result, Ok, Err, get_or, take, drop, ◌<◌, ◌-◌, rules}
+use Rattle.std.proofs.Common.{◌≡◌, ℕ, Bool, true, false, ◌||◌, ◌++◌, List, [], ◌∷◌, refl, ap, ◌∙◌, append_assoc, None, Result, Ok, Err, rules}
 use Rattle.std.proofs.Math.Bool.{or-false}
 use Rattle.std.specs.List.{list_any}
-use Rattle.std.proofs.lemmas.Grind.{common_steps}
 use Rattle.std.proofs.lemmas.List.Folds.{list_any-append}
 use Rattle.avr_desk.specs.Fault.{CountsNeverFall}
 use Rattle.avr_desk.specs.Record.{DeskState}
@@ -22,7 +21,6 @@ use Rattle.stk_host.specs.Calls.{Calls}
 use Rattle.stk_host.specs.Dialog.{Dialog, Done, ◌>>=◌, played, outputs}
 use Rattle.avr_desk.specs.OutputEvents.{OutputEvent, PrintsLine, ReportsLine}
 use Rattle.avr_plan.specs.Plan.{Plan}
-use Rattle.avr_plan.specs.declared.planned.Task.{Task}
 use Rattle.avr_session.specs.Standing.{Standing, NoFault, Over}
 use Rattle.avr_session.specs.declared.ending.End.{End}
 use Rattle.avr_session.specs.declared.ending.End.TheVariants as ends
@@ -303,17 +301,6 @@ read_stops_report part good items none (Ok done) allocates o {d = d} {e = e} rep
     search (rules, desk_stops_run, prefix_reports_none)
 read_stops_report part good items none (Err fault) allocates o reports =
     print_stops_report (before_fault allocates) o reports
-
--- the tasks are the first and those after it
-pub first_task : (tasks : List Task) (task : Task) → 1 ≤ length tasks → task ≡ get_or tasks 0 task
-    → task ∷ drop 1 tasks ≡ tasks
-first_task tasks task some is = search rules
-
-pub no_task : (tasks : List Task) → length tasks < 1 → [] ≡ tasks
-no_task tasks few = grind (arith, common_steps)
-
-pub tasks_behind : (tasks : List Task) → take (length tasks - 1) (drop 1 tasks) ≡ drop 1 tasks
-tasks_behind tasks = grind (arith, common_steps)
 
 -- the end of a session
 

@@ -13,7 +13,7 @@ use Rattle.stk_emu.specs.Exchange.{Exchange, Execution, NotExecuted, Executed, T
 use Rattle.stk_emu.specs.Exchange.{after_execution, after_exchange, reading_of_exchange, first_exchange, later_exchanges}
 use Rattle.stk_emu.specs.Device.{Device}
 use Rattle.stk_emu.specs.DialogOverExchanges.{state_after}
-use Rattle.stk_emu.proofs.Repeatable.{on_data, joined_reply, reply_to, after_commands, FailsAt, FailOnceRestarted, Unbroken, IsRepeatable}
+use Rattle.stk_emu.proofs.Repeatable.{on_data, joined_reply, reply_to, after_commands, AreReplied, FailsAt, FailOnceRestarted, Unbroken, IsRepeatable}
 use Rattle.avr_tool.proofs.Leads.{Leads, IsDataOfAttempt}
 
 -- What holds at each move holds along all links, so no list of exchanges and no count of commands is needed.
@@ -30,7 +30,24 @@ pub asks≢done : {E R : Type 0} (bytes : List ℕ) (go_on : Reading → Dialog 
     → ◌≡◌ {A = Dialog E R} (Ask bytes go_on) (Done r) → ⊥
 asks≢done bytes go_on r e = cc
 
+-- data come of a reply that has some
+pub data_in : (reply : Reply) (go_on : List ℕ → Reply) (got : List ℕ) → on_data reply go_on ≡ Data got
+    → (bytes : List ℕ) × ((reply ≡ Data bytes) × (go_on bytes ≡ Data got))
+data_in reply go_on got e = search rules
+
 module _ {P : Type 0} (m : Device P) where
+  -- the data of all commands are those of each
+  pub all_replied : (commands : List Command) (before got : List ℕ) (p : P)
+      → joined_reply m commands before p ≡ Data got → AreReplied m (length commands) commands p
+  all_replied [] before got p has = tt
+  all_replied (command ∷ []) before got p has = tt
+  all_replied (command ∷ next ∷ commands) before got p has =
+      let first = data_in (reply_to m command p) (λ bytes. joined_reply m (next ∷ commands) (before ++ bytes)
+      (m.after (body command) p)) got has in (
+        (first.0, first.1.0),
+        all_replied (next ∷ commands) (before ++ first.0) got (m.after (body command) p) first.1.1,
+      )
+
   -- what a dialog upholds holds along each link
   module _ {E R : Type 0} (During : P → Type 0) (MayEmit : E → P → Type 0) (After After' : R → P → Type 0)
       (at_end : (r : R) (q : P) → After r q → During q × After' r q) where
@@ -68,7 +85,8 @@ module _ {P : Type 0} (m : Device P) where
 
     replied : (reply : Reply) (joined : List ℕ → Reply) (go_on : List ℕ → Dialog ⊥ Reply) (q : P)
         (All : List ℕ → Type 0) → Stands q
-        → ((bytes : List ℕ) → ((got : List ℕ) → joined bytes ≡ Data got → All got) → Tries (go_on bytes) q)
+        → ((bytes : List ℕ) → reply ≡ Data bytes → ((got : List ℕ) → joined bytes ≡ Data got → All got)
+        → Tries (go_on bytes) q)
         → ((got : List ℕ) → on_data reply joined ≡ Data got → All got) → Tries (with_data go_on reply) q
     replied reply joined go_on q All stands each whole = search rules
 
@@ -121,35 +139,41 @@ module _ {P : Type 0} (m : Device P) where
     never go_on (Stop fault) q s none = done (failed fault q s)
 
     failing : (command : Command) (commands : List Command) (before : List ℕ) (q : P) → Stands q
-        → FailsAt m command q → Tries (attempt (command ∷ commands) before) q
+        → FailsAt m Stands command q → Tries (attempt (command ∷ commands) before) q
     unfolding attempt exchange
     failing command commands before q s f =
-        let stays : Stands (m.after (body command) q) = subst Stands (sym f.after) s in
         let go_on : List ℕ → Dialog ⊥ Reply = λ bytes. attempt commands (before ++ bytes) in
-        ask s (λ one_exchange. by_exchange one_exchange 0 command go_on q stays s
-        (λ i. never go_on (reply_to m command q) _ (stands_restarted i _ stays) f.none))
+        ask s (λ one_exchange. by_exchange one_exchange 0 command go_on q f.stands s
+        (λ i. never go_on (reply_to m command q) _ (stands_restarted i _ f.stands) f.none))
 
     -- the rest of an attempt, after any restarts
-    rest_goes : (commands : List Command) (before : List ℕ) (q : P) → Stands q → FailOnceRestarted m commands
+    rest_goes : (commands : List Command) (before : List ℕ) (q : P) → Stands q → FailOnceRestarted m Stands commands
         → Tries (attempt commands before) q → (n : ℕ) → Tries (attempt commands before) (restarted n q)
     unfolding attempt exchange
     rest_goes [] before q s fails rest n = done (data_restarted n before q rest.holds)
     rest_goes (command ∷ commands) before q s fails rest zero = rest
     rest_goes (command ∷ commands) before q s fails rest (suc n) =
         subst (λ (x : P). Tries (attempt (command ∷ commands) before) x) (sym (last_restart n q))
-        (elim (fails.0 (restarted n q)) [
+        (elim (fails.0 (restarted n q) (stands_restarted n q s)) [
           | inl same ↦ subst (λ (x : P). Tries (attempt (command ∷ commands) before) x) (sym same)
               (rest_goes (command ∷ commands) before q s fails rest n)
           | inr f ↦ failing command commands before (m.reset (restarted n q))
               (restart_keeps _ (stands_restarted n q s)) f
         ])
 
-    later_unbroken : (commands : List Command) → FailOnceRestarted m commands → Unbroken m commands
+    later_unbroken : (commands : List Command) → FailOnceRestarted m Stands commands → Unbroken m Stands commands
     later_unbroken [] fails = tt
     later_unbroken (command ∷ commands) fails = fails.1
 
-    attempt_goes : (commands : List Command) (before : List ℕ) (p : P) → Unbroken m commands
-        → ((i : ℕ) → Stands (after_commands m i commands p))
+    -- the first commands of a list, and those behind its first
+    later_replied : (i : ℕ) (command : Command) (commands : List Command) (p : P)
+        → ((bytes : List ℕ) × (reply_to m command p ≡ Data bytes))
+        → AreReplied m i commands (m.after (body command) p) → AreReplied m (suc i) (command ∷ commands) p
+    later_replied zero command commands p first more = tt
+    later_replied (suc i) command commands p first more = (first, more)
+
+    attempt_goes : (commands : List Command) (before : List ℕ) (p : P) → Unbroken m Stands commands
+        → ((i : ℕ) → AreReplied m i commands p → Stands (after_commands m i commands p))
         → ((got : List ℕ) → joined_reply m commands before p ≡ Data got
         → After (Ok got) (after_commands m (length commands) commands p)) → Tries (attempt commands before) p
     unfolding attempt exchange
@@ -157,12 +181,15 @@ module _ {P : Type 0} (m : Device P) where
     attempt_goes (command ∷ commands) before p unbroken prefixes whole =
         let q = m.after (body command) p in
         let go_on : List ℕ → Dialog ⊥ Reply = λ bytes. attempt commands (before ++ bytes) in
-        ask (prefixes 0) (λ one_exchange. by_exchange one_exchange 0 command go_on p (prefixes 1) (prefixes 0)
+        let here : Stands p = prefixes 0 tt in
+        let next : Stands q = prefixes 1 tt in
+        ask here (λ one_exchange. by_exchange one_exchange 0 command go_on p next here
         (λ n. replied (reply_to m command p) (λ bytes. joined_reply m commands (before ++ bytes) q) go_on
         (restarted n q) (λ got. After (Ok got) (after_commands m (length commands) commands q))
-        (stands_restarted n q (prefixes 1))
-        (λ bytes each. rest_goes commands (before ++ bytes) q (prefixes 1) unbroken
-        (attempt_goes commands (before ++ bytes) q (later_unbroken commands unbroken) (λ i. prefixes (suc i)) each) n)
+        (stands_restarted n q next)
+        (λ bytes is each. rest_goes commands (before ++ bytes) q next unbroken
+        (attempt_goes commands (before ++ bytes) q (later_unbroken commands unbroken)
+        (λ i more. prefixes (suc i) (later_replied i command commands p (bytes, is) more)) each) n)
         whole))
 
   -- A step leads from its first condition to its second. With data the second holds, otherwise either.
@@ -177,14 +204,14 @@ module _ {P : Type 0} (m : Device P) where
     restart_keeps : (q : P) → Either q → Either (m.reset q)
     restart_keeps q b' = search rules
 
-    prefixes : (q : P) → Either q → (i : ℕ) → Either (after_commands m i commands q)
-    prefixes q (inl b) i = fits.prefix q i b
-    prefixes q (inr a) i = inr (fits.again q i a)
+    prefixes : (q : P) → Either q → (i : ℕ) → AreReplied m i commands q → Either (after_commands m i commands q)
+    prefixes q (inl b) i replied = fits.prefix q i b replied
+    prefixes q (inr a) i replied = inr (fits.again q i a replied)
 
     wholes : (q : P) → Either q → (got : List ℕ) → joined_reply m commands [] q ≡ Data got
         → After (after_commands m (length commands) commands q)
     wholes q (inl b) got has = fits.whole q got has b
-    wholes q (inr a) got has = fits.again q (length commands) a
+    wholes q (inr a) got has = fits.again q (length commands) a (all_replied commands [] got q has)
 
     pub try_goes : (p : P) → Either p → Keeps Either (OnReply Either AfterStep) (attempt commands []) p
     try_goes p stood =

@@ -14,51 +14,54 @@ use Rattle.stk_host.specs.ReadSteps.{signature_steps}
 use Rattle.stk_host.specs.Operations.{host_fault, handshake, no_result, closing, checked_by, operation}
 use Rattle.stk_host.proofs.Dialogs.Logic.{OnOutcome, done, bind, outcome_mapped, wider, on_data}
 use Rattle.stk_emu.specs.Exchange.{Exchange}
-use Rattle.stk_emu.specs.Programmer.{Programmer}
-use Rattle.stk_emu.specs.Device.{Device, device}
+use Rattle.stk_emu.specs.Device.{Device}
 use Rattle.stk_emu.specs.DialogOverExchanges.{StateAfter, state_after}
 use Rattle.stk_emu.specs.Effect.{Memories}
-use Rattle.stk_emu.proofs.Repeatable.{IsRepeatable, Settled}
+use Rattle.stk_emu.proofs.Repeatable.{IsRepeatable}
+use Rattle.avr_tool.proofs.Real.{AfterBeginning, AfterSteps, AllWork, HasMemories, Reached, Real, Settled, settled_idle}
 use Rattle.stk_emu.specs.StepData.{data_of_step, data_of_steps}
-use Rattle.stk_emu.specs.Settled.{HasMemories, FitsPart}
+use Rattle.stk_emu.specs.Settled.{FitsPart}
 use Rattle.avr_part.specs.declared.part.Mem.TheVariants.{Signature}
-use Rattle.stk_emu.specs.WriteOperations.{memories_after_step, AreSteps}
+use Rattle.stk_emu.specs.WriteOperations.{memories_after_step, AreSteps, IsStep}
 use Rattle.avr_tool.proofs.WriteOperations.Items.{read_are_steps}
 use Rattle.avr_tool.proofs.OverFaultyLink.FirstSteps.{quiet_stays, read_quiet}
-use Rattle.avr_tool.proofs.Leads.{Reached, AfterSteps, AfterBeginning, memories_after_steps, IsDataOfAttempt}
+use Rattle.avr_tool.proofs.Leads.{memories_after_steps, IsDataOfAttempt}
 use Rattle.avr_tool.proofs.Hosts.Attempts.{along_bind, along_next_dialog}
-use Rattle.avr_tool.proofs.WriteOperations.Steps.{sign_on_fits, enter_fits}
-use Rattle.stk_emu.proofs.Replies.Commands.{settled_idle}
 use Rattle.avr_tool.proofs.Given.WholeMemories.{one_by_one}
-use Rattle.avr_tool.proofs.WriteOperations.OutsideMode.{step_fits}
-use Rattle.avr_tool.proofs.Given.StepsGive.{gives_given, changed_sizes}
+use Rattle.avr_tool.proofs.Given.StepsGive.{changed_sizes}
 use Rattle.avr_tool.proofs.Hosts.AnyExchange.{over_any_exchange, Keeps, step_leads}
 
-module _ (part : Part) (sound : IsPart part) where
-  one_more : (commands : List Command) (steps : List (List Command)) (m : Memories) (q : Programmer)
-      → Reached part steps (memories_after_step part commands m) q → Reached part (commands ∷ steps) m q
+module _ (part : Part) (sound : IsPart part) (real : Real part) where
+  gives_given : (commands : List Command) (m : Memories) (got : List ℕ) → IsStep part commands → FitsPart part m
+      → real.Works commands m
+      → IsDataOfAttempt real.device commands (Settled real m) (Settled real (memories_after_step part commands m)) got
+      → got ≡ data_of_step part commands m
+  gives_given commands m got is f w g = real.gives commands m g.from got is f w g.stood g.is
+
+  one_more : (commands : List Command) (steps : List (List Command)) (m : Memories) (q : real.P)
+      → Reached real steps (memories_after_step part commands m) q → Reached real (commands ∷ steps) m q
   one_more commands steps m q r = record { count = suc r.count; stands = r.stands }
 
   -- After a run of steps the memories are those after all of them, with what they give; after a fault, those after some
   -- first ones.
   stepped : (commands : List Command) (steps : List (List Command)) (m : Memories) (before bytes : List ℕ)
-      (o : StepOutcome) (q : Programmer) → bytes ≡ data_of_step part commands m
-      → AfterSteps part steps (memories_after_step part commands m) (before ++ bytes) o q
-      → AfterSteps part (commands ∷ steps) m before o q
+      (o : StepOutcome) (q : real.P) → bytes ≡ data_of_step part commands m
+      → AfterSteps real steps (memories_after_step part commands m) (before ++ bytes) o q
+      → AfterSteps real (commands ∷ steps) m before o q
   stepped commands steps m before bytes o q is a = search (rules, append_assoc, one_more)
 
-  play_goes : (steps : List (List Command)) (m : Memories) (before : List ℕ) (p : Programmer) → AreSteps part steps
-      → FitsPart part m → Settled part m p
-      → Keeps device (Reached part steps m) (AfterSteps part steps m before) (play steps before) p
+  play_goes : (steps : List (List Command)) (m : Memories) (before : List ℕ) (p : real.P) → AreSteps part steps
+      → FitsPart part m → AllWork real steps m → Settled real m p
+      → Keeps real.device (Reached real steps m) (AfterSteps real steps m before) (play steps before) p
   unfolding play
-  play_goes [] m before p are f s = done (s, sym (append-nil before))
-  play_goes (commands ∷ steps) m before p are f s =
+  play_goes [] m before p are f w s = done (s, sym (append-nil before))
+  play_goes (commands ∷ steps) m before p are f w s =
       bind
-      (step_leads device commands (Settled part m) (Settled part (memories_after_step part commands m))
-      (step_fits part sound commands m are.0) (Reached part (commands ∷ steps) m)
-      (AfterSteps part (commands ∷ steps) m before) p (λ q t. record { count = 0; stands = t })
+      (step_leads real.device commands (Settled real m) (Settled real (memories_after_step part commands m))
+      (real.steps commands m are.0 f w.0) (Reached real (commands ∷ steps) m)
+      (AfterSteps real (commands ∷ steps) m before) p (λ q t. record { count = 0; stands = t })
       (λ q t. record { count = 1; stands = t }) (λ fault q r. r) s)
-      (on_data (over_any_exchange device) (λ bytes q. Reached part (commands ∷ steps) m q)
+      (on_data (over_any_exchange real.device) (λ bytes q. Reached real (commands ∷ steps) m q)
       (λ bytes. play steps (before ++ bytes))
       (λ bytes q x.
       search (
@@ -66,67 +69,68 @@ module _ (part : Part) (sound : IsPart part) where
         wider,
         one_more,
         stepped,
-        gives_given,
-        changed_sizes,
+        gives_given commands m bytes are.0 f w.0,
         play_goes steps (memories_after_step part commands m)
-            (before ++ bytes) q are.1 (changed_sizes part commands m sound f) x.0,
+            (before ++ bytes) q are.1 (changed_sizes part commands m sound f) w.1 x.0,
       )))
 
   -- after an operation: the check of its data, or the fault of a step
   abbrev pub AfterCall : {A : Type 0} → List (List Command) → Memories → (List ℕ → Result A HostFault)
-      → Result A HostFault → Programmer → Type 0
+      → Result A HostFault → real.P → Type 0
   AfterCall steps m judge r q =
-      (Settled part (memories_after_steps part (length steps) steps m) q × (r ≡ judge (data_of_steps part steps m)))
-      ⊎ ((fault : StepFault) × (r ≡ Err (host_fault fault)) × Reached part steps m q)
+      (Settled real (memories_after_steps part (length steps) steps m) q × (r ≡ judge (data_of_steps part steps m)))
+      ⊎ ((fault : StepFault) × (r ≡ Err (host_fault fault)) × Reached real steps m q)
 
   pub operation_goes : {A : Type 0} (steps : List (List Command)) (m : Memories) (judge : List ℕ → Result A HostFault)
-      (p : Programmer) → AreSteps part steps → FitsPart part m → Settled part m p
-      → Keeps device (Reached part steps m) (AfterCall steps m judge) (operation steps judge) p
+      (p : real.P) → AreSteps part steps → FitsPart part m → AllWork real steps m → Settled real m p
+      → Keeps real.device (Reached real steps m) (AfterCall steps m judge) (operation steps judge) p
   unfolding operation
-  operation_goes {A = A} steps m judge p are f s =
-      outcome_mapped (checked_by judge) (play_goes steps m [] p are f s) verdict
+  operation_goes {A = A} steps m judge p are f w s =
+      outcome_mapped (checked_by judge) (play_goes steps m [] p are f w s) verdict
     where
-      verdict : (o : StepOutcome) (q : Programmer) → AfterSteps part steps m [] o q
+      verdict : (o : StepOutcome) (q : real.P) → AfterSteps real steps m [] o q
           → AfterCall steps m judge (checked_by judge o) q
       verdict (Ok got) q a = inl (a.0, ap judge a.1)
       verdict (Err fault) q a = inr (fault, refl, a)
 
-  idle_reached : (m : Memories) (q : Programmer) → Reached part signature_steps m q → HasMemories part m q
-  idle_reached m q r = settled_idle part m q (search (rules, quiet_stays, read_quiet))
+  idle_reached : (m : Memories) (q : real.P) → Reached real signature_steps m q → HasMemories real m q
+  idle_reached m q r = settled_idle real m q (search (rules, quiet_stays, read_quiet))
 
-  pub beginning_goes : (m : Memories) (p : Programmer) → FitsPart part m → HasMemories part m p
-      → Keeps device (HasMemories part m) (AfterBeginning part m) handshake p
+  pub beginning_goes : (m : Memories) (p : real.P) → FitsPart part m → AllWork real signature_steps m
+      → HasMemories real m p
+      → Keeps real.device (HasMemories real m) (AfterBeginning real m) handshake p
   unfolding handshake
-  beginning_goes m p f idle =
+  beginning_goes m p f w idle =
       bind
-      (step_leads device (SignOn ∷ []) (HasMemories part m) (HasMemories part m) (sign_on_fits part m)
-      (HasMemories part m) (AfterBeginning part m) p (λ q i. i) (λ q i. i) (λ fault q i. i) idle)
-      (on_data (over_any_exchange device) (λ bytes q. HasMemories part m q)
+      (step_leads real.device (SignOn ∷ []) (HasMemories real m) (HasMemories real m) (real.sign_on m)
+      (HasMemories real m) (AfterBeginning real m) p (λ q i. i) (λ q i. i) (λ fault q i. i) idle)
+      (on_data (over_any_exchange real.device) (λ bytes q. HasMemories real m q)
       (λ name. step (enter ∷ []) >>= unless_step_fault (λ nothing. play signature_steps []))
       (λ name q i.
       bind
-      (step_leads device (enter ∷ []) (HasMemories part m) (Settled part m) (enter_fits part m) (HasMemories part m)
-      (AfterBeginning part m) q (λ r j. j) (λ r j. settled_idle part m r j) (λ fault r j. j) i.0)
-      (on_data (over_any_exchange device) (λ bytes q. HasMemories part m q) (λ nothing. play signature_steps [])
+      (step_leads real.device (enter ∷ []) (HasMemories real m) (Settled real m) (real.enters m) (HasMemories real m)
+      (AfterBeginning real m) q (λ r j. j) (λ r j. settled_idle real m r j) (λ fault r j. j) i.0)
+      (on_data (over_any_exchange real.device) (λ bytes q. HasMemories real m q) (λ nothing. play signature_steps [])
       (λ nothing r t. wider (λ bytes z y. idle_reached m z y) (λ e z y. y) begun
-      (play_goes signature_steps m [] r (read_are_steps part sound Signature) f t.0)))))
+      (play_goes signature_steps m [] r (read_are_steps part sound Signature) f w t.0)))))
     where
-      begun : (o : StepOutcome) (q : Programmer) → AfterSteps part signature_steps m [] o q → AfterBeginning part m o q
+      begun : (o : StepOutcome) (q : real.P) → AfterSteps real signature_steps m [] o q → AfterBeginning real m o q
       begun o q a = search (rules, one_by_one, idle_reached)
 
 -- Closing a session keeps what leaving programming mode keeps; its fault is a step's.
 abbrev pub IsClosed : Result ⊤ HostFault → Type 0
 IsClosed r = (r ≡ Ok tt) ⊎ ((fault : StepFault) × (r ≡ Err (host_fault fault)))
 
-pub closing_goes : (Stands : Programmer → Type 0) → IsRepeatable device (leave ∷ []) Stands Stands → (p : Programmer)
-    → Stands p → Keeps device Stands (λ r q. Stands q × IsClosed r) closing p
+pub closing_goes : {P : Type 0} (m : Device P) (Stands : P → Type 0) → IsRepeatable m (leave ∷ []) Stands Stands
+    → (p : P)
+    → Stands p → Keeps m Stands (λ r q. Stands q × IsClosed r) closing p
 unfolding closing
-closing_goes Stands fits p stands =
-    outcome_mapped (checked_by no_result) (step_leads device (leave ∷ []) Stands Stands fits Stands (λ o q. Stands q) p
+closing_goes {P = P} m Stands fits p stands =
+    outcome_mapped (checked_by no_result) (step_leads m (leave ∷ []) Stands Stands fits Stands (λ o q. Stands q) p
     (λ q i. i) (λ q i. i) (λ fault q i. i) stands) left
   where
-    left : (o : StepOutcome) (q : Programmer)
-        → OnOutcome (λ got q. Stands q × IsDataOfAttempt device (leave ∷ []) Stands Stands got)
+    left : (o : StepOutcome) (q : P)
+        → OnOutcome (λ got q. Stands q × IsDataOfAttempt m (leave ∷ []) Stands Stands got)
         (λ o q. Stands q) o q → Stands q × IsClosed (checked_by no_result o)
     left (Ok bytes) q i = (i.0, inl refl)
     left (Err fault) q i = (i, inr (fault, refl))

@@ -6,7 +6,6 @@ use Rattle.avr_part.specs.Part.{Part}
 use Rattle.avr_plan.specs.Plan.{Plan}
 use Rattle.avr_session.specs.Standing.{NoFault}
 use Rattle.avr_session.specs.Actions.{Action, actions}
-use Rattle.avr_session.specs.Session.{standing}
 use Rattle.stk_emu.specs.Effect.{Memories, effects}
 use Rattle.avr_tool.proofs.Given.Comparisons.{no_difference, held_same}
 use Rattle.avr_tool.proofs.WriteOperations.Pages.{effects_on}
@@ -16,10 +15,10 @@ use Rattle.avr_tool.specs.Items.{action_items, actions_items, items}
 use Rattle.avr_tool.proofs.Plans.Standings.{faulty_fine}
 
 -- An expected run that is fine exactly if something agrees, and then leaves these memories.
-record EndsAsActionsAgree (c : Expected) (Agree : Type 0) (left : Memories) : Type 0 where
-  if_fine : c.standing ≡ NoFault → Agree
-  is_fine : Agree → c.standing ≡ NoFault
-  memories : c.standing ≡ NoFault → c.memories ≡ left
+pub record EndsAsActionsAgree (c : Expected) (Agree : Type 0) (left : Memories) : Type 0 where
+  pub if_fine : c.standing ≡ NoFault → Agree
+  pub is_fine : Agree → c.standing ≡ NoFault
+  pub memories : c.standing ≡ NoFault → c.memories ≡ left
 
 agrees_in_sequence : (first : Expected) (next : Memories → Expected) (A B : Type 0) (between left : Memories)
     → EndsAsActionsAgree first A between → EndsAsActionsAgree (next between) B left
@@ -37,7 +36,7 @@ module _ (part : Part) (s : Switches) where
       (effects part (action_items action) m)
   agrees_for_action action m = search (rules, no_difference, faulty_fine, held_same, agrees_without_fault)
 
-  agrees_for_actions : (actions : List Action) (m : Memories)
+  pub agrees_for_actions : (actions : List Action) (m : Memories)
       → EndsAsActionsAgree (actions_expected part s actions m) (EachComparisonAgrees part actions m)
       (effects part (actions_items actions) m)
   agrees_for_actions [] m = record { if_fine = λ f. tt; is_fine = λ agree. refl; memories = λ f. refl }

@@ -15,21 +15,18 @@ use Rattle.stk_host.specs.declared.fault.StepFault.{StepFault}
 use Rattle.stk_host.specs.declared.fault.StepFault.TheVariants as of_step
 use Rattle.stk_host.specs.Operations.{opening, closing, host_fault, checked_by, signature_checked}
 use Rattle.stk_host.specs.Steps.{StepOutcome}
-use Rattle.stk_emu.proofs.Replies.Commands.{settled_idle}
-use Rattle.stk_emu.specs.Device.{device}
-use Rattle.stk_emu.specs.Effect.{Memories, Item, effects, memories_of}
+use Rattle.avr_tool.proofs.Real.{ActionsWork, AfterBeginning, AllWork, HasMemories, Reached, Real, Settled, settled_idle}
+use Rattle.stk_emu.specs.Effect.{Memories, Item, effects}
 use Rattle.stk_emu.specs.WriteOperations.{steps_of_items}
 use Rattle.avr_tool.proofs.WriteOperations.Items.{ItemsFit}
-use Rattle.stk_emu.specs.Programmer.{Programmer}
-use Rattle.stk_emu.specs.Settled.{HasMemories, FitsPart}
-use Rattle.stk_emu.proofs.Repeatable.{Settled}
+use Rattle.stk_emu.specs.Settled.{FitsPart}
 use Rattle.avr_tool.proofs.OverFaultyLink.FirstSteps.{Rests, rests_here, rests_before, rests_all, rests_behind, effects_sizes}
 use Rattle.avr_tool.proofs.Given.Comparisons.{signature_taken}
 use Rattle.avr_tool.proofs.Hosts.AnyExchange.{Keeps}
 use Rattle.avr_tool.proofs.Hosts.Operations.{AfterCall, operation_goes, beginning_goes}
 use Rattle.avr_tool.proofs.Hosts.OneLink.{Spot, Runs}
 use Rattle.avr_tool.proofs.Hosts.Outputs.{AllTrue, Prints, stops, prints_reported, prints_then, prints_wider}
-use Rattle.avr_tool.proofs.Leads.{Reached, AfterBeginning}
+use Rattle.stk_host.specs.ReadSteps.{signature_steps}
 use Rattle.avr_tool.proofs.Plans.Calls.{Outcome, outcome_of, call_of, outcome_output, outcome_expected, dialog_is, expected_is, IsOperation, is_operation}
 use Rattle.avr_tool.proofs.Plans.Fits.{FitsAction, AllFitActions, action_items_fit}
 use Rattle.avr_tool.proofs.Plans.Standings.{after_fault, faulty_fine, over_fine}
@@ -39,22 +36,23 @@ use Rattle.avr_tool.specs.Items.{action_items, actions_items}
 
 -- ---- the calls
 
-abbrev pub RestsIn : Part → List Item → Memories → Spot → Type 0
-RestsIn part items m z = Rests part (steps_of_items part items) m z.0
+abbrev pub RestsIn : {part : Part} → (real : Real part) → List Item → Memories → Spot real.P → Type 0
+RestsIn {part = part} real items m z = Rests real (steps_of_items part items) m z.0
 
-module _ (part : Part) (s : Switches) (At : Memories → Spot → Type 0) (Fails : Type 0) where
+module _ (part : Part) (real : Real part) (s : Switches) (At : Memories → Spot real.P → Type 0) (Fails : Type 0) where
   -- After the call of an action: its own outcome and the memories of its items. If steps may fail, also a step's fault.
-  abbrev pub Came : (action : Action) → Memories → Result (Outcome action) HostFault → Spot → Type 0
+  abbrev pub Came : (action : Action) → Memories → Result (Outcome action) HostFault → Spot real.P → Type 0
   Came action m got z =
       ((got ≡ outcome_of part action m) × At (effects part (action_items action) m) z)
       ⊎ (Fails × ((fault : StepFault) × (got ≡ Err (host_fault fault))
-      × RestsIn part (action_items action) m z))
+      × RestsIn real (action_items action) m z))
 
-  abbrev pub Comes : Action → Memories → Spot → Type 0
-  Comes action m z = Runs device (λ y. RestsIn part (action_items action) m y) (Came action m) (call_of part s action) z
+  abbrev pub Comes : Action → Memories → Spot real.P → Type 0
+  Comes action m z = Runs real.device (λ y. RestsIn real (action_items action) m y) (Came action m)
+      (call_of part s action) z
 
   -- as the expected run: its state, its output and its memories
-  pub record Own (c : Expected) (at : Standing) (emitted : List OutputEvent) (z : Spot) : Type 0 where
+  pub record Own (c : Expected) (at : Standing) (emitted : List OutputEvent) (z : Spot real.P) : Type 0 where
     pub stands : c.standing ≡ at
     pub output_events_are : emitted ≡ c.output_events
     pub left : At c.memories z
@@ -66,109 +64,115 @@ module _ (part : Part) (s : Switches) (At : Memories → Spot → Type 0) (Fails
     pub line : OutputToFault part s actions m emitted
 
   -- at each command of these actions; then after them
-  abbrev pub Now : List Action → Memories → List OutputEvent → Spot → Type 0
-  Now actions m emitted z = RestsIn part (actions_items actions) m z × FirstActionsOutput part s actions m emitted
+  abbrev pub Now : List Action → Memories → List OutputEvent → Spot real.P → Type 0
+  Now actions m emitted z = RestsIn real (actions_items actions) m z × FirstActionsOutput part s actions m emitted
 
-  abbrev pub After : List Action → Memories → Standing → List OutputEvent → Spot → Type 0
-  After actions m at emitted z = RestsIn part (actions_items actions) m z
+  abbrev pub After : List Action → Memories → Standing → List OutputEvent → Spot real.P → Type 0
+  After actions m at emitted z = RestsIn real (actions_items actions) m z
       × (Own (actions_expected part s actions m) at emitted z ⊎ Broken actions m at emitted)
 
   -- after the first of them
-  abbrev pub AfterOne : Action → List Action → Memories → Standing → List OutputEvent → Spot → Type 0
-  AfterOne action rest m at emitted z = RestsIn part (action_items action) m z
+  abbrev pub AfterOne : Action → List Action → Memories → Standing → List OutputEvent → Spot real.P → Type 0
+  AfterOne action rest m at emitted z = RestsIn real (action_items action) m z
       × (Own (outcome_expected part s action m) at emitted z ⊎ Broken (action ∷ rest) m at emitted)
 
   -- What the calls do between such conditions. Each action has its outcome, and the closing keeps the memories. A fault
   -- comes only if steps may fail.
   pub record Passes : Type 0 where
-    pub idle : (m : Memories) (z : Spot) → At m z → HasMemories part m z.0
-    pub calls : (action : Action) (m : Memories) (z : Spot) → FitsAction part action → FitsPart part m → At m z
+    pub idle : (m : Memories) (z : Spot real.P) → At m z → HasMemories real m z.0
+    pub calls : (action : Action) (m : Memories) (z : Spot real.P) → FitsAction part action → FitsPart part m
+        → AllWork real (action_steps part action) m → At m z
         → Comes action m z
-    pub closes : (m : Memories) (z : Spot) → At m z → Runs device (λ y. HasMemories part m y.0)
-        (λ r y. HasMemories part m y.0 × ((r ≡ Ok tt) ⊎ (Fails × ((fault : StepFault) × (r ≡ Err (host_fault fault))))))
+    pub closes : (m : Memories) (z : Spot real.P) → At m z → Runs real.device (λ y. HasMemories real m y.0)
+        (λ r y. HasMemories real m y.0 × ((r ≡ Ok tt) ⊎ (Fails × ((fault : StepFault) × (r ≡ Err (host_fault fault))))))
         closing z
 
-module _ (part : Part) (sound : IsPart part) (s : Switches) where
+module _ (part : Part) (sound : IsPart part) (real : Real part) (s : Switches) where
   -- the outcomes of a call over any link
-  abbrev AnyOutcome : (action : Action) → Memories → Result (Outcome action) HostFault → Programmer → Type 0
-  AnyOutcome action m got q = Came part s (λ m z. Settled part m z.0) ⊤ action m got (q, [])
+  abbrev AnyOutcome : (action : Action) → Memories → Result (Outcome action) HostFault → real.P → Type 0
+  AnyOutcome action m got q = Came part real s (λ m z. Settled real m z.0) ⊤ action m got (q, [])
 
-  abbrev pub ComesAnyhow : Action → Memories → Programmer → Type 0
-  ComesAnyhow action m p = Keeps device (Rests part (steps_of_items part (action_items action)) m) (AnyOutcome action m)
+  abbrev pub ComesAnyhow : Action → Memories → real.P → Type 0
+  ComesAnyhow action m p = Keeps real.device (Rests real (steps_of_items part (action_items action)) m)
+      (AnyOutcome action m)
       (call_of part s action) p
 
   -- an action that is a run of steps and the check of their data
-  pub operation_comes : (action : Action) (m : Memories) → FitsAction part action → FitsPart part m → (p : Programmer)
-      → Settled part m p → ComesAnyhow action m p
-  operation_comes action m fits f p settled =
-      subst (λ d. Keeps device (Rests part (steps_of_items part (action_items action)) m) (AnyOutcome action m) d p)
+  pub operation_comes : (action : Action) (m : Memories) → FitsAction part action → FitsPart part m
+      → AllWork real (action_steps part action) m → (p : real.P)
+      → Settled real m p → ComesAnyhow action m p
+  operation_comes action m fits f w p settled =
+      subst (λ d. Keeps real.device (Rests real (steps_of_items part (action_items action)) m) (AnyOutcome action m) d
+      p)
       o.call_is
       (wider (λ bytes q r. rests q r) (λ e q x. x) came
-      (operation_goes part sound (action_steps part action) m o.judge p o.are f settled))
+      (operation_goes part sound real (action_steps part action) m o.judge p o.are f w settled))
     where
       o : IsOperation part s action m
       o = is_operation part s sound m f action fits
 
-      rests : (q : Programmer) → Reached part (action_steps part action) m q
-          → Rests part (steps_of_items part (action_items action)) m q
+      rests : (q : real.P) → Reached real (action_steps part action) m q
+          → Rests real (steps_of_items part (action_items action)) m q
       rests q r = record {
         count = r.count;
-        stands = subst (λ z. HasMemories part z q) (o.some r.count) (settled_idle part _ q r.stands);
+        stands = subst (λ z. HasMemories real z q) (o.some r.count) (settled_idle real _ q r.stands);
       }
 
-      came : (got : Result (Outcome action) HostFault) (q : Programmer)
-          → AfterCall part sound (action_steps part action) m o.judge got q → AnyOutcome action m got q
-      came got q (inl made) = inl (made.1 ∙ o.gives, subst (λ z. Settled part z q) o.all made.0)
+      came : (got : Result (Outcome action) HostFault) (q : real.P)
+          → AfterCall part sound real (action_steps part action) m o.judge got q → AnyOutcome action m got q
+      came got q (inl made) = inl (made.1 ∙ o.gives, subst (λ z. Settled real z q) o.all made.0)
       came got q (inr broke) = inr (tt, (broke.0, broke.1, rests q broke.2))
 
   -- the opening, with the part's own signature
-  pub opening_comes : (m : Memories) → FitsPart part m → (p : Programmer) → HasMemories part m p
+  pub opening_comes : (m : Memories) → FitsPart part m → AllWork real signature_steps m → (p : real.P)
+      → HasMemories real m p
       → ComesAnyhow OpenSession m p
   unfolding opening
-  opening_comes m f p idle =
+  opening_comes m f w p idle =
       outcome_mapped (checked_by (signature_checked part.signature s.force))
-      (wider (λ bytes q i. rests_here part [] m q i) (λ e q x. x) (λ o q x. x)
-      (beginning_goes part sound m p f idle)) came
+      (wider (λ bytes q i. rests_here real [] m q i) (λ e q x. x) (λ o q x. x)
+      (beginning_goes part sound real m p f w idle)) came
     where
-      came : (o : StepOutcome) (q : Programmer) → AfterBeginning part m o q
+      came : (o : StepOutcome) (q : real.P) → AfterBeginning real m o q
           → AnyOutcome OpenSession m (checked_by (signature_checked part.signature s.force) o) q
       came (Ok found) q a = inl (
         subst (λ x. checked_by (signature_checked part.signature s.force) (Ok x) ≡ Ok part.signature) (sym a.1)
             (signature_taken part.signature s.force),
         a.0,
       )
-      came (Err fault) q i = inr (tt, (fault, refl, rests_here part [] m q i))
+      came (Err fault) q i = inr (tt, (fault, refl, rests_here real [] m q i))
 
 -- ---- their output
 
 abbrev pub fault_output : Part → StepFault → List OutputEvent
 fault_output part fault = PrintsLine (fault_line part (host_fault fault)) ∷ []
 
-module _ (part : Part) (s : Switches) where
+module _ (part : Part) (real : Real part) (s : Switches) where
   fault_prints : (action : Action) (fault : StepFault)
       → outcome_output part s action (Err (host_fault fault)) ≡ fault_output part fault
   fault_prints OpenSession of_step.NoAnswer = refl
   fault_prints action fault = search rules
 
   -- the output of an action is true
-  module _ (True : OutputEvent → Programmer → Type 0) where
+  module _ (True : OutputEvent → real.P → Type 0) where
     abbrev pub ActionTrue : Action → Memories → Type 0
-    ActionTrue action m = (q : Programmer) → memories_of q.chip ≡ effects part (action_items action) m
+    ActionTrue action m = (q : real.P) → real.memories q ≡ effects part (action_items action) m
         → AllTrue True (outcome_output part s action (outcome_of part action m)) q
 
     abbrev pub ActionsTrue : List Action → Memories → Type 0
     ActionsTrue [] m = ⊤
     ActionsTrue (action ∷ actions) m = ActionTrue action m × ActionsTrue actions (effects part (action_items action) m)
 
-module _ (part : Part) (sound : IsPart part) (s : Switches) (True : OutputEvent → Programmer → Type 0)
-    (fault_true : (fault : StepFault) (q : Programmer) → AllTrue True (fault_output part fault) q)
-    (At : Memories → Spot → Type 0) (Fails : Type 0) (pass : Passes part s At Fails) where
+module _ (part : Part) (sound : IsPart part) (real : Real part) (s : Switches) (True : OutputEvent → real.P → Type 0)
+    (fault_true : (fault : StepFault) (q : real.P) → AllTrue True (fault_output part fault) q)
+    (At : Memories → Spot real.P → Type 0) (Fails : Type 0) (pass : Passes part real s At Fails) where
   none_done : (actions : List Action) (m : Memories) → FirstActionsOutput part s actions m []
   none_done actions m = record { done = []; more = actions; actions_are = refl; fine = refl; output_events_are = refl }
 
-  abbrev pub Goes : List Action → Memories → Spot → Type 0
+  abbrev pub Goes : List Action → Memories → Spot real.P → Type 0
   Goes actions m z =
-      Prints True (Now part s At Fails actions m) (After part s At Fails actions m) (actions_dialog part s actions) z
+      Prints real.device True (Now part real s At Fails actions m) (After part real s At Fails actions m)
+      (actions_dialog part s actions) z
 
   module _ (action : Action) (rest : List Action) (m : Memories) (fits : ItemsFit part (action_items action))
       (f : FitsPart part m) where
@@ -178,30 +182,32 @@ module _ (part : Part) (sound : IsPart part) (s : Switches) (True : OutputEvent 
     abbrev c : Expected
     c = outcome_expected part s action m
 
-    pub action_prints : (z : Spot) → ActionTrue part s True action m → Comes part s At Fails action m z
-        → Prints True (λ emitted y. RestsIn part items m y × FirstActionsOutput part s (action ∷ rest) m emitted)
-        (AfterOne part s At Fails action rest m) (action_dialog part s action) z
+    pub action_prints : (z : Spot real.P) → ActionTrue part real s True action m → Comes part real s At Fails action m z
+        → Prints real.device True (λ emitted y. RestsIn real items m y
+        × FirstActionsOutput part s (action ∷ rest) m emitted)
+        (AfterOne part real s At Fails action rest m) (action_dialog part s action) z
     action_prints z holds comes =
-        subst (λ d. Prints True (λ emitted y. RestsIn part items m y × FirstActionsOutput part s (action
-        ∷ rest) m emitted) (AfterOne part s At Fails action rest m) d z) (dialog_is part s action)
-        (prints_reported True (outcome_output part s action) comes (λ y r. (r, none_done (action ∷ rest) m)) each)
+        subst (λ d. Prints real.device True (λ emitted y. RestsIn real items m y × FirstActionsOutput part s (action
+        ∷ rest) m emitted) (AfterOne part real s At Fails action rest m) d z) (dialog_is part s action)
+        (prints_reported real.device True (outcome_output part s action) comes (λ y r. (r, none_done (action ∷ rest) m))
+        each)
       where
-        each : (got : Result (Outcome action) HostFault) (y : Spot) → Came part s At Fails action m got y
+        each : (got : Result (Outcome action) HostFault) (y : Spot real.P) → Came part real s At Fails action m got y
             → AllTrue True (outcome_output part s action got) y.0
-            × AfterOne part s At Fails action rest m (standing got) (outcome_output part s action got) y
+            × AfterOne part real s At Fails action rest m (standing got) (outcome_output part s action got) y
         each got y (inl made) =
             subst (λ x. AllTrue True (outcome_output part s action x) y.0
-            × AfterOne part s At Fails action rest m (standing x) (outcome_output part s action x) y) (sym made.0) (
-              holds y.0 (pass.idle _ y made.1).memories,
+            × AfterOne part real s At Fails action rest m (standing x) (outcome_output part s action x) y) (sym made.0) (
+              holds y.0 (real.has _ y.0 (pass.idle _ y made.1)),
               (
-                rests_all part sound items m y.0 fits f (pass.idle _ y made.1),
+                rests_all real sound items m y.0 fits f (pass.idle _ y made.1),
                 inl (record { stands = refl; output_events_are = refl; left = made.1 }),
               ),
             )
         each got y (inr broke) =
             let fault = broke.1.0 in
             let line : outcome_output part s action got ≡ fault_output part fault =
-            ap (outcome_output part s action) broke.1.1 ∙ fault_prints part s action fault in (
+            ap (outcome_output part s action) broke.1.1 ∙ fault_prints part real s action fault in (
               subst (λ x. AllTrue True x y.0) (sym line) (fault_true fault y.0),
               (
                 broke.1.2,
@@ -238,12 +244,13 @@ module _ (part : Part) (sound : IsPart part) (s : Switches) (True : OutputEvent 
             output_events_are = ap₂ ◌++◌ is first.output_events_are ∙ sym (ap (λ y. y.output_events) on);
           }
 
-      rests_later : (y : Spot) → RestsIn part (actions_items rest) c.memories y
-          → RestsIn part (actions_items (action ∷ rest)) m y
-      rests_later y r = rests_behind part sound items (actions_items rest) m y.0 fits f r
+      rests_later : (y : Spot real.P) → RestsIn real (actions_items rest) c.memories y
+          → RestsIn real (actions_items (action ∷ rest)) m y
+      rests_later y r = rests_behind real sound items (actions_items rest) m y.0 fits f r
 
-      after_behind : (at : Standing) (x : List OutputEvent) (y : Spot) → After part s At Fails rest c.memories at x y
-          → After part s At Fails (action ∷ rest) m at (emitted ++ x) y
+      after_behind : (at : Standing) (x : List OutputEvent) (y : Spot real.P)
+          → After part real s At Fails rest c.memories at x y
+          → After part real s At Fails (action ∷ rest) m at (emitted ++ x) y
       after_behind at x y (rests, inl own) =
           search (rules, rests_later y rests, goes_as (actions_expected part s rest) NoFault fine)
       after_behind at x y (rests, inr broken) =
@@ -262,20 +269,21 @@ module _ (part : Part) (sound : IsPart part) (s : Switches) (True : OutputEvent 
             }),
           )
 
-    before : (y : Spot) → RestsIn part items m y → RestsIn part (actions_items (action ∷ rest)) m y
-    before y r = rests_before part items (actions_items rest) m y.0 r
+    before : (y : Spot real.P) → RestsIn real items m y → RestsIn real (actions_items (action ∷ rest)) m y
+    before y r = rests_before real items (actions_items rest) m y.0 r
 
-    pub goes_cons : (z : Spot) → ActionTrue part s True action m → Comes part s At Fails action m z
-        → ((y : Spot) → At c.memories y → Goes rest c.memories y) → Goes (action ∷ rest) m z
+    pub goes_cons : (z : Spot real.P) → ActionTrue part real s True action m → Comes part real s At Fails action m z
+        → ((y : Spot real.P) → At c.memories y → Goes rest c.memories y) → Goes (action ∷ rest) m z
     goes_cons z holds comes more =
-        prints_then True (λ emitted y x. (before y x.0, x.1)) (action_prints z holds comes) on
+        prints_then real.device True (λ emitted y x. (before y x.0, x.1)) (action_prints z holds comes) on
       where
-        on : (at : Standing) (emitted : List OutputEvent) (y : Spot) → AfterOne part s At Fails action rest m at emitted
-            y → Prints True (λ x. Now part s At Fails (action ∷ rest) m (emitted ++ x))
-            (λ b x. After part s At Fails (action ∷ rest) m b (emitted ++ x))
+        on : (at : Standing) (emitted : List OutputEvent) (y : Spot real.P)
+            → AfterOne part real s At Fails action rest m at emitted
+            y → Prints real.device True (λ x. Now part real s At Fails (action ∷ rest) m (emitted ++ x))
+            (λ b x. After part real s At Fails (action ∷ rest) m b (emitted ++ x))
             (unless_fault (actions_dialog part s rest) at) y
         on NoFault emitted y (r, inl own) =
-            prints_wider True
+            prints_wider real.device True
             (λ x v now. (
               rests_later emitted own.output_events_are own.stands v now.0,
               first_behind emitted own.output_events_are own.stands x now.1,
@@ -283,19 +291,20 @@ module _ (part : Part) (sound : IsPart part) (s : Switches) (True : OutputEvent 
             (after_behind emitted own.output_events_are own.stands) (more y own.left)
         on NoFault emitted y (r, inr broken) = absurd (broken.faulty refl)
         on at emitted y (r, inl own) =
-            stops True (After part s At Fails (action ∷ rest) m) at emitted y (
+            stops real.device True (After part real s At Fails (action ∷ rest) m) at emitted y (
               before y r,
-              inl (subst (λ x. Own part s At Fails x at emitted y)
+              inl (subst (λ x. Own part real s At Fails x at emitted y)
                   (sym (goes_as (actions_expected part s rest) at own.stands)) own),
             )
         on at emitted y (r, inr broken) =
-            stops True (After part s At Fails (action ∷ rest) m) at emitted y (before y r, inr broken)
+            stops real.device True (After part real s At Fails (action ∷ rest) m) at emitted y (before y r, inr broken)
 
   -- the actions after the opening
-  pub goes_actions : (actions : List Action) (m : Memories) (z : Spot) → AllFitActions part actions → FitsPart part m
-      → ActionsTrue part s True actions m → At m z → Goes actions m z
-  goes_actions [] m z fits f holds at = search rules
-  goes_actions (action ∷ rest) m z fits f holds at =
-      goes_cons action rest m (action_items_fit part action fits.0) f z holds.0 (pass.calls action m z fits.0 f at)
+  pub goes_actions : (actions : List Action) (m : Memories) (z : Spot real.P) → AllFitActions part actions
+      → FitsPart part m → ActionsWork real actions m
+      → ActionsTrue part real s True actions m → At m z → Goes actions m z
+  goes_actions [] m z fits f w holds at = search rules
+  goes_actions (action ∷ rest) m z fits f w holds at =
+      goes_cons action rest m (action_items_fit part action fits.0) f z holds.0 (pass.calls action m z fits.0 f w.0 at)
       (λ y there. goes_actions rest (effects part (action_items action) m) y fits.1
-      (effects_sizes part sound (action_items action) m f) holds.1 there)
+      (effects_sizes part sound (action_items action) m f) w.1 holds.1 there)

@@ -6,18 +6,19 @@ use Rattle.avr_part.specs.declared.part.Mem.TheVariants.{Flash}
 use Rattle.avr_part.specs.Part.{Part, IsPart}
 use Rattle.stk_frame.specs.declared.command.Command.{Command}
 use Rattle.stk_host.specs.ReadSteps.{read_count, read_step, read_steps}
-use Rattle.stk_emu.specs.Programmer.{Programmer}
 use Rattle.stk_emu.specs.Effect.{Memories, Item, effect, effects}
-use Rattle.stk_emu.specs.Settled.{HasMemories, FitsPart}
+use Rattle.stk_emu.specs.Settled.{FitsPart}
 use Rattle.stk_emu.specs.WriteOperations.{memories_after_step, write_operation_of, steps_of_items}
 use Rattle.avr_tool.proofs.Leads.{memories_after_steps}
+use Rattle.avr_tool.proofs.Real.{Real, HasMemories}
 use Rattle.avr_tool.proofs.Each.{Each, each_of}
 use Rattle.avr_tool.proofs.WriteOperations.Items.{items_do, changed_all, effect_sizes, ItemsFit}
 
 -- the memories after some number of first steps, in any mode
-pub record Rests (part : Part) (steps : List (List Command)) (m : Memories) (q : Programmer) : Type 0 where
-  pub count : ℕ
-  pub stands : HasMemories part (memories_after_steps part count steps m) q
+pub record Rests {part : Part} (real : Real part) (steps : List (List Command)) (m : Memories) (q : real.P) : Type 0
+  where
+    pub count : ℕ
+    pub stands : HasMemories real (memories_after_steps part count steps m) q
 
 -- a count past the last step changes nothing more
 pub changed_min : (part : Part) (count : ℕ) (steps : List (List Command)) (m : Memories)
@@ -55,20 +56,6 @@ all_on part [] ys = refl
 all_on part (item ∷ xs) ys = search (rules, append_assoc, all_on part xs ys)
 
 module _ (part : Part) where
-  pub rests_here : (steps : List (List Command)) (m : Memories) (q : Programmer) → HasMemories part m q
-      → Rests part steps m q
-  rests_here steps m q idle = record { count = 0; stands = idle }
-
-  -- some first steps are some first of more
-  pub rests_before : (xs ys : List Item) (m : Memories) (q : Programmer) → Rests part (steps_of_items part xs) m q
-      → Rests part (steps_of_items part (xs ++ ys)) m q
-  rests_before xs ys m q r =
-      let steps = steps_of_items part xs in
-      subst (λ all. Rests part all m q) (sym (all_on part xs ys)) (record {
-        count = min r.count (length steps);
-        stands = search (rules, changed_prefix, changed_min);
-      })
-
   pub effects_sizes : (sound : IsPart part) (items : List Item) (m : Memories) → FitsPart part m
       → FitsPart part (effects part items m)
   effects_sizes sound [] m f = f
@@ -81,19 +68,34 @@ module _ (part : Part) where
       ≡ effects part items m
   all_changed sound items m fits f = changed_all part (steps_of_items part items) m ∙ items_do part sound items m fits f
 
-  pub rests_all : (sound : IsPart part) (items : List Item) (m : Memories) (q : Programmer) → ItemsFit part items
-      → FitsPart part m → HasMemories part (effects part items m) q → Rests part (steps_of_items part items) m q
-  rests_all sound items m q fits f idle = search (rules, all_changed sound items m fits f)
+module _ {part : Part} (real : Real part) where
+  pub rests_here : (steps : List (List Command)) (m : Memories) (q : real.P) → HasMemories real m q
+      → Rests real steps m q
+  rests_here steps m q idle = record { count = 0; stands = idle }
+
+  -- some first steps are some first of more
+  pub rests_before : (xs ys : List Item) (m : Memories) (q : real.P) → Rests real (steps_of_items part xs) m q
+      → Rests real (steps_of_items part (xs ++ ys)) m q
+  rests_before xs ys m q r =
+      let steps = steps_of_items part xs in
+      subst (λ all. Rests real all m q) (sym (all_on part xs ys)) (record {
+        count = min r.count (length steps);
+        stands = search (rules, changed_prefix, changed_min);
+      })
+
+  pub rests_all : (sound : IsPart part) (items : List Item) (m : Memories) (q : real.P) → ItemsFit part items
+      → FitsPart part m → HasMemories real (effects part items m) q → Rests real (steps_of_items part items) m q
+  rests_all sound items m q fits f idle = search (rules, all_changed part sound items m fits f)
 
   -- all of the first steps and some of more
-  pub rests_behind : (sound : IsPart part) (xs ys : List Item) (m : Memories) (q : Programmer) → ItemsFit part xs
-      → FitsPart part m → Rests part (steps_of_items part ys) (effects part xs m) q
-      → Rests part (steps_of_items part (xs ++ ys)) m q
+  pub rests_behind : (sound : IsPart part) (xs ys : List Item) (m : Memories) (q : real.P) → ItemsFit part xs
+      → FitsPart part m → Rests real (steps_of_items part ys) (effects part xs m) q
+      → Rests real (steps_of_items part (xs ++ ys)) m q
   rests_behind sound xs ys m q fits f r =
       let steps = steps_of_items part xs in
-      subst (λ all. Rests part all m q) (sym (all_on part xs ys)) (record {
+      subst (λ all. Rests real all m q) (sym (all_on part xs ys)) (record {
         count = r.count + length steps;
-        stands = search (rules, changed_behind, all_changed);
+        stands = search (rules, changed_behind, all_changed part sound);
       })
 
 -- steps that write nothing

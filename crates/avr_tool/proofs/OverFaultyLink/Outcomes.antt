@@ -8,11 +8,10 @@ use Rattle.avr_session.specs.Session.{closing_output, session}
 use Rattle.stk_host.specs.Dialog.{Done}
 use Rattle.stk_emu.specs.Exchange.{Exchange}
 use Rattle.stk_emu.specs.DialogOverExchanges.{state_after, outputs_after}
-use Rattle.stk_emu.specs.Device.{device}
-use Rattle.stk_emu.specs.Effect.{Memories, effects, memories_of}
-use Rattle.stk_emu.specs.Programmer.{Programmer}
-use Rattle.stk_emu.specs.Settled.{HasMemories, FitsPart}
-use Rattle.stk_emu.proofs.Repeatable.{Settled}
+use Rattle.stk_emu.specs.Effect.{Memories, effects}
+use Rattle.stk_emu.specs.Settled.{FitsPart}
+use Rattle.stk_host.specs.ReadSteps.{signature_steps}
+use Rattle.avr_tool.proofs.Real.{ActionsWork, AllWork, Real, HasMemories, Settled}
 use Rattle.avr_tool.proofs.OverFaultyLink.EachAction.{Comes, Passes, ActionsTrue, fault_output, opening_comes}
 use Rattle.avr_tool.proofs.OverFaultyLink.Sessions.{AtMoment, AtEnd, at_last, anyhow, session_prints}
 use Rattle.avr_tool.proofs.Hosts.OneLink.{Spot, on_link}
@@ -24,9 +23,10 @@ use Rattle.avr_tool.proofs.Plans.Fits.{work}
 use Rattle.avr_tool.specs.Items.{action_items}
 use Rattle.avr_tool.specs.Outcome.{HasFirstOperations, IsDone, IsExpectedRun}
 
-module _ (plan : Plan) (sound : IsPart plan.part) (m0 : Memories) (f0 : FitsPart plan.part m0)
-    (fitted : All (IsFitted plan.part) plan.tasks) where
-  anything : (actions : List Action) (m : Memories) → ActionsTrue plan.part plan.switches Anything actions m
+module _ (plan : Plan) (sound : IsPart plan.part) (real : Real plan.part) (m0 : Memories) (f0 : FitsPart plan.part m0)
+    (fitted : All (IsFitted plan.part) plan.tasks) (signs : AllWork real signature_steps m0)
+    (works : ActionsWork real (work plan) m0) where
+  anything : (actions : List Action) (m : Memories) → ActionsTrue plan.part real plan.switches Anything actions m
   anything [] m = tt
   anything (action ∷ actions) m = (
     λ q is. any_outputs (outcome_output plan.part plan.switches action (outcome_of plan.part action m)) q,
@@ -34,34 +34,37 @@ module _ (plan : Plan) (sound : IsPart plan.part) (m0 : Memories) (f0 : FitsPart
   )
 
   -- over any link, or if no step fails
-  pub session_passes : (At : Memories → Spot → Type 0) (Fails : Type 0) → Passes plan.part plan.switches At Fails
-      → (z : Spot) → Comes plan.part plan.switches At Fails OpenSession m0 z
-      → Prints Anything (AtMoment plan m0) (AtEnd plan m0 Fails) (session plan) z
+  pub session_passes : (At : Memories → Spot real.P → Type 0) (Fails : Type 0)
+      → Passes plan.part real plan.switches At Fails
+      → (z : Spot real.P) → Comes plan.part real plan.switches At Fails OpenSession m0 z
+      → Prints real.device Anything (AtMoment plan real m0) (AtEnd plan real m0 Fails) (session plan) z
   session_passes At Fails pass z opened =
-      session_prints plan sound fitted Anything (λ fault q. any_outputs (fault_output plan.part fault) q)
-      (λ q. any_outputs (closing_output plan.switches.quiet plan.part (Ok tt)) q) At Fails pass m0 f0
+      session_prints plan sound real fitted Anything (λ fault q. any_outputs (fault_output plan.part fault) q)
+      (λ q. any_outputs (closing_output plan.switches.quiet plan.part (Ok tt)) q) At Fails pass m0 f0 works
       (λ q is. any_outputs (outcome_output plan.part plan.switches OpenSession (outcome_of plan.part OpenSession m0)) q)
       (anything (work plan) m0) z opened
 
-  module _ (p : Programmer) (exchanges : List Exchange) (idle : HasMemories plan.part m0 p) where
-    pub session_along : (k : ℕ) → Printed (AtMoment plan m0) (AtEnd plan m0 ⊤) k (session plan) (p, exchanges)
+  module _ (p : real.P) (exchanges : List Exchange) (idle : HasMemories real m0 p) where
+    pub session_along : (k : ℕ)
+        → Printed real.device (AtMoment plan real m0) (AtEnd plan real m0 ⊤) k (session plan) (p, exchanges)
     session_along k =
-        at_moment Anything (at_last plan m0 ⊤) k
-        (session_passes (λ m z. Settled plan.part m z.0) ⊤ (anyhow plan.part sound plan.switches) (p, exchanges)
-        (on_link device (opening_comes plan.part sound plan.switches m0 f0 p idle)))
+        at_moment real.device Anything (at_last plan real m0 ⊤) k
+        (session_passes (λ m z. Settled real m z.0) ⊤ (anyhow plan.part sound real plan.switches) (p, exchanges)
+        (on_link real.device (opening_comes plan.part sound real plan.switches m0 f0 signs p idle)))
 
     -- with status 0 it is its expected run
-    pub session_succeeds : (k status : ℕ) → (state_after device k (session plan) p exchanges).dialog ≡ Done status
+    pub session_succeeds : (k status : ℕ) → (state_after real.device k (session plan) p exchanges).dialog ≡ Done status
         → status ≡ 0 → IsExpectedRun plan m0
-        (memories_of (state_after device k (session plan) p exchanges).programmer.chip)
-        (outputs_after device k (session plan) p exchanges) status
+        (real.memories (state_after real.device k (session plan) p exchanges).programmer)
+        (outputs_after real.device k (session plan) p exchanges) status
     session_succeeds k status e zero = elim ((session_along k).after status e).1 [
       | inl own ↦ own
       | inr broke ↦ let one = broke.1.1 in absurd (omega (arith, zero, one))
     ]
 
-    pub session_leaves : Leads device (session plan) p exchanges (λ q. HasFirstOperations plan m0 (memories_of q.chip))
-        (λ status q. status ≡ 0 → IsDone plan m0 (memories_of q.chip))
+    pub session_leaves : Leads real.device (session plan) p exchanges
+        (λ q. HasFirstOperations plan m0 (real.memories q))
+        (λ status q. status ≡ 0 → IsDone plan m0 (real.memories q))
     session_leaves = record {
       during = λ k. (session_along k).now.0;
       after = λ k status e zero.

@@ -13,20 +13,16 @@ use Rattle.stk_host.proofs.Dialogs.Logic.{wider}
 use Rattle.stk_host.specs.declared.fault.HostFault.{HostFault}
 use Rattle.stk_host.specs.declared.fault.StepFault.{StepFault}
 use Rattle.stk_host.specs.Operations.{host_fault}
-use Rattle.stk_emu.proofs.Replies.Commands.{settled_idle}
-use Rattle.stk_emu.specs.Device.{device}
-use Rattle.stk_emu.specs.Effect.{Memories, memories_of}
+use Rattle.avr_tool.proofs.Real.{ActionsWork, HasMemories, Real, Settled, settled_idle}
+use Rattle.stk_emu.specs.Effect.{Memories}
 use Rattle.stk_emu.specs.WriteOperations.{steps_of_items}
 use Rattle.avr_tool.proofs.Leads.{memories_after_steps}
-use Rattle.stk_emu.specs.Programmer.{Programmer}
-use Rattle.stk_emu.specs.Settled.{HasMemories, FitsPart}
-use Rattle.stk_emu.proofs.Repeatable.{Settled}
+use Rattle.stk_emu.specs.Settled.{FitsPart}
 use Rattle.avr_tool.proofs.OverFaultyLink.EachAction.{RestsIn, Comes, Own, After, Passes, ActionTrue, ActionsTrue, fault_output, operation_comes, goes_cons, goes_actions}
 use Rattle.avr_tool.proofs.Hosts.Operations.{closing_goes}
 use Rattle.avr_tool.proofs.Hosts.OneLink.{Spot, on_link}
 use Rattle.avr_tool.proofs.Hosts.Outputs.{AllTrue, Prints, stops, prints_reported, prints_then}
 use Rattle.avr_tool.proofs.WriteOperations.StepCounts.{items_counted}
-use Rattle.avr_tool.proofs.WriteOperations.Steps.{leave_fits}
 use Rattle.avr_tool.proofs.Plans.Fits.{work, work_fits}
 use Rattle.avr_tool.specs.ExpectedRun.{Expected, working_expected, ending_output}
 use Rattle.avr_tool.specs.ExpectedOutput.{FirstActionsOutput, OutputToFault, IsExpectedOutput}
@@ -34,10 +30,11 @@ use Rattle.avr_tool.specs.Items.{items}
 use Rattle.avr_tool.specs.Outcome.{HasFirstOperations, IsExpectedRun}
 
 -- over any link, where each step may fail
-pub anyhow : (part : Part) → IsPart part → (s : Switches) → Passes part s (λ m z. Settled part m z.0) ⊤
-anyhow part sound s = record {
-  idle = λ m z t. settled_idle part m z.0 t;
-  calls = λ action m z fits f t. on_link device (operation_comes part sound s action m fits f z.0 t);
+pub anyhow : (part : Part) → IsPart part → (real : Real part) → (s : Switches)
+    → Passes part real s (λ m z. Settled real m z.0) ⊤
+anyhow part sound real s = record {
+  idle = λ m z t. settled_idle real m z.0 t;
+  calls = λ action m z fits f w t. on_link real.device (operation_comes part sound real s action m fits f w z.0 t);
   closes = λ m z t.
       wider (λ bytes y i. i) (λ e y x. x) (λ r y x. (
         x.0,
@@ -45,29 +42,32 @@ anyhow part sound s = record {
           | inl ok ↦ inl ok
           | inr broke ↦ inr (tt, broke)
         ],
-      )) (on_link device (closing_goes (HasMemories part m) (leave_fits part m) z.0 (settled_idle part m z.0 t)));
+      )) (on_link real.device
+      (closing_goes real.device (HasMemories real m) (real.leaves m) z.0 (settled_idle real m z.0 t)));
 }
 
-module _ (plan : Plan) (m : Memories) where
-  abbrev pub AtMoment : List OutputEvent → Spot → Type 0
-  AtMoment emitted y = HasFirstOperations plan m (memories_of y.0.chip) × IsExpectedOutput plan m emitted
+module _ (plan : Plan) (real : Real plan.part) (m : Memories) where
+  abbrev pub AtMoment : List OutputEvent → Spot real.P → Type 0
+  AtMoment emitted y = HasFirstOperations plan m (real.memories y.0) × IsExpectedOutput plan m emitted
 
   -- with a status: as the expected run, or status 1 after the line of a failed step
-  abbrev pub AtEnd : Type 0 → ℕ → List OutputEvent → Spot → Type 0
-  AtEnd Fails status emitted y = HasFirstOperations plan m (memories_of y.0.chip)
-      × (IsExpectedRun plan m (memories_of y.0.chip) emitted status
+  abbrev pub AtEnd : Type 0 → ℕ → List OutputEvent → Spot real.P → Type 0
+  AtEnd Fails status emitted y = HasFirstOperations plan m (real.memories y.0)
+      × (IsExpectedRun plan m (real.memories y.0) emitted status
       ⊎ (Fails × (OutputToFault plan.part plan.switches (actions plan) m emitted × (status ≡ 1))))
 
-  pub at_last : (Fails : Type 0) (status : ℕ) (emitted : List OutputEvent) (y : Spot) → AtEnd Fails status emitted y
+  pub at_last : (Fails : Type 0) (status : ℕ) (emitted : List OutputEvent) (y : Spot real.P)
+      → AtEnd Fails status emitted y
       → AtMoment emitted y
   at_last Fails status emitted y e' = search rules
 
-module _ (plan : Plan) (sound : IsPart plan.part) (fitted : All (IsFitted plan.part) plan.tasks)
-    (True : OutputEvent → Programmer → Type 0)
-    (fault_true : (fault : StepFault) (q : Programmer) → AllTrue True (fault_output plan.part fault) q)
-    (done_true : (q : Programmer) → AllTrue True (closing_output plan.switches.quiet plan.part (Ok tt)) q)
-    (At : Memories → Spot → Type 0) (Fails : Type 0) (pass : Passes plan.part plan.switches At Fails) (m : Memories)
-    (f : FitsPart plan.part m) where
+module _ (plan : Plan) (sound : IsPart plan.part) (real : Real plan.part) (fitted : All (IsFitted plan.part) plan.tasks)
+    (True : OutputEvent → real.P → Type 0)
+    (fault_true : (fault : StepFault) (q : real.P) → AllTrue True (fault_output plan.part fault) q)
+    (done_true : (q : real.P) → AllTrue True (closing_output plan.switches.quiet plan.part (Ok tt)) q)
+    (At : Memories → Spot real.P
+    → Type 0) (Fails : Type 0) (pass : Passes plan.part real plan.switches At Fails) (m : Memories)
+    (f : FitsPart plan.part m) (works : ActionsWork real (work plan) m) where
   abbrev part : Part
   part = plan.part
 
@@ -87,16 +87,29 @@ module _ (plan : Plan) (sound : IsPart plan.part) (fitted : All (IsFitted plan.p
     output_events_are = is;
   }
 
-  module _ (emitted : List OutputEvent) (y : Spot) (rests : RestsIn part (items plan) m y)
-      (own : Own part s At Fails w NoFault emitted y) where
-    left : (z : Spot) → HasMemories part w.memories z.0 → HasFirstOperations plan m (memories_of z.0.chip)
-    left z i = search (rules, items_counted)
+  first_done : (y : Spot real.P) → RestsIn real (items plan) m y → HasFirstOperations plan m (real.memories y.0)
+  first_done y rests = record {
+    count = rests.count;
+    memories = real.has (memories_after_steps part rests.count (steps_of_items part (items plan)) m) y.0 rests.stands
+        ∙ items_counted part (items plan) rests.count m;
+  }
 
-    abbrev ReportedAs : Result ⊤ HostFault → Spot → Type 0
+  module _ (emitted : List OutputEvent) (y : Spot real.P) (rests : RestsIn real (items plan) m y)
+      (own : Own part real s At Fails w NoFault emitted y) where
+    left : (z : Spot real.P) → HasMemories real w.memories z.0 → HasFirstOperations plan m (real.memories z.0)
+    left z i =
+        let first = first_done y rests in
+        record {
+          count = first.count;
+          memories = real.has w.memories z.0 i
+              ∙ (sym (real.has w.memories y.0 (pass.idle w.memories y own.left)) ∙ first.memories);
+        }
+
+    abbrev ReportedAs : Result ⊤ HostFault → Spot real.P → Type 0
     ReportedAs r z = AllTrue True (closing_output s.quiet part r) z.0
-        × AtEnd plan m Fails (status_of (standing r)) (emitted ++ closing_output s.quiet part r) z
+        × AtEnd plan real m Fails (status_of (standing r)) (emitted ++ closing_output s.quiet part r) z
 
-    closed : (r : Result ⊤ HostFault) (z : Spot) → HasMemories part w.memories z.0
+    closed : (r : Result ⊤ HostFault) (z : Spot real.P) → HasMemories real w.memories z.0
         × ((r ≡ Ok tt) ⊎ (Fails × ((fault : StepFault) × (r ≡ Err (host_fault fault))))) → ReportedAs r z
     closed r z (i, inl ok) = subst (λ x. ReportedAs x z) (sym ok) (
       done_true z.0,
@@ -106,7 +119,7 @@ module _ (plan : Plan) (sound : IsPart plan.part) (fitted : All (IsFitted plan.p
           emitted = ap (λ xs. xs ++ closing_output s.quiet part (Ok tt)) own.output_events_are
               ∙ sym (ap (λ t. w.output_events ++ ending_output plan t) own.stands);
           status_is = sym (ap status_of own.stands);
-          memories = i.memories;
+          memories = real.has w.memories z.0 i;
         }),
       ),
     )
@@ -116,22 +129,37 @@ module _ (plan : Plan) (sound : IsPart plan.part) (fitted : All (IsFitted plan.p
           fault_true fault z.0,
           (
             left z i,
-            inr (search (rules, all_done)),
+            inr (
+              broke.0,
+              (
+                record {
+                  before_fault = emitted;
+                  first = all_done emitted own.output_events_are own.stands;
+                  fault = fault;
+                  output_events_are = refl;
+                },
+                (search rules),
+              ),
+            ),
           ),
         )
 
-  with_fault : (at : Standing) (emitted : List OutputEvent) (y z : Spot) → ending_output plan at ≡ [] → status_of at ≡ 1
-      → After part s At Fails (actions plan) m at emitted y → memories_of z.0.chip ≡ memories_of y.0.chip
-      → AtEnd plan m Fails 1 emitted z
-  with_fault at emitted y z none one (rests, inl own) kept = search (rules, items_counted)
-  with_fault at emitted y z none one (rests, inr broken) kept = search (rules, items_counted)
+  with_fault : (at : Standing) (emitted : List OutputEvent) (y z : Spot real.P) → ending_output plan at ≡ []
+      → status_of at ≡ 1
+      → After part real s At Fails (actions plan) m at emitted y → real.memories z.0 ≡ real.memories y.0
+      → AtEnd plan real m Fails 1 emitted z
+  with_fault at emitted y z none one (rests, inl own) kept =
+      let first = first_done y rests in
+      let is = real.has w.memories y.0 (pass.idle w.memories y own.left) in search rules
+  with_fault at emitted y z none one (rests, inr broken) kept = let first = first_done y rests in search rules
 
-  ending_prints : (at : Standing) (emitted : List OutputEvent) (y : Spot)
-      → After part s At Fails (actions plan) m at emitted y
-      → Prints True (λ x. AtMoment plan m (emitted ++ x)) (λ b x. AtEnd plan m Fails (status_of b) (emitted ++ x))
+  ending_prints : (at : Standing) (emitted : List OutputEvent) (y : Spot real.P)
+      → After part real s At Fails (actions plan) m at emitted y
+      → Prints real.device True (λ x. AtMoment plan real m (emitted ++ x))
+      (λ b x. AtEnd plan real m Fails (status_of b) (emitted ++ x))
       (ending part s at) y
   ending_prints NoFault emitted y (rests, inl own) =
-      prints_reported True (closing_output s.quiet part) (pass.closes w.memories y own.left)
+      prints_reported real.device True (closing_output s.quiet part) (pass.closes w.memories y own.left)
       (λ z i. (
         left emitted y rests own z i,
         inr (inl (all_done (emitted ++ []) (append-nil emitted ∙ own.output_events_are) own.stands)),
@@ -140,22 +168,25 @@ module _ (plan : Plan) (sound : IsPart plan.part) (fitted : All (IsFitted plan.p
   ending_prints NoFault emitted y (rests, inr broken) = absurd (broken.faulty refl)
   ending_prints Faulty emitted y after =
       let before = memories_after_steps part after.0.count (steps_of_items part (items plan)) m in
-      let left : (z : Spot) → HasMemories part before z.0 → AtEnd plan m Fails 1 (emitted ++ []) z =
-      λ z i. subst (λ x. AtEnd plan m Fails 1 x z) (sym (append-nil emitted))
-      (with_fault Faulty emitted y z refl refl after (i.memories ∙ sym after.0.stands.memories)) in
-      prints_then True (λ x z now. now)
-      (prints_reported True {Then = λ at x z. AtEnd plan m Fails 1 (emitted ++ x) z} (λ _. [])
-      (on_link device (closing_goes (HasMemories part before) (leave_fits part before) y.0 after.0.stands))
-      (λ z i. at_last plan m Fails 1 (emitted ++ []) z (left z i)) (λ r z x. (tt, left z x.0)))
-      (λ closed x z a. stops True (λ b v. AtEnd plan m Fails (status_of b) (emitted ++ v)) Over x z a)
+      let left : (z : Spot real.P) → HasMemories real before z.0 → AtEnd plan real m Fails 1 (emitted ++ []) z =
+      λ z i. subst (λ x. AtEnd plan real m Fails 1 x z) (sym (append-nil emitted))
+      (with_fault Faulty emitted y z refl refl after (real.has before z.0 i
+      ∙ sym (real.has before y.0 after.0.stands))) in
+      prints_then real.device True (λ x z now. now)
+      (prints_reported real.device True {Then = λ at x z. AtEnd plan real m Fails 1 (emitted ++ x) z} (λ _. [])
+      (on_link real.device (closing_goes real.device (HasMemories real before) (real.leaves before) y.0 after.0.stands))
+      (λ z i. at_last plan real m Fails 1 (emitted ++ []) z (left z i)) (λ r z x. (tt, left z x.0)))
+      (λ closed x z a. stops real.device True (λ b v. AtEnd plan real m Fails (status_of b) (emitted ++ v)) Over x z a)
   ending_prints Over emitted y after = search (rules, with_fault Over emitted y y refl refl after refl)
 
-  pub session_prints : ActionTrue part s True OpenSession m → ActionsTrue part s True (work plan) m → (z : Spot)
-      → Comes part s At Fails OpenSession m z → Prints True (AtMoment plan m) (AtEnd plan m Fails) (session plan) z
+  pub session_prints : ActionTrue part real s True OpenSession m → ActionsTrue part real s True (work plan) m
+      → (z : Spot real.P)
+      → Comes part real s At Fails OpenSession m z
+      → Prints real.device True (AtMoment plan real m) (AtEnd plan real m Fails) (session plan) z
   unfolding session
   session_prints opening_true work_true z opened =
-      prints_then True (λ x y now. now)
-      (prints_then True (λ x y now. ((search (rules, items_counted)), inr (inl now.1)))
-      (goes_cons part sound s True fault_true At Fails pass OpenSession (work plan) m tt f z opening_true opened
+      prints_then real.device True (λ x y now. now)
+      (prints_then real.device True (λ x y now. (first_done y now.0, inr (inl now.1)))
+      (goes_cons part sound real s True fault_true At Fails pass OpenSession (work plan) m tt f z opening_true opened
       (search (rules, goes_actions, work_fits))) ending_prints)
-      (λ at emitted y a. stops True (AtEnd plan m Fails) (status_of at) emitted y a)
+      (λ at emitted y a. stops real.device True (AtEnd plan real m Fails) (status_of at) emitted y a)

@@ -8,6 +8,7 @@ use Rattle.avr_plan.specs.Plan.{Plan, IsFitted}
 use Rattle.stk_host.specs.declared.fault.HostFault.{HostFault}
 use Rattle.stk_host.specs.Dialog.{Dialog, Done, ◌>>=◌}
 use Rattle.stk_host.specs.Operations.{closing}
+use Rattle.stk_host.specs.ReadSteps.{signature_steps}
 use Rattle.stk_emu.specs.Exchange.{Exchange}
 use Rattle.stk_emu.specs.Programmer.{Programmer}
 use Rattle.stk_emu.specs.Device.{device}
@@ -29,6 +30,8 @@ use Rattle.avr_tool.specs.Items.{action_items, actions_items, items}
 use Rattle.avr_tool.specs.Completed.{none_completed, action_completed, actions_completed, operations_completed}
 use Rattle.avr_tool.specs.Outcome.{write_operations}
 use Rattle.avr_tool.proofs.Plans.Fits.{FitsAction, AllFitActions, work, work_fits, action_items_fit}
+use Rattle.avr_tool.proofs.Real.{Real}
+use Rattle.avr_tool.proofs.Emulated.{all_work, emulated}
 use Rattle.avr_tool.proofs.OverFaultyLink.FirstSteps.{Rests, rests_here, effects_sizes}
 use Rattle.avr_tool.proofs.OverFaultyLink.Sessions.{anyhow}
 use Rattle.avr_tool.proofs.OverFaultyLink.EachAction.{ComesAnyhow, AfterOne, fault_output, action_prints, operation_comes, opening_comes}
@@ -46,23 +49,26 @@ Strikes part m items made d = (p : Programmer) (exchanges : List Exchange) → S
     → Makes part m items d made p exchanges
 
 module _ (part : Part) (sound : IsPart part) (s : Switches) where
+  abbrev real : Real part
+  real = emulated part sound
+
   action_leads : (action : Action) (m : Memories) (p : Programmer) (exchanges : List Exchange)
-      → ItemsFit part (action_items action) → FitsPart part m → ComesAnyhow part sound s action m p
-      → Leads device (action_dialog part s action) p exchanges (Rests part (steps_of_items part (action_items action))
+      → ItemsFit part (action_items action) → FitsPart part m → ComesAnyhow part sound real s action m p
+      → Leads device (action_dialog part s action) p exchanges (Rests real (steps_of_items part (action_items action))
       m) (λ at q. at ≡ NoFault → Settled part (effects part (action_items action) m) q)
   action_leads action m p exchanges fits f comes = record {
-    during = λ k. (at_moment Anything (λ at emitted z x. x.0) k prints).now;
-    after = λ k at e fine. elim ((at_moment Anything (λ at emitted z x. x.0) k prints).after at e).1 [
+    during = λ k. (at_moment device Anything (λ at emitted z x. x.0) k prints).now;
+    after = λ k at e fine. elim ((at_moment device Anything (λ at emitted z x. x.0) k prints).after at e).1 [
       | inl own ↦ own.left
       | inr broken ↦ absurd (broken.faulty fine)
     ];
   }
     where
-      prints : Prints Anything (λ emitted z. Rests part (steps_of_items part (action_items action)) m z.0)
-          (AfterOne part s (λ m z. Settled part m z.0) ⊤ action [] m) (action_dialog part s action) (p, exchanges)
-      prints = prints_wider Anything (λ emitted z x. x.0) (λ at emitted z x. x)
-          (action_prints part sound s Anything (λ fault q. any_outputs (fault_output part fault) q)
-          (λ m z. Settled part m z.0) ⊤ (anyhow part sound s) action [] m fits f (p, exchanges)
+      prints : Prints device Anything (λ emitted z. Rests real (steps_of_items part (action_items action)) m z.0)
+          (AfterOne part real s (λ m z. Settled part m z.0) ⊤ action [] m) (action_dialog part s action) (p, exchanges)
+      prints = prints_wider device Anything (λ emitted z x. x.0) (λ at emitted z x. x)
+          (action_prints part sound real s Anything (λ fault q. any_outputs (fault_output part fault) q)
+          (λ m z. Settled part m z.0) ⊤ (anyhow part sound real s) action [] m fits f (p, exchanges)
           (λ q is. any_outputs (outcome_output part s action (outcome_of part action m)) q) (on_link device comes))
 
   makes_written : (action : Action) (m : Memories) → FitsAction part action → FitsPart part m
@@ -80,40 +86,45 @@ module _ (part : Part) (sound : IsPart part) (s : Switches) where
   makes_action EraseChip m fits f = makes_written EraseChip m fits f refl
   makes_action (WriteImage mem image) m fits f = search (rules, makes_written)
   makes_action action m fits f = λ p exchanges settled.
-      makes_none part m (action_dialog part s action) p exchanges
+      makes_none part sound m (action_dialog part s action) p exchanges
       (λ at q. at ≡ NoFault → Settled part (effects part (action_items action) m) q)
-      (action_leads action m p exchanges tt f (operation_comes part sound s action m fits f p settled))
+      (action_leads action m p exchanges tt f
+      (operation_comes part sound real s action m fits f (all_work part sound (action_steps part action) m) p settled))
 
   makes_each_action : (actions : List Action) (m : Memories) → AllFitActions part actions → FitsPart part m
       → Strikes part m (actions_items actions) (actions_completed part s actions) (actions_dialog part s actions)
   makes_each_action [] m fits f p exchanges settled =
-      makes_none part m (Done NoFault) p exchanges (λ at q. ⊤)
-      (record { during = λ k. rests_here part [] m p (settled_idle part m p settled); after = λ k at e. tt })
+      makes_none part sound m (Done NoFault) p exchanges (λ at q. ⊤)
+      (record { during = λ k. rests_here real [] m p (settled_idle part m p settled); after = λ k at e. tt })
   makes_each_action (action ∷ actions) m fits f p exchanges settled =
       let items = action_items action in
       let left = effects part items m in
       makes_then part sound m items (actions_items actions) (action_dialog part s action)
       (actions_dialog part s actions) (action_completed part action) (actions_completed part s actions) p exchanges
       (action_items_fit part action fits.0) f
-      (search (rules, action_leads, action_items_fit, operation_comes))
+      (action_leads action m p exchanges (action_items_fit part action fits.0) f
+      (operation_comes part sound real s action m fits.0 f (all_work part sound (action_steps part action) m) p
+      settled))
       (makes_action action m fits.0 f p exchanges settled)
       (λ q fs there. makes_each_action actions left fits.1 (effects_sizes part sound items m f) q fs there)
 
   -- the end keeps the memories
   module _ (m : Memories) where
-    abbrev Kept : Dialog OutputEvent Standing → Spot → Type 0
-    Kept d z = Prints Anything (λ emitted y. HasMemories part m y.0) (λ at emitted y. HasMemories part m y.0) d z
+    abbrev Kept : Dialog OutputEvent Standing → Spot Programmer → Type 0
+    Kept d z = Prints device Anything (λ emitted y. HasMemories part m y.0) (λ at emitted y. HasMemories part m y.0) d z
 
-    closing_keeps : (outcome_output : Result ⊤ HostFault → List OutputEvent) (z : Spot) → HasMemories part m z.0
+    closing_keeps : (outcome_output : Result ⊤ HostFault → List OutputEvent) (z : Spot Programmer)
+        → HasMemories part m z.0
         → Kept (reported closing outcome_output) z
     closing_keeps outcome_output z i =
-        prints_reported Anything outcome_output (on_link device (closing_goes (HasMemories part m) (leave_fits part m)
+        prints_reported device Anything outcome_output
+        (on_link device (closing_goes device (HasMemories part m) (leave_fits part m)
         z.0 i)) (λ y i. i) (λ r y x. (any_outputs (outcome_output r) y.0, x.0))
 
-    ending_keeps : (at : Standing) (z : Spot) → HasMemories part m z.0 → Kept (ending part s at) z
+    ending_keeps : (at : Standing) (z : Spot Programmer) → HasMemories part m z.0 → Kept (ending part s at) z
     ending_keeps NoFault z i = closing_keeps (closing_output s.quiet part) z i
-    ending_keeps Faulty z i = prints_then Anything (λ x y i. i) (closing_keeps (λ _. []) z i)
-        (λ at x y i. stops Anything (λ at emitted y. HasMemories part m y.0) Over x y i)
+    ending_keeps Faulty z i = prints_then device Anything (λ x y i. i) (closing_keeps (λ _. []) z i)
+        (λ at x y i. stops device Anything (λ at emitted y. HasMemories part m y.0) Over x y i)
     ending_keeps Over z i = record { holds = i }
 
 module _ (plan : Plan) (sound : IsPart plan.part) (fitted : All (IsFitted plan.part) plan.tasks) (m : Memories)
@@ -127,10 +138,11 @@ module _ (plan : Plan) (sound : IsPart plan.part) (fitted : All (IsFitted plan.p
       let part = plan.part in
       let s = plan.switches in
       let opened = action_dialog part s OpenSession in
-      let opens = action_leads part sound s OpenSession m p exchanges tt f (opening_comes part sound s m f p idle) in
+      let opens = action_leads part sound s OpenSession m p exchanges tt f
+      (opening_comes part sound (emulated part sound) s m f (all_work part sound signature_steps m) p idle) in
       makes_then part sound m [] (actions_items (work plan)) opened (actions_dialog part s (work plan)) none_completed
       (actions_completed part s (work plan)) p exchanges tt f
-      opens (makes_none part m opened p exchanges (λ at q. at ≡ NoFault → Settled part m q) opens)
+      opens (makes_none part sound m opened p exchanges (λ at q. at ≡ NoFault → Settled part m q) opens)
       (λ q fs there. makes_each_action part sound s (work plan) m (work_fits plan fitted) f q fs there)
 
   abbrev At : ℕ → Programmer → Type 0
@@ -151,7 +163,7 @@ module _ (plan : Plan) (sound : IsPart plan.part) (fitted : All (IsFitted plan.p
             (λ l. subst (λ i. At i (state_after device l (ending part plan.switches s) z.programmer
             z.exchanges).programmer) (let same : made ≡ made + 0 = omega arith in same) (record {
               few = changed.few;
-              stands = (at_moment Anything (λ at emitted y i. i) l keeps).now;
+              stands = (at_moment device Anything (λ at emitted y i. i) l keeps).now;
             }));
         sharp = inr (λ l. refl);
       }

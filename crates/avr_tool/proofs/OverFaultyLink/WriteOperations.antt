@@ -29,6 +29,7 @@ use Rattle.avr_tool.proofs.WriteOperations.Counts.{tallies_none, tallies_as, tal
 use Rattle.avr_session.specs.Standing.{Standing, NoFault}
 use Rattle.avr_session.specs.Session.{reported, unless_fault}
 use Rattle.avr_tool.specs.Completed.{none_completed, completed_unless_fault, steps_completed}
+use Rattle.avr_tool.proofs.Emulated.{emulated}
 use Rattle.avr_tool.proofs.OverFaultyLink.FirstSteps.{Rests, changed_min, changed_prefix, changed_behind, all_on, all_changed}
 use Rattle.avr_tool.proofs.OverFaultyLink.Calls.{reported_programmer, reported_fine}
 
@@ -45,16 +46,21 @@ pub record Makes (part : Part) (m : Memories) (items : List Item) (d : Dialog Ou
   pub complete : (k : ℕ) → (state_after device k d p exchanges).dialog ≡ Done NoFault
       → made k p exchanges ≡ length (steps_of_items part items)
 
+no_steps : (part : Part) (count : ℕ) (m : Memories) → memories_after_steps part count [] m ≡ m
+no_steps part zero m = refl
+no_steps part (suc count) m = refl
+
 -- nothing is made if the memories stay
-pub makes_none : (part : Part) (m : Memories) (d : Dialog OutputEvent Standing) (p : Programmer)
+pub makes_none : (part : Part) (sound : IsPart part) (m : Memories) (d : Dialog OutputEvent Standing) (p : Programmer)
     (exchanges : List Exchange) (After : Standing → Programmer → Type 0)
-    → Leads device d p exchanges (Rests part [] m) After → Makes part m [] d none_completed p exchanges
-makes_none part m d p exchanges After l = record {
+    → Leads device d p exchanges (Rests (emulated part sound) [] m) After → Makes part m [] d none_completed p exchanges
+makes_none part sound m d p exchanges After l = record {
   tally = tallies_none device d (Changed part [] m) p exchanges (λ k.
       let r = l.during k in
       record {
         few = omega arith;
-        stands = search rules;
+        stands = subst (λ z. HasMemories part z (state_after device k d p exchanges).programmer)
+            (no_steps part r.count m) r.stands;
       });
   complete = λ k e. refl;
 }
@@ -128,7 +134,7 @@ module _ (part : Part) (sound : IsPart part) where
   module _ (m : Memories) (xs ys : List Item) (d next : Dialog OutputEvent Standing)
       (made later : Count Programmer) (p : Programmer) (exchanges : List Exchange)
       (fits : ItemsFit part xs) (f : FitsPart part m)
-      (leads : Leads device d p exchanges (Rests part (steps_of_items part xs) m)
+      (leads : Leads device d p exchanges (Rests (emulated part sound) (steps_of_items part xs) m)
       (λ s q. s ≡ NoFault → Settled part (effects part xs m) q))
       (first : Makes part m xs d made p exchanges)
       (more : (q : Programmer) (fs : List Exchange) → Settled part (effects part xs m) q

@@ -7,7 +7,7 @@ use Rattle.avr_plan.specs.Plan.{Plan}
 use Rattle.avr_plan.specs.declared.planned.Task.{Task}
 use Rattle.avr_plan.specs.declared.planned.Task.TheVariants as task
 use Rattle.avr_session.specs.Actions.{Action, erase_actions, tasks_actions}
-use Rattle.stk_emu.specs.Effect.{Memories, Item, Erase, Write, effects}
+use Rattle.stk_emu.specs.Effect.{Memories, Item, Erase, effects}
 use Rattle.avr_tool.specs.ComparisonsAgree.{EachComparisonAgrees, ComparisonsAgree}
 use Rattle.avr_tool.specs.Items.{action_items, actions_items, items, has_erase, task_item, asked_items}
 

@@ -1,17 +1,19 @@
 -- Planning and session as one run.
 use Rattle.std.proofs.Common.{◌≡◌, ℕ, ◌⊎◌, inl, inr, List, [], ◌∷◌, ◌++◌, map, Bool, true, false, refl, sym, ap, ◌∙◌, subst, arith, append_assoc, append-nil, rules}
 use Rattle.avr_plan.specs.declared.settings.Settings.{Settings}
+use Rattle.avr_plan.specs.declared.update.Update.{Update}
 use Rattle.avr_desk.specs.Fault.{CountsNeverFall}
 use Rattle.avr_desk.specs.Lines.{memory_line, not_opened_line, not_read_line}
 use Rattle.avr_desk.specs.Record.{DeskState, Record, Bytes, after_err}
 use Rattle.avr_desk.specs.OutputEvents.{OutputEvent, PrintsLine, CreatesFile, IsPartOfEvent, IsBytePrefixOf, ReportsLineAs, after_events}
 use Rattle.avr_desk.proofs.Stages.Outputs.{kept_append, after_append}
 use Rattle.avr_desk.proofs.Lines.ReportedAs.{follows_on, follows_same, same_on}
+use Rattle.avr_plan.specs.AllocationPoints.{AtAllocatingUpdate}
 use Rattle.avr_plan.specs.Plan.{Plan}
 use Rattle.avr_plan.specs.Planning.{planned}
 use Rattle.avr_desk.specs.declared.record.Opening.{Opening}
 use Rattle.stk_host.specs.Play.{IsPrefixOfEvents}
-use Rattle.avr_desk.specs.StageRuns.{StageCompleted, StageRefused, RestOfStage, IsNextEvent, BreakFitsNext, BreakCause, LineNotPrinted, NotOpened, NotRead, NoMemory, NoMemoryForFile, ReportsBreakAs, events_of_break}
+use Rattle.avr_desk.specs.StageRuns.{AllocatesThere, StageCompleted, StageRefused, RestOfStage, BreakCause, LineNotPrinted, NotOpened, NotRead, NoMemory, NoMemoryForFile, ReportsBreakAs, events_of_break}
 use Rattle.avr_desk.specs.Stage.{Produced, Refused, NotReadToEnd, StageOutcome, StageResult, events_with_refusal}
 use Rattle.stk_host.specs.Dialog.{Event, Played, Emitted, played, prepend_events, bytes_sent, outputs}
 use Rattle.stk_host.specs.Transcript.{LinkState, Transcript, heard, Grows}
@@ -21,12 +23,16 @@ use Rattle.avr_session.specs.Run.{RunsSession, RunsSettings, StopsSession}
 use Rattle.avr_session.specs.Runs.{Devices, devices, Cause, StopsAt, NotCreated, NotWritten, SendingFailed, ReceivingFailed, FileFailed, PrintingFailed, AllocationFailed, ReportsCause, cause_line}
 use Rattle.avr_session.specs.Session.{session}
 use Rattle.avr_session.specs.Stopping.{RanToStatus}
-use Rattle.avr_tool.specs.Headline.{run, run_after_planning, IsNext, FitsNext, IsInTurn, IsRun, IsPrefixOfRun, Reason, StopsThere, InSession, InPlanning, stop_line, opened_at, StoppedInSession, StoppedPlanning, IsStopped}
+use Rattle.avr_tool.specs.Headline.{run, run_after_planning, FitsNext, IsInTurn, IsRun, IsPrefixOfRun, Reason, StopsAtAllocation, StopsThere, InSession, InPlanning, stop_line, opened_at, StoppedInSession, StoppedPlanning, IsStopped}
 
 pub emitted_outputs : (output_events : List OutputEvent) (events : List (Event OutputEvent))
     → outputs (map Emitted output_events ++ events) ≡ output_events ++ outputs events
 emitted_outputs [] events = refl
 emitted_outputs (event ∷ output_events) events = ap (λ rest. event ∷ rest) (emitted_outputs output_events events)
+
+emitted_whole : (output_events : List OutputEvent) → outputs (map Emitted output_events) ≡ output_events
+emitted_whole [] = refl
+emitted_whole (event ∷ output_events) = ap (λ rest. event ∷ rest) (emitted_whole output_events)
 
 pub emitted_bytes : (output_events : List OutputEvent) (events : List (Event OutputEvent))
     → bytes_sent (map Emitted output_events ++ events) ≡ bytes_sent events
@@ -179,22 +185,7 @@ same_place before whole begun later (FileFailed file NotWritten) during (inr pla
 same_place before whole begun later PrintingFailed during place = place
 same_place before whole begun later AllocationFailed during place = place
 
--- in planning, among the events of the whole run
-is_next : (event : OutputEvent) (later : List OutputEvent) (more : List (Event OutputEvent))
-    → IsNextEvent event later → IsNext event (map Emitted later ++ more)
-is_next event later more (behind, is) =
-    (map Emitted behind ++ more, ap (λ (events : List OutputEvent). map Emitted events ++ more) is)
-
-fits_next : (break : BreakCause) (openings : List Opening) (later : List OutputEvent)
-    (more : List (Event OutputEvent)) → BreakFitsNext break openings later
-    → FitsNext break openings (map Emitted later ++ more)
-fits_next (LineNotPrinted line) openings later more fits = is_next _ later more fits
-fits_next (NotOpened name) openings later more fits = is_next _ later more fits
-fits_next (NotRead name bytes) openings later more fits = is_next _ later more fits
-fits_next NoMemory openings later more fits = tt
-fits_next (NoMemoryForFile reading) openings later more fits = is_next _ later more fits
-
--- the line of a refusal is an event of planning
+-- in planning: the line of a refusal is an event of planning
 with_line : (tape : Tape) (later : List OutputEvent) (outcome : StageOutcome Plan)
     → (more : List (Event OutputEvent)) × (map Emitted later ++ (run_after_planning outcome tape).events
     ≡ map Emitted (events_with_refusal later outcome) ++ more)
@@ -229,9 +220,15 @@ module _ (settings : Settings) (x y : Devices) (stopped : StoppedPlanning settin
 
   place_planned : FitsNext stopped.broke.break openings behind
   place_planned =
-      let both = with_line [] rest.later (planned settings (stopped.broke.passed ++ openings)).stage_outcome in
-      subst (FitsNext stopped.broke.break openings) (sym both.1)
-      (fits_next stopped.broke.break openings _ both.0 rest.broken)
+      let outcome = (planned settings (stopped.broke.passed ++ openings)).stage_outcome in
+      let both = with_line [] rest.later outcome in
+      (events_with_refusal rest.later outcome, both.0, both.1, rest.broken)
+
+  taken_planned : AllocatesThere (AtAllocatingUpdate settings) stopped.broke.break stopped.broke.passed
+      (outputs (map Emitted stopped.broke.whole))
+  taken_planned =
+      subst (AllocatesThere (AtAllocatingUpdate settings) stopped.broke.break stopped.broke.passed)
+      (sym (emitted_whole stopped.broke.whole)) stopped.broke.taken
 
 module _ (settings : Settings) (x y : Devices) (stopped : StoppedInSession settings x y) (openings : List Opening) where
   abbrev planned_events : List (Event OutputEvent)
@@ -256,6 +253,18 @@ module _ (settings : Settings) (x y : Devices) (stopped : StoppedInSession setti
     part = in_session.part;
   }
 
+  at_allocation : stopped.then_is.cause ≡ AllocationFailed
+      → StopsAtAllocation settings (stopped.made.passed ++ openings) stopped.then_is.during
+      (planned_events ++ stopped.then_is.shown)
+  at_allocation failed =
+      let made = sym (stopped.made.comes openings) in (
+        stopped.plan,
+        stopped.then_is.shown,
+        sym (outcomes_equal made),
+        ap (λ (p : StageResult Plan). map Emitted p.output_events ++ stopped.then_is.shown) made,
+        stopped.then_is.at_point failed,
+      )
+
 stopped_prefix : (settings : Settings) (x y : Devices) → StoppedInSession settings x y → IsPrefixOfRun settings x y
 stopped_prefix settings x y stopped = record {
   openings = stopped.made.passed;
@@ -265,8 +274,11 @@ stopped_prefix settings x y stopped = record {
   notice = stopped.then_is.notice;
   reported_part = cause_part _ stopped.then_is.cause stopped.then_is.notice _ y.desk stopped.then_is.stops.is_reported;
   prefix = λ later. session_prefix settings x y stopped later;
-  place = λ later. same_place (map Emitted stopped.made.output_events) _ _ _ stopped.then_is.cause
-      stopped.then_is.during stopped.then_is.place;
+  place = λ later. (
+    same_place (map Emitted stopped.made.output_events) _ _ _ stopped.then_is.cause stopped.then_is.during
+        stopped.then_is.place,
+    at_allocation settings x y stopped later,
+  );
   in_turn = λ later. subst (λ stage_outcome. IsInTurn stage_outcome stopped.then_is.during)
       (sym (outcomes_equal (stopped.made.comes later))) stopped.then_is.breaks.in_turn;
   all_sent = emitted_bytes stopped.made.output_events stopped.then_is.shown ∙ stopped.then_is.breaks.all_sent;
@@ -302,7 +314,7 @@ planned_prefix settings x y stopped = record {
   notice = stopped.broke.notice;
   reported_part = break_part stopped.broke.break stopped.broke.notice x.desk y.desk stopped.broke.is_reported;
   prefix = λ later. prefix_planned settings x y stopped later;
-  place = λ later. (refl, place_planned settings x y stopped later);
+  place = λ later. (refl, place_planned settings x y stopped later, taken_planned settings x y stopped later);
   in_turn = λ later. search rules;
   all_sent = emitted_bytes stopped.broke.whole [];
   grows = subst (λ (l : LinkState). Grows x.link.transcript [] l.transcript) (sym stopped.same)
@@ -324,8 +336,23 @@ pub another_text : (settings : Settings) (x y : Devices) (p : IsPrefixOfRun sett
     (more : List (Event OutputEvent)) → p.reason ≡ InPlanning (LineNotPrinted text)
     → (p.prefix []).later ≡ Emitted (PrintsLine line) ∷ more → (text ≡ line → ⊥) → ⊥
 another_text settings x y p text line more because next other =
-    let there = subst (λ (reason : Reason). StopsThere reason p.during [] (p.prefix [])) because (p.place []) in
-    other (ap line_of (sym there.1.1 ∙ next))
+    let there = subst (λ (reason : Reason). StopsThere settings p.openings reason p.during [] (p.prefix [])) because
+    (p.place []) in
+    let due = there.1.3.1 in
+    other (ap line_of
+    (sym (there.1.2 ∙ ap (λ (events : List OutputEvent). map Emitted events ++ there.1.1) due) ∙ next))
+
+-- without updates no allocation fails in planning, except for a file
+pub no_memory : (settings : Settings) (x y : Devices) (p : IsPrefixOfRun settings x y)
+    → p.reason ≡ InPlanning NoMemory → settings.updates ≡ [] → ⊥
+no_memory settings x y p because empty =
+    let there = subst (λ (reason : Reason). StopsThere settings p.openings reason p.during [] (p.prefix [])) because
+    (p.place []) in
+    let at = there.2.point in none at.done at.due at.more (sym empty ∙ at.updates_are)
+  where
+    none : (done : List Update) (due : Update) (more : List Update) → [] ≡ done ++ due ∷ more → ⊥
+    none [] due more is = cc
+    none (first ∷ done) due more is = cc
 
 -- the same openings and the same items received lead to one status
 pub one_status : (settings : Settings) (h i j k : Devices) (m n : ℕ) (x : IsRun settings h i m)

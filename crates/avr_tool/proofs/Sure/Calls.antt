@@ -15,11 +15,13 @@ use Rattle.stk_host.specs.Operations as host
 use Rattle.stk_host.specs.Operations.{checked_by, signature_checked, no_result}
 use Rattle.stk_emu.proofs.Replies.Commands.{ready_idle, ready_settled}
 use Rattle.stk_emu.specs.Device.{device}
+use Rattle.stk_emu.specs.Programmer.{Programmer}
 use Rattle.stk_emu.specs.Effect.{Memories, effects}
 use Rattle.stk_emu.specs.StepData.{data_of_steps}
 use Rattle.avr_tool.proofs.Leads.{memories_after_steps}
 use Rattle.stk_emu.specs.Settled.{HasMemories, Ready, FitsPart}
 use Rattle.stk_emu.specs.Exchange.{Exchange}
+use Rattle.avr_tool.proofs.Emulated.{all_work, emulated}
 use Rattle.avr_tool.proofs.OverFaultyLink.EachAction.{Comes, Passes, operation_comes, opening_comes}
 use Rattle.avr_tool.proofs.Given.Comparisons.{signature_taken}
 use Rattle.avr_tool.proofs.Sure.Exchanges.{Brings, IsSure, brings_bind, brings_reported, brings_play}
@@ -86,26 +88,30 @@ module _ (Such : List Exchange → Type 0) (sure : IsSure Such) where
   -- ---- the calls of a session
 
   -- the programmer is in programming mode, and few of the exchanges to come are bad
-  abbrev pub AtSure : Part → Memories → Spot → Type 0
+  abbrev pub AtSure : Part → Memories → Spot Programmer → Type 0
   AtSure part m z = Ready part m z.0 × Such z.1
 
-  pub no_failure : (part : Part) → IsPart part → (s : Switches) → Passes part s (AtSure part) ⊥
+  pub no_failure : (part : Part) (sound : IsPart part) (s : Switches)
+      → Passes part (emulated part sound) s (AtSure part) ⊥
   no_failure part sound s = record {
     idle = λ m z t. ready_idle part m z.0 t.0;
-    calls = λ action m z fits f t.
+    calls = λ action m z fits f w t.
         wider (λ bytes y r. r) (λ e y x. x) (λ got y x. inl (x.1.0.0, (x.1.0.1, x.1.1)))
-        (both device (on_link device (operation_comes part sound s action m fits f z.0 (ready_settled part m z.0 t.0)))
+        (both device (on_link device (operation_comes part sound (emulated part sound) s action m fits f w z.0
+        (ready_settled part m z.0 t.0)))
         (operation_brings part sound m f s action fits z t.0 t.1));
     closes = λ m z t.
         let i = ready_idle part m z.0 t.0 in
         wider (λ bytes y i. i) (λ e y x. x) (λ r y x. (x.0.0, inl x.1.0.0))
-        (both device (on_link device (closing_goes (HasMemories part m) (leave_fits part m) z.0 i))
+        (both device (on_link device (closing_goes device (HasMemories part m) (leave_fits part m) z.0 i))
         (closing_brings part m z i t.1));
   }
 
-  pub opens_sure : (part : Part) (sound : IsPart part) (s : Switches) (m : Memories) (z : Spot) → FitsPart part m
-      → HasMemories part m z.0 → Such z.1 → Comes part s (AtSure part) ⊥ OpenSession m z
+  pub opens_sure : (part : Part) (sound : IsPart part) (s : Switches) (m : Memories) (z : Spot Programmer)
+      → FitsPart part m
+      → HasMemories part m z.0 → Such z.1 → Comes part (emulated part sound) s (AtSure part) ⊥ OpenSession m z
   opens_sure part sound s m z f idle few =
       wider (λ bytes y r. r) (λ e y x. x) (λ got y x. inl (x.1.0.0, (x.1.0.1, x.1.1)))
-      (both device (on_link device (opening_comes part sound s m f z.0 idle))
+      (both device (on_link device (opening_comes part sound (emulated part sound) s m f
+      (all_work part sound signature_steps m) z.0 idle))
       (opening_brings part sound m f s.force z idle few))

@@ -24,7 +24,7 @@ use Rattle.avr_tool.proofs.Given.StepsGive.{step_data, changed_sizes, given_same
 -- from each programmer under the first condition, over such exchanges, to this result and one under the second
 abbrev pub Brings : {R : Type 0} → (List Exchange → Type 0) → (Programmer → Type 0) → Dialog ⊥ R → R
     → (Programmer → Type 0) → Type 0
-Brings Such Before d r After = (z : Spot) → Before z.0 → Such z.1
+Brings Such Before d r After = (z : Spot Programmer) → Before z.0 → Such z.1
     → Runs device (λ y. ⊤) (λ got y. ((got ≡ r) × After y.0) × Such y.1) d z
 
 -- a step of at most two commands, which have these data under either condition, brings them

@@ -41,7 +41,8 @@ others_steady : (exchanges : List Exchange) → AreSteady exchanges → AreStead
 others_steady exchanges s = search rules
 
 -- over such exchanges no device restarts
-pub on_steady : {R : Type 0} (After : R → Spot → Type 0) (d : Dialog ⊥ R) (z : Spot) → AreSteady z.1
+pub on_steady : {R : Type 0} (After : R → Spot Programmer → Type 0) (d : Dialog ⊥ R) (z : Spot Programmer)
+    → AreSteady z.1
     → HoldsFrom (this_link steady) (λ bytes y. ⊤) NoOutput After d z
     → HoldsFrom (this_link device) (λ bytes y. ⊤) NoOutput After d z
 on_steady After (Done r) z s h = h
@@ -64,16 +65,16 @@ same_data : (a b : List ℕ) → Data a ≡ Data b → a ≡ b
 same_data a b e = cc
 
 -- an attempt whose commands would all have data: the data come
-abbrev Has : List ℕ → Dialog ⊥ Reply → Spot → Type 0
+abbrev Has : List ℕ → Dialog ⊥ Reply → Spot Programmer → Type 0
 Has got d z = Runs steady (λ y. ⊤) (λ reply y. (reply ≡ Data got) × AllArriveRight y.1) d z
 
-replied : (go_on : List ℕ → Dialog ⊥ Reply) (go : List ℕ → Reply) (got : List ℕ) (z : Spot) (reply : Reply)
+replied : (go_on : List ℕ → Dialog ⊥ Reply) (go : List ℕ → Reply) (got : List ℕ) (z : Spot Programmer) (reply : Reply)
     → ((bytes : List ℕ) → go bytes ≡ Data got → Has got (go_on bytes) z)
     → on_data reply go ≡ Data got → Has got (with_data go_on reply) z
 replied go_on go got z (Data bytes) each has = each bytes has
 replied go_on go got z reply each has = search rules
 
-attempt_has : (commands : List Command) (before : List ℕ) (z : Spot) (got : List ℕ) → AllArriveRight z.1
+attempt_has : (commands : List Command) (before : List ℕ) (z : Spot Programmer) (got : List ℕ) → AllArriveRight z.1
     → joined_reply steady commands before z.0 ≡ Data got → Has got (attempt commands before) z
 unfolding attempt exchange
 attempt_has [] before z got good has = done (has, good)
@@ -89,22 +90,22 @@ attempt_has (command ∷ commands) before z got good has =
 module _ (Before After : Programmer → Type 0) (commands : List Command) (got : List ℕ)
     (fits : IsRepeatable steady commands Before After)
     (has : (q : Programmer) → Before q ⊎ After q → joined_reply device commands [] q ≡ Data got) where
-  abbrev Whole : StepOutcome → Spot → Type 0
+  abbrev Whole : StepOutcome → Spot Programmer → Type 0
   Whole o z = ((o ≡ Ok got) × After z.0) × AllArriveRight z.1
 
   -- with this many attempts left
-  abbrev Begins : ℕ → Spot → Type 0
+  abbrev Begins : ℕ → Spot Programmer → Type 0
   Begins zero z = ⊥
   Begins (suc more) z = Before z.0 × AllArriveRight z.1
 
-  after_try : (more : ℕ) (reply : Reply) (y : Spot)
+  after_try : (more : ℕ) (reply : Reply) (y : Spot Programmer)
       → OnReply (λ q. Before q ⊎ After q) (AfterStep steady commands Before After fits) reply y.0
       × ((reply ≡ Data got) × AllArriveRight y.1) → OnReply (Begins more) Whole reply y
   after_try more (Data bytes) y (stood, (is, good)) = ((ap (λ x. Ok x) (same_data bytes got is), stood.0), good)
   after_try more (Again fault) y (stood, (is, good)) = absurd (cc)
   after_try more (Stop fault) y (stood, (is, good)) = absurd (cc)
 
-  step_has : (z : Spot) → Before z.0 → AllArriveRight z.1 → Runs steady (λ y. ⊤) Whole (step commands) z
+  step_has : (z : Spot Programmer) → Before z.0 → AllArriveRight z.1 → Runs steady (λ y. ⊤) Whole (step commands) z
   step_has z before good =
       attempts (this_link steady) (λ bytes y. ⊤) commands Begins Whole
       (λ more y begins. wider (λ bytes y x. tt) (λ e y x. x) (after_try more)

@@ -10,6 +10,9 @@ use Rattle.stk_emu.specs.Device.{device}
 use Rattle.stk_emu.specs.Programmer.{Programmer}
 use Rattle.stk_emu.specs.Effect.{Memories, memories_of}
 use Rattle.stk_emu.specs.Settled.{HasMemories, FitsPart}
+use Rattle.stk_host.specs.ReadSteps.{signature_steps}
+use Rattle.avr_tool.proofs.Emulated.{actions_work, all_work, emulated}
+use Rattle.avr_tool.proofs.Plans.Fits.{work}
 use Rattle.avr_tool.proofs.OverFaultyLink.Outcomes.{session_passes}
 use Rattle.avr_tool.proofs.OverFaultyLink.Sessions.{at_last}
 use Rattle.avr_tool.proofs.Hosts.Outputs.{Anything, at_moment}
@@ -25,8 +28,9 @@ module _ (plan : Plan) (sound : IsPart plan.part) (fitted : All (IsFitted plan.p
       → IsExpectedRun plan m (memories_of (state_after device k (session plan) p exchanges).programmer.chip)
       (outputs_after device k (session plan) p exchanges) status
   session_ends m p exchanges sizes idle such k status e =
-      elim ((at_moment Anything (at_last plan m ⊥) k
-      (session_passes plan sound m sizes fitted (AtSure Such sure plan.part) ⊥
+      elim ((at_moment device Anything (at_last plan (emulated plan.part sound) m ⊥) k
+      (session_passes plan sound (emulated plan.part sound) m sizes fitted (all_work plan.part sound signature_steps m)
+      (actions_work plan.part sound (work plan) m) (AtSure Such sure plan.part) ⊥
       (no_failure Such sure plan.part sound plan.switches) (p, exchanges)
       (opens_sure Such sure plan.part sound plan.switches m (p, exchanges) sizes idle such))).after status e).1 [
         | inl own ↦ own

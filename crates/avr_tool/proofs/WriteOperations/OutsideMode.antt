@@ -20,7 +20,7 @@ use Rattle.stk_emu.specs.Device.{device}
 use Rattle.stk_emu.specs.Effect.{Memories}
 use Rattle.stk_emu.specs.Settled.{Ready}
 use Rattle.avr_tool.proofs.Leads.{AllFit, memories_after_steps}
-use Rattle.stk_emu.proofs.Repeatable.{on_data, reply_to, joined_reply, after_commands, FailsAt, Unbroken, IsRepeatable, Settled}
+use Rattle.stk_emu.proofs.Repeatable.{on_data, reply_to, joined_reply, after_commands, AreReplied, FailsAt, Unbroken, IsRepeatable, Settled}
 use Rattle.stk_emu.specs.WriteOperations.{memories_after_step, IsStep, Erases, ProgramsPage, ProgramsEepromRun, ProgramsFuse, ProgramsLock, ReadsFlash, ReadsEeprom, ReadsFuse, ReadsLock, ReadsSignature, ReadsCalibration, AreSteps}
 use Rattle.stk_emu.proofs.Replies.Commands.{executes_command, executed_none, steady, ready_settled, settled_ready, restart_is_settled}
 use Rattle.avr_tool.proofs.WriteOperations.Steps.{step_ready, address_fits}
@@ -92,20 +92,31 @@ record Idles (part : Part) (commands : List Command) : Type 0 where
   keeps : (m : Memories) (p : Programmer) (i : ℕ) → p.mode ≡ false → Settled part m p
       → Settled part m (after_commands device i commands p)
   none : (p : Programmer) (bytes : List ℕ) → p.mode ≡ false → joined_reply device commands [] p ≡ Data bytes → ⊥
-  unbroken : Unbroken device commands
+  unbroken : (m n : Memories) → Unbroken device (λ p. Settled part m p ⊎ Settled part n p) commands
+
+either_restarted : (part : Part) (m n : Memories) (p : Programmer) → Settled part m p ⊎ Settled part n p
+    → Settled part m (device.reset p) ⊎ Settled part n (device.reset p)
+either_restarted part m n p (inl s) = inl (restart_is_settled part m p s)
+either_restarted part m n p (inr s) = inr (restart_is_settled part n p s)
 
 -- after a restart the programmer is outside
-fails_restarted : (c : Command) → FailsOutside c → (p : Programmer) → FailsAt device c (device.reset p)
-fails_restarted c fails p =
+fails_restarted : (part : Part) (m n : Memories) (c : Command) → FailsOutside c → (p : Programmer)
+    → Settled part m p ⊎ Settled part n p
+    → FailsAt device (λ q. Settled part m q ⊎ Settled part n q) c (device.reset p)
+fails_restarted part m n c fails p s =
     let f = fails (device.reset p) refl in
-    record { none = λ bytes e. stop_no f.fault bytes (sym f.reply ∙ e); after = f.after }
+    record {
+      none = λ bytes e. stop_no f.fault bytes (sym f.reply ∙ e);
+      stands = subst (λ (q : Programmer). Settled part m q ⊎ Settled part n q) (sym f.after)
+          (either_restarted part m n p s);
+    }
 
 one_idles : (part : Part) (c : Command) → FailsOutside c → Idles part (c ∷ [])
 one_idles part c fails = record {
   keeps = λ m p i off s. keeps m p i off s;
   none = λ p bytes off e. stop_no (fails p off).fault bytes
       (sym (ap (λ r. on_data r (λ b. Data b)) (fails p off).reply) ∙ e);
-  unbroken = tt;
+  unbroken = λ m n. tt;
 }
   where
     keeps : (m : Memories) (p : Programmer) (i : ℕ) → p.mode ≡ false → Settled part m p
@@ -128,7 +139,7 @@ two_idles part address c few fails = record {
   none = λ p bytes off e.
       let f = fails (device.after (body (LoadAddress address)) p) (outside p off) in
       search rules;
-  unbroken = (λ p. inr (fails_restarted c fails p), tt);
+  unbroken = λ m n. (λ p s. inr (fails_restarted part m n c fails p s), tt);
 }
   where
     outside : (p : Programmer) → p.mode ≡ false → (device.after (body (LoadAddress address)) p).mode ≡ false
@@ -153,6 +164,14 @@ executed_steady : (i : ℕ) (commands : List Command) (p : Programmer)
 executed_steady zero commands p = refl
 executed_steady (suc i) [] p = refl
 executed_steady (suc i) (command ∷ commands) p = executed_steady i commands (device.after (body command) p)
+
+replied_steady : (i : ℕ) (commands : List Command) (p : Programmer) → AreReplied device i commands p
+    → AreReplied steady i commands p
+replied_steady zero commands p r = tt
+replied_steady (suc zero) commands p r = tt
+replied_steady (suc (suc i)) [] p r = tt
+replied_steady (suc (suc i)) (command ∷ commands) p r =
+    (r.0, replied_steady (suc i) commands (device.after (body command) p) r.1)
 
 pub gathered_steady : (commands : List Command) (before : List ℕ) (p : Programmer)
     → joined_reply steady commands before p ≡ joined_reply device commands before p
@@ -196,6 +215,11 @@ module _ (part : Part) (sound : IsPart part) where
       as_written _ commands e (one_idles part (read_signature place) (signature_read_fails place))
   idles commands (ReadsCalibration e) = as_written _ commands e (one_idles part read_calibration calibration_read_fails)
 
+  -- no attempt at a step goes on after a restart
+  pub step_ends : (commands : List Command) (m n : Memories) → IsStep part commands
+      → Unbroken device (λ p. Settled part m p ⊎ Settled part n p) commands
+  step_ends commands m n is = (idles commands is).unbroken m n
+
   -- a step that brings its data began in programming mode
   pub in_mode_by_data : (commands : List Command) (p : Programmer) (bytes : List ℕ) → IsStep part commands
       → joined_reply device commands [] p ≡ Data bytes → p.mode ≡ true
@@ -208,17 +232,18 @@ module _ (part : Part) (sound : IsPart part) where
   pub step_fits : (commands : List Command) (m : Memories) → IsStep part commands
       → IsRepeatable device commands (Settled part m) (Settled part (memories_after_step part commands m))
   step_fits commands m is = record {
-    prefix = λ p i s. elim (cases_Bool p.mode) [
+    prefix = λ p i s replied. elim (cases_Bool p.mode) [
       | inl on ↦ either_settled m (memories_after_step part commands m) (after_commands steady i commands p)
           (after_commands device i commands p) (executed_steady i commands p)
-          (ready.prefix p i (settled_ready part m p on s))
+          (ready.prefix p i (settled_ready part m p on s) (replied_steady i commands p replied))
       | inr off ↦ inl ((idles commands is).keeps m p i off s)
     ];
-    again = λ p i s. elim (cases_Bool p.mode) [
+    again = λ p i s replied. elim (cases_Bool p.mode) [
       | inl on ↦
           subst (Settled part (memories_after_step part commands m)) (executed_steady i commands p)
           (ready_settled part (memories_after_step part commands m) (after_commands steady i commands p)
-          (ready.again p i (settled_ready part (memories_after_step part commands m) p on s)))
+          (ready.again p i (settled_ready part (memories_after_step part commands m) p on s)
+          (replied_steady i commands p replied)))
       | inr off ↦ (idles commands is).keeps (memories_after_step part commands m) p i off s
     ];
     whole = λ p bytes has s.
@@ -228,7 +253,7 @@ module _ (part : Part) (sound : IsPart part) where
         (settled_ready part m p (in_mode_by_data commands p bytes is has) s)));
     restart_keeps = λ p s. restart_is_settled part m p s;
     restart_keeps_after = λ p s. restart_is_settled part (memories_after_step part commands m) p s;
-    unbroken = (idles commands is).unbroken;
+    unbroken = step_ends commands m (memories_after_step part commands m) is;
   }
     where
       ready : IsRepeatable steady commands (Ready part m) (Ready part (memories_after_step part commands m))

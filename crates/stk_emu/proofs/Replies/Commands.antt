@@ -36,7 +36,8 @@ module _ {P : Type 0} (m : Device P) where
       → ((p : P) → After p → After (m.after (body c) p))
       → ((p : P) → Before p → After (m.after (body d) (m.after (body c) p)))
       → ((p : P) → After p → After (m.after (body d) (m.after (body c) p))) → ((p : P) → Before p → Before (m.reset p))
-      → ((p : P) → After p → After (m.reset p)) → ((p : P) → (m.reset p ≡ p) ⊎ FailsAt m d (m.reset p))
+      → ((p : P) → After p → After (m.reset p))
+      → ((p : P) → Before p ⊎ After p → (m.reset p ≡ p) ⊎ FailsAt m (λ q. Before q ⊎ After q) d (m.reset p))
       → IsRepeatable m (c ∷ d ∷ []) Before After
   two_fits c d Before After first first_again does again restart_keeps restart_keeps_after ends =
       search (rules, prefixes, agains)
@@ -68,7 +69,7 @@ pub two_steady : (c d : Command) (Before After : Programmer → Type 0)
     → ((p : Programmer) → After p → After (device.after (body d) (device.after (body c) p)))
     → IsRepeatable steady (c ∷ d ∷ []) Before After
 two_steady c d Before After first first_again does again =
-    two_fits steady c d Before After first first_again does again (λ p b. b) (λ p a. a) (λ p. inl refl)
+    two_fits steady c d Before After first first_again does again (λ p b. b) (λ p a. a) (λ p b. inl refl)
 
 -- a command of programming mode, in that mode
 pub in_mode_is : (p : Programmer) (x y : Response) → p.mode ≡ true → (cond p.mode x y).1 ≡ x.1

@@ -1,0 +1,251 @@
+-- A session over a device of which only reading is believed: after status 0 the actions at its end, which only read,
+-- found what they compared.
+use Rattle.std.proofs.Common.{◌≡◌, ◌∙◌, ℕ, List, [], ◌∷◌, ◌++◌, refl, sym, subst, arith, inl, inr}
+use Rattle.std.specs.Prelude.{⊤}
+use Rattle.avr_desk.specs.OutputEvents.{OutputEvent}
+use Rattle.avr_part.specs.Part.{Part, IsPart}
+use Rattle.avr_part.specs.declared.part.Mem.{Mem}
+use Rattle.avr_plan.specs.Plan.{Plan}
+use Rattle.avr_plan.specs.declared.settings.Switches.{Switches}
+use Rattle.avr_session.specs.Actions.{Action, OpenSession, EraseChip, WriteImage, CompareImage, SaveMemory, SkipAction}
+use Rattle.avr_session.specs.PlanSteps.{action_steps}
+use Rattle.avr_session.specs.Session.{reported, unless_fault, action_dialog, actions_dialog, closing_output, ending, session, session_dialog, status_of}
+use Rattle.avr_session.specs.Standing.{Standing, NoFault, Faulty, Over}
+use Rattle.stk_emu.specs.Device.{Device}
+use Rattle.stk_emu.specs.DialogOverExchanges.{state_after}
+use Rattle.stk_emu.specs.Effect.{Memories, effects}
+use Rattle.stk_emu.specs.Exchange.{Exchange, Execution, NotExecuted, Executed, ThenRestarted, AsIntended, Disturbed, ThenRestarts, after_exchange, after_execution, first_exchange}
+use Rattle.stk_emu.specs.Settled.{FitsPart}
+use Rattle.stk_host.specs.Dialog.{Dialog, Done, Emit, Ask}
+use Rattle.stk_host.specs.Operations.{closing}
+use Rattle.avr_tool.proofs.Each.{Each}
+use Rattle.avr_tool.proofs.Hosts.OneLink.{Spot, on_link}
+use Rattle.avr_tool.proofs.Hosts.Operations.{closing_goes}
+use Rattle.avr_tool.proofs.Hosts.Outputs.{Anything, Prints, PrintsFrom, any_outputs, at_moment, prints_reported, prints_then, prints_wider}
+use Rattle.avr_tool.proofs.Memories.ExpectedAgrees.{agrees_for_actions}
+use Rattle.avr_tool.proofs.OverFaultyLink.EachAction.{ActionsTrue, After, fault_output, goes_actions}
+use Rattle.avr_tool.proofs.OverFaultyLink.Sessions.{anyhow}
+use Rattle.avr_tool.proofs.Plans.Calls.{outcome_of, outcome_output}
+use Rattle.avr_tool.proofs.Plans.Fits.{AllFitActions, work}
+use Rattle.avr_tool.proofs.Plans.Standings.{faulty_fine, over_fine}
+use Rattle.avr_tool.proofs.Real.{ActionsWork, HasMemories, Real, Settled}
+use Rattle.avr_tool.specs.ComparisonsAgree.{EachComparisonAgrees}
+use Rattle.avr_tool.specs.Items.{action_items, actions_items}
+use Rattle.avr_laws.proofs.Table.RealOf.{ActionsWorkBy, StepsWork, actions_work, real_of}
+use Rattle.avr_laws.proofs.Readers.ReadRows.{reading_works}
+use Rattle.avr_laws.specs.Reader.{IsReader, ReadsOneOf}
+
+-- the action writes nothing, and reads only such a memory
+abbrev pub ReadsAction : (Mem → Type 0) → Action → Type 0
+ReadsAction Reads (CompareImage mem image) = Reads mem
+ReadsAction Reads (SaveMemory mem format file) = Reads mem
+ReadsAction Reads (SkipAction what) = Unit {0}
+ReadsAction Reads action = ⊥
+
+only_reads : (Reads : Mem → Type 0) (part : Part) (actions : List Action) (x : Memories)
+    → Each (ReadsAction Reads) actions → effects part (actions_items actions) x ≡ x
+only_reads Reads part [] x each = refl
+only_reads Reads part (CompareImage mem image ∷ actions) x each = only_reads Reads part actions x each.1
+only_reads Reads part (SaveMemory mem format file ∷ actions) x each = only_reads Reads part actions x each.1
+only_reads Reads part (SkipAction what ∷ actions) x each = only_reads Reads part actions x each.1
+only_reads Reads part (OpenSession ∷ actions) x each = absurd each.0
+only_reads Reads part (EraseChip ∷ actions) x each = absurd each.0
+only_reads Reads part (WriteImage mem image ∷ actions) x each = absurd each.0
+
+succeeded : (at : Standing) → status_of at ≡ 0 → at ≡ NoFault
+succeeded NoFault e = refl
+succeeded Faulty e = absurd (omega (arith, e))
+succeeded Over e = absurd (omega (arith, e))
+
+-- what is used of a reader
+record ReadsTruly {part : Part} (real : Real part) (IsIn : real.P → Type 0) (Reads : Mem → Type 0) : Type 0 where
+  settled : (p : real.P) → IsIn p → Settled real (real.memories p) p
+  is_in : (x : Memories) (p : real.P) → HasMemories real x p → IsIn p
+  executed : (bytes : List ℕ) (p : real.P) → IsIn p → IsIn (real.device.after bytes p)
+  restarted : (p : real.P) → IsIn p → IsIn (real.device.reset p)
+  sizes : (p : real.P) → IsIn p → FitsPart part (real.memories p)
+  works : (actions : List Action) (x : Memories) → Each (ReadsAction Reads) actions → ActionsWork real actions x
+
+module _ {part : Part} (sound : IsPart part) (real : Real part) (IsIn : real.P → Type 0) (Reads : Mem → Type 0)
+    (t : ReadsTruly real IsIn Reads) where
+  abbrev m : Device real.P
+  m = real.device
+
+  -- ---- no dialog leaves its states
+
+  executed : (execution : Execution) (bytes : List ℕ) (p : real.P) → IsIn p
+      → IsIn (after_execution execution (m.after bytes p) p m.reset)
+  executed NotExecuted bytes p i = i
+  executed Executed bytes p i = t.executed bytes p i
+  executed (ThenRestarted execution) bytes p i = t.restarted _ (executed execution bytes p i)
+
+  exchanged : (one : Exchange) (bytes : List ℕ) (p : real.P) → IsIn p
+      → IsIn (after_exchange one (m.after bytes p) p m.reset)
+  exchanged AsIntended bytes p i = t.executed bytes p i
+  exchanged (Disturbed execution instead) bytes p i = executed execution bytes p i
+  exchanged (ThenRestarts one) bytes p i = t.restarted _ (exchanged one bytes p i)
+
+  -- what holds at the end of a dialog, whatever it emitted
+  abbrev Goes : {R : Type 0} → (R → Spot real.P → Type 0) → Dialog OutputEvent R → Spot real.P → Type 0
+  Goes After d z = Prints m Anything (λ emitted y. ⊤) (λ r emitted y. After r y) d z
+
+  stays_in : {R : Type 0} (d : Dialog OutputEvent R) (z : Spot real.P) → IsIn z.0
+      → PrintsFrom m Anything (λ emitted y. ⊤) (λ r emitted y. IsIn y.0) d z
+  stays_in (Done r) z i = i
+  stays_in (Emit event d) z i = (tt, stays_in d z i)
+  stays_in (Ask bytes go_on) z i = (tt, stays_in (go_on _) _ (exchanged (first_exchange z.1) bytes z.0 i))
+
+  module _ (s : Switches) where
+    -- what holds after actions, if there was no fault
+    abbrev Then : (Memories → Type 0) → Standing → Spot real.P → Type 0
+    Then Claim at y = IsIn y.0 × (at ≡ NoFault → Claim (real.memories y.0))
+
+    -- ---- actions that only read
+
+    anything : (actions : List Action) (x : Memories) → ActionsTrue part real s Anything actions x
+    anything [] x = tt
+    anything (action ∷ actions) x = (
+      λ q is. any_outputs (outcome_output part s action (outcome_of part action x)) q,
+      anything actions (effects part (action_items action) x),
+    )
+
+    module _ (rest : List Action) (fits : AllFitActions part rest) (reads : Each (ReadsAction Reads) rest) where
+      abbrev RestAgrees : Memories → Type 0
+      RestAgrees x = EachComparisonAgrees part rest x
+
+      found : (x : Memories) (at : Standing) (emitted : List OutputEvent) (y : Spot real.P)
+          → After part real s (λ x z. Settled real x z.0) ⊤ rest x at emitted y → Then RestAgrees at y
+      found x at emitted y (rests, inl own) = (
+        t.is_in _ y.0 rests.stands,
+        λ fine.
+            let agreement = agrees_for_actions part s rest x in
+            let no_fault = own.stands ∙ fine in
+            let has = real.has _ y.0 (real.idle _ y.0 own.left) in
+            subst RestAgrees (sym (has ∙ (agreement.memories no_fault ∙ only_reads Reads part rest x reads)))
+            (agreement.if_fine no_fault),
+      )
+      found x at emitted y (rests, inr broken) =
+          (t.is_in _ y.0 rests.stands, λ fine. absurd (broken.faulty fine))
+
+      rest_goes : (y : Spot real.P) → IsIn y.0 → Goes (Then RestAgrees) (actions_dialog part s rest) y
+      rest_goes y i =
+          prints_wider m Anything (λ emitted z now. tt) (found (real.memories y.0))
+          (goes_actions part sound real s Anything (λ fault q. any_outputs (fault_output part fault) q)
+          (λ x z. Settled real x z.0) ⊤ (anyhow part sound real s) rest (real.memories y.0) y fits (t.sizes y.0 i)
+          (t.works rest (real.memories y.0) reads) (anything rest (real.memories y.0)) (t.settled y.0 i))
+
+    -- ---- after any actions
+
+    module _ (Claim : Memories → Type 0) where
+      unless : (next : Dialog OutputEvent Standing) → ((z : Spot real.P) → IsIn z.0 → Goes (Then Claim) next z)
+          → (at : Standing) (emitted : List OutputEvent) (z : Spot real.P) → IsIn z.0
+          → Goes (Then Claim) (unless_fault next at) z
+      unless next goes NoFault emitted z i = goes z i
+      unless next goes Faulty emitted z i = record { holds = (i, λ fine. faulty_fine fine) }
+      unless next goes Over emitted z i = record { holds = (i, λ fine. over_fine fine) }
+
+      behind : (done rest : List Action)
+          → ((y : Spot real.P) → IsIn y.0 → Goes (Then Claim) (actions_dialog part s rest) y) → (y : Spot real.P)
+          → IsIn y.0 → Goes (Then Claim) (actions_dialog part s (done ++ rest)) y
+      behind [] rest goes y i = goes y i
+      behind (action ∷ done) rest goes y i =
+          prints_then m Anything (λ emitted z now. now) (record { holds = stays_in (action_dialog part s action) y i })
+          (unless (actions_dialog part s (done ++ rest)) (λ z i. behind done rest goes z i))
+
+      abbrev AtEnd : Standing → Spot real.P → Type 0
+      AtEnd at y = at ≡ NoFault → Claim (real.memories y.0)
+
+      -- leaving programming mode keeps the memories
+      ends : (at : Standing) (y : Spot real.P) → Then Claim at y → Goes AtEnd (ending part s at) y
+      ends NoFault y (i, claim) =
+          prints_reported m Anything (closing_output s.quiet part)
+          (on_link m (closing_goes m (λ q. HasMemories real (real.memories y.0) q) (real.leaves (real.memories y.0)) y.0
+          (real.idle (real.memories y.0) y.0 (t.settled y.0 i))))
+          (λ z now. tt)
+          (λ r z x. (
+            any_outputs (closing_output s.quiet part r) z.0,
+            λ fine. subst Claim (sym (real.has (real.memories y.0) z.0 x.0)) (claim refl),
+          ))
+      ends Faulty y (i, claim) =
+          prints_then m Anything (λ emitted z now. now)
+          (record { holds = stays_in (reported closing (λ r. [])) y i }) over
+        where
+          over : (closed : Standing) (emitted : List OutputEvent) (z : Spot real.P) → IsIn z.0
+              → Goes AtEnd (Done Over) z
+          over closed emitted z i = record { holds = λ fine. over_fine fine }
+      ends Over y (i, claim) = record { holds = λ fine. over_fine fine }
+
+-- ---- a whole session
+
+module _ (plan : Plan) (sound : IsPart plan.part) (real : Real plan.part) (IsIn : real.P → Type 0)
+    (Reads : Mem → Type 0) (t : ReadsTruly real IsIn Reads) (done rest : List Action) (are : work plan ≡ done ++ rest)
+    (fits : AllFitActions plan.part rest) (reads : Each (ReadsAction Reads) rest) where
+  abbrev s : Switches
+  s = plan.switches
+
+  abbrev Agrees : Memories → Type 0
+  Agrees x = EachComparisonAgrees plan.part rest x
+
+  abbrev Fine : Standing → Spot real.P → Type 0
+  Fine at y = at ≡ NoFault → Agrees (real.memories y.0)
+
+  dialog_goes : (z : Spot real.P) → IsIn z.0 → Goes sound real IsIn Reads t Fine (session_dialog plan) z
+  dialog_goes z i =
+      prints_then real.device Anything (λ emitted y now. now)
+      (subst (λ (all : List Action). Goes sound real IsIn Reads t (Then sound real IsIn Reads t s Agrees)
+      (actions_dialog plan.part s (OpenSession ∷ all)) z) (sym are)
+      (behind sound real IsIn Reads t s Agrees (OpenSession ∷ done) rest
+      (rest_goes sound real IsIn Reads t s rest fits reads) z i))
+      (λ at emitted y held. ends sound real IsIn Reads t s Agrees at y held)
+
+  session_goes : (z : Spot real.P) → IsIn z.0
+      → Goes sound real IsIn Reads t (λ status y. status ≡ 0 → Agrees (real.memories y.0)) (session plan) z
+  unfolding session
+  session_goes z i =
+      prints_then real.device Anything (λ emitted y now. now) (dialog_goes z i)
+      (λ at emitted y claim. record { holds = λ good. claim (succeeded at good) })
+
+  along : (p : real.P) → IsIn p → (exchanges : List Exchange) (k : ℕ)
+      → (state_after real.device k (session plan) p exchanges).dialog ≡ Done 0
+      → Agrees (real.memories (state_after real.device k (session plan) p exchanges).programmer)
+  along p i exchanges k ended =
+      (at_moment real.device Anything (λ status emitted y at. tt) k (session_goes (p, exchanges) i)).after 0 ended refl
+
+-- ---- over a reader
+
+module _ {P : Type 0} (part : Part) (sound : IsPart part) (m : Device P) (view : P → Memories) (IsIn : P → Type 0)
+    (Reads : Mem → Type 0) (t : IsReader part m view IsIn Reads) where
+  action_works : (action : Action) (x : Memories) → ReadsAction Reads action
+      → StepsWork part (ReadsOneOf Reads part) (action_steps part action) x
+  action_works (CompareImage mem image) x reads = reading_works Reads part mem reads x
+  action_works (SaveMemory mem format file) x reads = reading_works Reads part mem reads x
+  action_works (SkipAction what) x reads = tt
+  action_works OpenSession x reads = absurd reads
+  action_works EraseChip x reads = absurd reads
+  action_works (WriteImage mem image) x reads = absurd reads
+
+  all_work : (actions : List Action) (x : Memories) → Each (ReadsAction Reads) actions
+      → ActionsWorkBy part (ReadsOneOf Reads part) actions x
+  all_work [] x each = tt
+  all_work (action ∷ actions) x (reads, others) =
+      (action_works action x reads, all_work actions (effects part (action_items action) x) others)
+
+pub session_agrees : {P : Type 0} (plan : Plan) → IsPart plan.part → (m : Device P) (view : P → Memories)
+    (IsIn : P → Type 0) (Reads : Mem → Type 0) → IsReader plan.part m view IsIn Reads → (done rest : List Action)
+    → work plan ≡ done ++ rest → AllFitActions plan.part rest → Each (ReadsAction Reads) rest → (p : P) → IsIn p
+    → (exchanges : List Exchange) (k : ℕ) → (state_after m k (session plan) p exchanges).dialog ≡ Done 0
+    → EachComparisonAgrees plan.part rest (view (state_after m k (session plan) p exchanges).programmer)
+unfolding real_of
+session_agrees plan sound m view IsIn Reads t done rest are fits reads p i exchanges k ended =
+    along plan sound (real_of plan.part sound m view IsIn IsIn (ReadsOneOf Reads plan.part) t.keeps) IsIn Reads
+    (record {
+      settled = λ q i. record { memories = refl; is = i };
+      is_in = λ x q s. s.is;
+      executed = t.stays;
+      restarted = λ q i. (t.keeps.restarts q i).is;
+      sizes = t.sizes;
+      works = λ actions x each.
+          actions_work plan.part sound m view IsIn IsIn (ReadsOneOf Reads plan.part) t.keeps actions x
+          (all_work plan.part sound m view IsIn Reads t actions x each);
+    })
+    done rest are fits reads p i exchanges k ended

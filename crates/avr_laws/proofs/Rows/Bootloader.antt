@@ -1,0 +1,194 @@
+-- A bootloader that erases elsewhere is a reader. A worked run over it meets all premises, and the first image is gone.
+use Rattle.std.proofs.Common.{◌≡◌, ◌∙◌, ◌+◌, ◌*◌, ◌%◌, ◌^◌, ◌<◌, ◌≤◌, ℕ, zero, suc, Bool, true, false, cond, List, [], ◌∷◌, ◌++◌, length, take, drop, refl, sym, ap, ap₂, subst, arith, inl, inr, Some, None, rules}
+use Rattle.std.proofs.lemmas.List.{append_cancel_right}
+use Rattle.std.proofs.lemmas.List.Elements.{All-cons, All-nil, All-head, All-tail}
+use Rattle.std.specs.List.{concat}
+use Rattle.std.specs.Prelude.{slice_index}
+use Rattle.byteorder.specs.Endian.{big_bytes, big_number}
+use Rattle.byteorder.specs.Numbers.{big_number-reads_back}
+use Rattle.avr_part.specs.Memory.{AreBytes}
+use Rattle.avr_part.specs.Part.{Part, IsPart}
+use Rattle.avr_part.specs.declared.part.Mem.TheVariants.{Flash}
+use Rattle.stk_emu.proofs.Memories.Pages.{flash_address_back}
+use Rattle.stk_emu.specs.Effect.{Memories}
+use Rattle.stk_emu.specs.Effect as item
+use Rattle.stk_emu.specs.Settled.{FitsPart}
+use Rattle.stk_emu.specs.StepData.{HoldsImage}
+use Rattle.stk_emu.specs.WriteOperations.{image_at}
+use Rattle.stk_frame.specs.declared.command.Fuse.TheVariants.{Low, High, Extended}
+use Rattle.stk_host.specs.Places.{flash_address}
+use Rattle.avr_tool.proofs.WriteOperations.Items.{effect_sizes}
+use Rattle.avr_tool.proofs.WriteOperations.Steps.{address_fits}
+use Rattle.avr_session.specs.Session.{session}
+use Rattle.stk_host.specs.Dialog.{frames_in, played}
+use Rattle.stk_host.specs.Operations.{handshake, opening, closing, operation}
+use Rattle.stk_host.specs.Steps.{exchange, attempt, attempts_or_fault, play}
+use Rattle.stk_host.specs.Tape.{answer}
+use Rattle.avr_laws.proofs.Lines.NoneForgedTest.{by_test}
+use Rattle.avr_laws.specs.AnyTape.{ReceivedSentFrames, after_received_bytes}
+use Rattle.avr_laws.specs.Kept.{NoneForged}
+use Rattle.avr_laws.specs.WorkedLoss.{loss_part}
+use Rattle.avr_laws.specs.Reader.{IsReader, ReadsOneOf}
+use Rattle.avr_laws.specs.Table.{IsDoneOrNot, IsRow, Row, reading, ErasesChip, WritesFlashPage, WritesEepromRun, WritesFuse, WritesLock, ReadsFlash, ReadsEeprom, ReadsFuse, ReadsLock, ReadsSignature, ReadsCalibration}
+use Rattle.avr_laws.specs.WorkedBootloader.{Bootloader, FitsBoot, boot_before, boot_executions, boot_frames, boot_plan, boot_replies, IsRead, after_body, bootloader, erased, first_image, with_page, writes_page}
+
+-- ---- it keeps the sizes
+
+erased_length : (start count : ℕ) (xs : List ℕ) → length (erased start count xs) ≡ length xs
+erased_length start count [] = refl
+erased_length (suc start) count (x ∷ xs) = ap suc (erased_length start count xs)
+erased_length zero (suc count) (x ∷ xs) = ap suc (erased_length zero count xs)
+erased_length zero zero (x ∷ xs) = refl
+
+erased_bytes : (start count : ℕ) (xs : List ℕ) → AreBytes xs → AreBytes (erased start count xs)
+erased_bytes start count [] bytes = bytes
+erased_bytes (suc start) count (x ∷ xs) bytes =
+    All-cons (λ b. b < 256) x (erased start count xs) (All-head (λ b. b < 256) x xs bytes)
+    (erased_bytes start count xs (All-tail (λ b. b < 256) x xs bytes))
+erased_bytes zero (suc count) (x ∷ xs) bytes =
+    All-cons (λ b. b < 256) 255 (erased zero count xs) (omega arith)
+    (erased_bytes zero count xs (All-tail (λ b. b < 256) x xs bytes))
+erased_bytes zero zero (x ∷ xs) bytes = bytes
+
+if_fits : (part : Part) (test : Bool) (x y : Memories) → FitsPart part x → FitsPart part y
+    → FitsPart part (cond test x y)
+if_fits part true x y f g = f
+if_fits part false x y f g = g
+
+module _ (part : Part) (sound : IsPart part) where
+  page_fits : (bytes : List ℕ) (b : Bootloader) → FitsBoot part b → FitsPart part (with_page part bytes b)
+  page_fits bytes b f =
+      effect_sizes part sound (item.Write Flash (image_at (b.address % 2 ^ 31 * 2) bytes)) _ (record {
+        flash = erased_length _ _ b.memories.flash ∙ f.flash;
+        eeprom = f.eeprom;
+        bytes = erased_bytes _ _ b.memories.flash f.bytes;
+      })
+
+  stays : (body : List ℕ) (b : Bootloader) → FitsBoot part b → FitsBoot part (after_body part body b)
+  stays body b f =
+      if_fits part (writes_page body b) (with_page part (drop 10 body) b) b.memories (page_fits (drop 10 body) b f) f
+
+  -- ---- it reads truly
+
+  abbrev Done : Row → Bootloader → Type 0
+  Done row b = IsDoneOrNot (bootloader part) (λ b. b.memories) (FitsBoot part) part row b
+
+  by_row : (row other : Row) (b : Bootloader) → row ≡ other → Done other b → Done row b
+  by_row row other b e done = subst (λ r. Done r b) (sym e) done
+
+  -- a reply with a block is true
+  truly : (on : Bool) (code : ℕ) (block read : List ℕ)
+      → cond on (code ∷ 0 ∷ (block ++ 0 ∷ [])) (code ∷ 0xC0 ∷ []) ≡ code ∷ 0 ∷ (read ++ 0 ∷ []) → read ≡ block
+  truly true code block read e =
+      sym (append_cancel_right block read (0 ∷ []) (ap (λ (xs : List ℕ). drop 2 xs) e))
+  truly false code block read e = absurd (let status = ap (λ (xs : List ℕ). slice_index xs 1) e in omega (arith, status))
+
+  -- a refusal isn't a good reply
+  refused : (code : ℕ) (more : List ℕ) → code ∷ 0xC0 ∷ [] ≡ code ∷ 0 ∷ more → ⊥
+  refused code more e = let status = ap (λ (xs : List ℕ). slice_index xs 1) e in omega (arith, status)
+
+  reads_block : (start count : ℕ) (b : Bootloader) → FitsBoot part b → start + count ≤ part.flash_size → start % 2 ≡ 0
+      → count ≤ 256
+      → Done (reading (Some (flash_address part start)) (0x14 ∷ (big_bytes 2 count ++ 0x20 ∷ [])) count
+      (λ x. take count (drop start x.flash)) 0x14) b
+  reads_block start count b f inside even few =
+      let most = sound.flash_most in
+      let below : start < 4294967296 = omega (arith, most, inside) in
+      let there : big_number 4 (big_bytes 4 (flash_address part start)) % 2 ^ 31 * 2 ≡ start =
+      ap (λ (address : ℕ). address % 2 ^ 31 * 2)
+      (big_number-reads_back 4 (flash_address part start) [] (address_fits part sound start below))
+      ∙ flash_address_back part start below even in
+      let many : big_number 2 (big_bytes 2 count ++ 0x20 ∷ []) ≡ count =
+      big_number-reads_back 2 count (0x20 ∷ []) (omega (arith, few)) in
+      record {
+        loaded = record { memories = refl; is = f };
+        either = λ loaded. inl (record { memories = refl; is = f });
+        good = λ loaded read long e. (
+          truly b.programming 0x14 _ read e ∙ ap₂ (λ (n at : ℕ). take n (drop at b.memories.flash)) many there,
+          record { memories = refl; is = f },
+        );
+        restarted = λ address is. inr (record {
+          kept = record { memories = refl; is = f };
+          bad = λ read long e. refused 0x14 (read ++ 0 ∷ []) e;
+        });
+      }
+
+  reads_place : (place : ℕ) (b : Bootloader) → FitsBoot part b
+      → Done (reading None (0x1B ∷ 4 ∷ 0x30 ∷ 0x00 ∷ place ∷ 0x00 ∷ []) 1 (λ x. take 1 (drop place part.signature)) 0x1B) b
+  reads_place place b f = record {
+    loaded = record { memories = refl; is = f };
+    either = λ loaded. inl (record { memories = refl; is = f });
+    good = λ loaded read long e. (
+      truly b.programming 0x1B (take 1 (drop place part.signature)) read e,
+      record { memories = refl; is = f },
+    );
+    restarted = λ address is. absurd (cc is);
+  }
+
+  rows : (row : Row) (b : Bootloader) (is : IsRow part row) → ReadsOneOf IsRead part row is b.memories
+      → FitsPart part b.memories → FitsBoot part b → Done row b
+  rows row b (ReadsFlash start count some few inside even evens is) reads fits f =
+      by_row row _ b is (reads_block start count b f inside even few)
+  rows row b (ReadsSignature place few is) reads fits f = by_row row _ b is (reads_place place b f)
+  rows row b (ErasesChip is) reads fits f = absurd reads
+  rows row b (WritesFlashPage page bytes whole inside is) reads fits f = absurd reads
+  rows row b (WritesEepromRun start bytes some within inside is) reads fits f = absurd reads
+  rows row b (WritesFuse fuse byte is) reads fits f = absurd reads
+  rows row b (WritesLock byte is) reads fits f = absurd reads
+  rows row b (ReadsEeprom start count some few inside is) reads fits f = absurd reads
+  rows row b (ReadsFuse Low is) reads fits f = absurd reads
+  rows row b (ReadsFuse High is) reads fits f = absurd reads
+  rows row b (ReadsFuse Extended is) reads fits f = absurd reads
+  rows row b (ReadsLock is) reads fits f = absurd reads
+  rows row b (ReadsCalibration is) reads fits f = absurd reads
+
+  pub boot_reads : IsReader part (bootloader part) (λ b. b.memories) (FitsBoot part) IsRead
+  boot_reads = record {
+    keeps = record {
+      signs_on = λ b f. record { memories = refl; is = f };
+      enters = λ b f. record { memories = refl; is = f };
+      leaves = λ b f. record { memories = refl; is = f };
+      restarts = λ b f. record { memories = refl; is = f };
+      entered = λ b f e. f;
+      ready_in = λ b f. f;
+      entered_again = λ b f. f;
+      restarted = λ b f. f;
+      rows = rows;
+    };
+    stays = stays;
+    sizes = λ b f. f;
+  }
+
+-- ---- the run over it
+
+is_part : IsPart loss_part
+is_part = search rules
+
+pub tiny_reads : IsReader loss_part (bootloader loss_part) (λ b. b.memories) (FitsBoot loss_part) IsRead
+tiny_reads = boot_reads loss_part is_part
+
+pub ends : (played (session boot_plan) 1 boot_replies).outcome ≡ Some (0, 15, [])
+unfolding session opening handshake operation closing play attempts_or_fault attempt exchange answer
+ends = refl
+
+pub sends : frames_in (played (session boot_plan) 1 boot_replies).events ≡ boot_frames
+unfolding session opening handshake operation closing play attempts_or_fault attempt exchange answer
+sends = refl
+
+pub starts : FitsBoot loss_part boot_before
+starts = search (rules, All-cons, All-nil)
+
+pub came : ReceivedSentFrames (concat boot_frames) [] boot_frames boot_executions
+came = record { good = refl }
+
+pub none_is_forged : NoneForged (bootloader loss_part) boot_frames boot_replies boot_before boot_executions []
+unfolding answer
+none_is_forged = by_test (bootloader loss_part) boot_frames boot_replies boot_before boot_executions [] refl
+
+pub flash_is : (after_received_bytes (bootloader loss_part) (concat boot_frames) [] boot_before).memories.flash
+    ≡ 0xFF ∷ 0xFF ∷ 0xFF ∷ 0xFF ∷ 0x56 ∷ 0x78 ∷ 0xFF ∷ 0xFF ∷ []
+flash_is = refl
+
+-- so nothing can be said of what was compared before another write
+first_gone : HoldsImage first_image (0xFF ∷ 0xFF ∷ 0xFF ∷ 0xFF ∷ 0x56 ∷ 0x78 ∷ 0xFF ∷ 0xFF ∷ []) → ⊥
+first_gone holds = let byte = holds 0 0x12 refl (omega arith) in omega (arith, byte)

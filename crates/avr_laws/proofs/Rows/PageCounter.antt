@@ -1,0 +1,31 @@
+-- A bootloader that erases the page at a counter of its own before it writes another doesn't keep the table: its row of
+-- PROGRAM_FLASH is refused. (It is a reader: Rows/Bootloader.)
+use Rattle.std.proofs.Common.{◌≡◌, inl, inr, true, [], ◌∷◌, refl, ap, arith}
+use Rattle.std.specs.Prelude.{slice_index}
+use Rattle.stk_emu.specs.Effect.{Memories}
+use Rattle.stk_emu.specs.Settled.{FitsPart}
+use Rattle.avr_laws.specs.Sheet.{IsVouched}
+use Rattle.avr_laws.specs.Table.{IsProgrammer, WritesFlashPage}
+use Rattle.avr_laws.specs.WorkedBootloader.{Bootloader, boot_before, bootloader}
+use Rattle.avr_laws.specs.WorkedLoss.{loss_part}
+
+-- page 0 is written while the counter is at page 1
+abbrev start : Bootloader
+start = record boot_before {
+  programming = true;
+  memories = record boot_before.memories { flash = 1 ∷ 2 ∷ 3 ∷ 4 ∷ 5 ∷ 6 ∷ 7 ∷ 8 ∷ [] };
+}
+
+pub fits : FitsPart loss_part start.memories
+fits = record { flash = refl; eeprom = refl; bytes = search arith }
+
+pub counter_refused : (IsIn IsReady : Bootloader → Type 0) → IsReady start
+    → IsProgrammer loss_part (bootloader loss_part) (λ b. b.memories) IsIn IsReady (IsVouched (λ mem byte. byte) loss_part) → ⊥
+counter_refused IsIn IsReady ready t =
+    let d = t.rows _ start (WritesFlashPage 0 (0 ∷ 0 ∷ 0 ∷ 0 ∷ []) refl (omega arith) refl) tt fits ready in
+    elim (d.either refl) [
+      | inl kept ↦ let five : 255 ≡ 5 = ap (λ (x : Memories). slice_index x.flash 4) kept.memories in
+          omega (arith, five)
+      | inr changed ↦ let five : 255 ≡ 5 = ap (λ (x : Memories). slice_index x.flash 4) changed.memories in
+          omega (arith, five)
+    ]

@@ -1,0 +1,225 @@
+-- The emulated programmer meets the table.
+use Rattle.std.proofs.Common.{◌≡◌, ◌∙◌, ℕ, List, [], ◌∷◌, length, refl, sym, ap, subst, ◌⊎◌, inl, inr, Option, Some, None, Ok}
+use Rattle.avr_part.specs.Part.{Part, IsPart}
+use Rattle.stk_frame.specs.declared.command.Command.{Command}
+use Rattle.stk_frame.specs.declared.command.Command.TheVariants.{LoadAddress}
+use Rattle.stk_frame.specs.Commands.{body, judge}
+use Rattle.stk_frame.specs.HostCommands.{enter, leave}
+use Rattle.stk_host.specs.Steps.{Reply, Data, reply_from_check}
+use Rattle.stk_emu.specs.Device.{device}
+use Rattle.stk_emu.specs.Programmer.{Programmer, Response}
+use Rattle.stk_emu.specs.Effect.{Memories, effects, memories_of}
+use Rattle.stk_emu.specs.Settled.{FitsPart, HasMemories}
+use Rattle.stk_emu.specs.WriteOperations.{IsStep, memories_after_step}
+use Rattle.stk_emu.proofs.Repeatable.{AreReplied, FailsAt, IsRepeatable, Settled, Unbroken, after_commands, joined_reply, on_data, reply_to}
+use Rattle.stk_emu.proofs.Replies.Commands.{enter_does, executes_command, leave_keeps, ready_idle, ready_settled, restart_is_settled, restart_keeps_memories, settled_idle}
+use Rattle.avr_tool.proofs.Given.StepsGive.{gives_given}
+use Rattle.avr_tool.proofs.WriteOperations.OutsideMode.{load_reply, step_ends, step_fits}
+use Rattle.avr_laws.specs.EmulatedStates.{HasEmptyBuffers, HasPart, chip_memories}
+use Rattle.avr_laws.specs.Table.{IsDoneOrNot, IsProgrammer, RefusesRow, IsRow, Row, Stands, addressed, enter_body}
+use Rattle.avr_laws.proofs.Table.Steps.{Fits32, IsSent, RowFor, step_for}
+
+-- the two ways to say it
+has_memories : (part : Part) (p : Programmer) → HasPart part p → HasMemories part (memories_of p.chip) p
+has_memories part p i = record {
+  memories = refl;
+  part_is = i.part_is;
+  flash_buffer = i.flash_buffer;
+  eeprom_buffer = i.eeprom_buffer;
+}
+
+settled : (part : Part) (p : Programmer) → HasEmptyBuffers part p → Settled part (memories_of p.chip) p
+settled part p s = record {
+  memories = refl;
+  part_is = s.part_is;
+  flash_buffer = s.flash_buffer;
+  eeprom_buffer = s.eeprom_buffer;
+  extended = s.extended;
+}
+
+module _ (part : Part) (sound : IsPart part) where
+  in_from : (x : Memories) (p : Programmer) → HasMemories part x p → Stands chip_memories (HasPart part) x p
+  in_from x p s = record {
+    memories = s.memories;
+    is = record { part_is = s.part_is; flash_buffer = s.flash_buffer; eeprom_buffer = s.eeprom_buffer };
+  }
+
+  ready_from : (x : Memories) (p : Programmer) → Settled part x p → Stands chip_memories (HasEmptyBuffers part) x p
+  ready_from x p s = record {
+    memories = s.memories;
+    is = record {
+      part_is = s.part_is;
+      flash_buffer = s.flash_buffer;
+      eeprom_buffer = s.eeprom_buffer;
+      extended = s.extended;
+    };
+  }
+
+  -- ---- LOAD_ADDRESS
+
+  loads : (address : Option ℕ) (p : Programmer) → Fits32 address → HasEmptyBuffers part p
+      → Stands chip_memories (HasEmptyBuffers part) (chip_memories p) (addressed device address p)
+  loads None p few s = record { memories = refl; is = s }
+  loads (Some a) p few s =
+      subst (Stands chip_memories (HasEmptyBuffers part) (chip_memories p))
+      (sym (ap (λ (z : Response). z.1) (executes_command (LoadAddress a) p few)))
+      (record {
+        memories = refl;
+        is = record {
+          part_is = s.part_is;
+          flash_buffer = s.flash_buffer;
+          eeprom_buffer = s.eeprom_buffer;
+          extended = s.extended;
+        };
+      })
+
+  -- ---- the last command of a step
+
+  at_last : (address : Option ℕ) (c : Command) (commands : List Command) (p : Programmer) → IsSent address c commands
+      → after_commands device (length commands) commands p ≡ device.after (body c) (addressed device address p)
+  at_last None c commands p is = ap (λ (cs : List Command). after_commands device (length cs) cs p) is
+  at_last (Some a) c commands p is = ap (λ (cs : List Command). after_commands device (length cs) cs p) is
+
+  joined : (address : Option ℕ) (c : Command) (commands : List Command) (bytes : List ℕ) (p : Programmer)
+      → Fits32 address → IsSent address c commands
+      → judge c (device.reply (body c) (addressed device address p)) ≡ Ok bytes
+      → joined_reply device commands [] p ≡ Data bytes
+  joined None c commands bytes p few is e =
+      ap (λ (cs : List Command). joined_reply device cs [] p) is
+      ∙ ap (λ v. on_data (reply_from_check c v) (λ b. Data b)) e
+  joined (Some a) c commands bytes p few is e =
+      ap (λ (cs : List Command). joined_reply device cs [] p) is
+      ∙ (ap (λ (r : Reply). on_data r (λ b. joined_reply device (c ∷ []) b (device.after (body (LoadAddress a)) p)))
+      (load_reply a p few)
+      ∙ ap (λ v. on_data (reply_from_check c v) (λ b. Data b)) e)
+
+  replied : (address : Option ℕ) (c : Command) (commands : List Command) (p : Programmer) → Fits32 address
+      → IsSent address c commands → AreReplied device (length commands) commands p
+  replied None c commands p few is = subst (λ (cs : List Command). AreReplied device (length cs) cs p) (sym is) tt
+  replied (Some a) c commands p few is =
+      subst (λ (cs : List Command). AreReplied device (length cs) cs p) (sym is) (([], load_reply a p few), tt)
+
+  module _ (commands : List Command) (step : IsStep part commands) (r : RowFor part commands) (p : Programmer)
+      (f : FitsPart part (memories_of p.chip)) (s : HasEmptyBuffers part p) where
+    abbrev x : Memories
+    x = memories_of p.chip
+
+    abbrev after : Memories
+    after = memories_after_step part commands x
+
+    abbrev here : Programmer
+    here = addressed device r.row.address p
+
+    abbrev end : Programmer
+    end = device.after r.row.command here
+
+    fits : IsRepeatable device commands (Settled part x) (Settled part after)
+    fits = step_fits part sound commands x step
+
+    there : after_commands device (length commands) commands p ≡ end
+    there = at_last r.row.address r.command commands p r.is_sent
+        ∙ ap (λ (bytes : List ℕ). device.after bytes here) r.body_is
+
+    done_from : Settled part after end → Stands chip_memories (HasEmptyBuffers part) (effects part r.row.writes x) end
+    done_from t = ready_from (effects part r.row.writes x) end (subst (λ y. Settled part y end) (sym (r.writes x)) t)
+
+    good_reply : (read : List ℕ) → length read ≡ r.row.count → device.reply r.row.command here ≡ r.row.reply read
+        → joined_reply device commands [] p ≡ Data read
+    good_reply read long e =
+        joined r.row.address r.command commands read p r.few r.is_sent
+        (ap (λ (bytes : List ℕ). judge r.command (device.reply bytes here)) r.body_is
+        ∙ (ap (judge r.command) e ∙ r.back read long))
+
+    -- right after a restart it is outside programming mode
+    reply_is : (q : Programmer) (read : List ℕ) → length read ≡ r.row.count
+        → device.reply r.row.command q ≡ r.row.reply read → reply_to device r.command q ≡ Data read
+    reply_is q read long e =
+        ap (reply_from_check r.command) (ap (λ (bytes : List ℕ). judge r.command (device.reply bytes q)) r.body_is
+        ∙ (ap (judge r.command) e ∙ r.back read long))
+
+    refused : (q : Programmer) → chip_memories q ≡ x
+        → FailsAt device (λ z. Settled part x z ⊎ Settled part x z) r.command q
+        → RefusesRow device chip_memories (HasEmptyBuffers part) r.row q
+    refused q same fails = record {
+      kept = subst (λ (bytes : List ℕ). Stands chip_memories (HasEmptyBuffers part) (chip_memories q)
+          (device.after bytes q)) r.body_is
+          (ready_from (chip_memories q) (device.after (body r.command) q)
+          (subst (λ y. Settled part y (device.after (body r.command) q)) (sym same) (elim fails.stands [
+            | inl s ↦ s
+            | inr s ↦ s
+          ])));
+      bad = λ read long e. fails.none read (reply_is q read long e);
+    }
+
+    ended : (a : ℕ) → r.row.address ≡ Some a → (device.reset p ≡ p)
+        ⊎ RefusesRow device chip_memories (HasEmptyBuffers part) r.row (device.reset p)
+    ended a is =
+        let sent : commands ≡ LoadAddress a ∷ r.command ∷ [] =
+        subst (λ (o : Option ℕ). IsSent o r.command commands) is r.is_sent in
+        let unbroken : Unbroken device (λ q. Settled part x q ⊎ Settled part x q) (LoadAddress a ∷ r.command ∷ []) =
+        subst (Unbroken device (λ q. Settled part x q ⊎ Settled part x q)) sent (step_ends part sound commands x x step)
+        in
+        elim (unbroken.0 p (inl (settled part p s))) [
+          | inl same ↦ inl same
+          | inr fails ↦ inr (refused (device.reset p) (restart_is_settled part x p (settled part p s)).memories fails)
+        ]
+
+    pub does : IsDoneOrNot device chip_memories (HasEmptyBuffers part) part r.row p
+    does = record {
+      loaded = loads r.row.address p r.few s;
+      either = λ loaded. elim (fits.prefix p (length commands) (settled part p s) (replied r.row.address r.command
+          commands p r.few r.is_sent)) [
+            | inl kept ↦ inl (ready_from x end (subst (Settled part x) there kept))
+            | inr changed ↦ inr (done_from (subst (Settled part after) there changed))
+          ];
+      good = λ loaded read long e.
+          let has = good_reply read long e in (
+            gives_given part sound commands x read step f
+                (record { from = p; stood = inl (settled part p s); is = has })
+                ∙ sym (r.reads x),
+            done_from (subst (Settled part after) there (fits.whole p read has (settled part p s))),
+          );
+      restarted = ended;
+    }
+
+  -- ---- each row is a step
+
+  by_row : (row other : Row) (p : Programmer) → row ≡ other
+      → IsDoneOrNot device chip_memories (HasEmptyBuffers part) part other p
+      → IsDoneOrNot device chip_memories (HasEmptyBuffers part) part row p
+  by_row row other p e d = subst (λ z. IsDoneOrNot device chip_memories (HasEmptyBuffers part) part z p) (sym e) d
+
+  pub row_is_done : (row : Row) (p : Programmer) → IsRow part row → FitsPart part (memories_of p.chip)
+      → HasEmptyBuffers part p → IsDoneOrNot device chip_memories (HasEmptyBuffers part) part row p
+  row_is_done row p is f s =
+      let t = step_for part sound row is in by_row row t.found.row p t.same (does t.commands t.step t.found p f s)
+
+  -- ---- THE EMULATED PROGRAMMER MEETS THE TABLE
+
+  entered_settled : (p : Programmer) → HasPart part p → HasEmptyBuffers part (device.after enter_body p)
+  entered_settled p i =
+      let q = device.after (body enter) p in
+      (ready_from (memories_of p.chip) q (ready_settled part (memories_of p.chip) q
+      (enter_does part (memories_of p.chip) p (has_memories part p i)))).is
+
+  idle : (p : Programmer) → HasEmptyBuffers part p → HasPart part p
+  idle p s = (in_from (memories_of p.chip) p (settled_idle part (memories_of p.chip) p (settled part p s))).is
+
+  pub emulated_meets : (Vouched : (row : Row) → IsRow part row → Memories → Type 0)
+      → IsProgrammer part device chip_memories (HasPart part) (HasEmptyBuffers part) Vouched
+  emulated_meets Vouched = record {
+    signs_on = λ p i. record { memories = refl; is = i };
+    enters = λ p i. in_from (memories_of p.chip) (device.after (body enter) p)
+        (ready_idle part (memories_of p.chip) (device.after (body enter) p)
+        (enter_does part (memories_of p.chip) p (has_memories part p i)));
+    leaves = λ p i. in_from (memories_of p.chip) (device.after (body leave) p)
+        (leave_keeps part (memories_of p.chip) p (has_memories part p i));
+    restarts = λ p i. in_from (memories_of p.chip) (device.reset p)
+        (restart_keeps_memories part (memories_of p.chip) p (has_memories part p i));
+    entered = λ p i e. entered_settled p i;
+    ready_in = idle;
+    entered_again = λ p s. entered_settled p (idle p s);
+    restarted = λ p s. (ready_from (memories_of p.chip) (device.reset p)
+        (restart_is_settled part (memories_of p.chip) p (settled part p s))).is;
+    rows = λ row p is v f s. row_is_done row p is f s;
+  }

@@ -1,0 +1,81 @@
+-- What a good reply is made of.
+use Rattle.std.proofs.Common.{◌≡◌, ◌∙◌, inl, inr, ℕ, zero, suc, ◌+◌, List, [], ◌∷◌, ◌++◌, length, take, refl, sym, ap, ap₂, arith, true, false, Bool, cond, Ok, Err, Result, rules}
+use Rattle.std.proofs.lemmas.Bool.{cases_Bool, eqb-true, eq-eqb, not-false}
+use Rattle.std.proofs.lemmas.List.{length-append, get_or-append_right, take-append-le, take_all}
+use Rattle.std.specs.Prelude.{slice_index, ◌==◌, not}
+use Rattle.stk_frame.specs.declared.command.Command.{Command}
+use Rattle.stk_frame.specs.declared.answer.FrameFault.{FrameFault}
+use Rattle.stk_frame.specs.declared.answer.Shape.TheVariants.{Bytes, Closed}
+use Rattle.stk_frame.specs.Commands.{code, judge, shape, data_in_shape}
+
+abbrev Verdict : Type 0
+Verdict = Result (List ℕ) FrameFault
+
+last_byte : (n : ℕ) (more : List ℕ) → length more ≡ n + 1 → more ≡ take n more ++ (slice_index more n ∷ [])
+last_byte n [] e = absurd (omega (arith, e))
+last_byte zero (b ∷ []) e = refl
+last_byte zero (b ∷ c ∷ more) e = absurd (omega (arith, e))
+last_byte (suc n) (b ∷ more) e = ap (λ (xs : List ℕ). b ∷ xs) (last_byte n more (omega (arith, e)))
+
+ok_is : (a b : List ℕ) → ◌≡◌ {A = Verdict} (Ok a) (Ok b) → a ≡ b
+ok_is a b e = cc
+
+not_ok : (f : FrameFault) (d : List ℕ) → ◌≡◌ {A = Verdict} (Err f) (Ok d) → ⊥
+not_ok f d e = cc
+
+by_tests : (a b c : Bool) (f g h : FrameFault) (x : Verdict) (d : List ℕ)
+    → cond a (Err f) (cond b (Err g) (cond c (Err h) x)) ≡ Ok d → (b ≡ false) × ((c ≡ false) × (x ≡ Ok d))
+by_tests true b c f g h x d e = absurd (not_ok f d e)
+by_tests false true c f g h x d e = absurd (not_ok g d e)
+by_tests false false true f g h x d e = absurd (not_ok h d e)
+by_tests false false false f g h x d e = (refl, (refl, e))
+
+two_tests : (a b : Bool) (f g : FrameFault) (x d : List ℕ)
+    → ◌≡◌ {A = Verdict} (cond a (cond b (Ok x) (Err f)) (Err g)) (Ok d)
+    → (a ≡ true) × ((b ≡ true) × (x ≡ d))
+two_tests true true f g x d e = (refl, (refl, ok_is x d e))
+two_tests true false f g x d e = absurd (not_ok f d e)
+two_tests false b f g x d e = absurd (not_ok g d e)
+
+one_test : (a : Bool) (g : FrameFault) (x d : List ℕ) → ◌≡◌ {A = Verdict} (cond a (Ok x) (Err g)) (Ok d)
+    → (a ≡ true) × (x ≡ d)
+one_test true g x d e = (refl, ok_is x d e)
+one_test false g x d e = absurd (not_ok g d e)
+
+-- what passed the check of its first two bytes
+pub first_two : (c : Command) (reply d : List ℕ) → judge c reply ≡ Ok d
+    → (more : List ℕ) × ((reply ≡ code c ∷ 0 ∷ more) × (data_in_shape (shape c) more ≡ Ok d))
+first_two c [] d e = absurd (not_ok _ d e)
+first_two c (first ∷ []) d e = elim (cases_Bool (first == code c)) [
+  | inl same ↦ absurd (cc (rw same at e))
+  | inr differs ↦ absurd (cc (rw differs at e))
+]
+first_two c (first ∷ status ∷ more) d e =
+    let t = by_tests _ (not (first == code c)) (not (status == 0)) _ _ _ (data_in_shape (shape c) more) d e in (
+      more,
+      (
+        ap₂ (λ (a b : ℕ). a ∷ b ∷ more) (eqb-true first (code c) (not-false (first == code c) t.0))
+            (eqb-true status 0 (not-false (status == 0) t.1.0)),
+        t.1.1,
+      ),
+    )
+
+pub closed_is : (n : ℕ) (more d : List ℕ) → data_in_shape (Closed n) more ≡ Ok d
+    → (more ≡ d ++ (0 ∷ [])) × (length d ≡ n)
+closed_is n more d e =
+    let t = two_tests (length more == n + 1) (slice_index more n == 0) _ _ (take n more) d e in
+    let long : length more ≡ n + 1 = eqb-true (length more) (n + 1) t.0 in
+    let same : more ≡ d ++ (0 ∷ []) =
+    last_byte n more long
+    ∙ ap₂ (λ (xs : List ℕ) (b : ℕ). xs ++ (b ∷ [])) t.1.1 (eqb-true (slice_index more n) 0 t.1.0) in
+    let size : length (d ++ (0 ∷ [])) ≡ n + 1 = sym (ap length same) ∙ long in
+    let two = length-append d (0 ∷ []) in
+    (same, omega (arith, size, two))
+
+pub bytes_is : (n : ℕ) (more d : List ℕ) → data_in_shape (Bytes n) more ≡ Ok d → (more ≡ d) × (length d ≡ n)
+bytes_is n more d e =
+    let t = one_test (length more == n) _ more d e in
+    (t.1, sym (ap length t.1) ∙ eqb-true (length more) n t.0)
+
+pub closed_from : (n : ℕ) (d : List ℕ) → length d ≡ n → data_in_shape (Closed n) (d ++ (0 ∷ [])) ≡ Ok d
+closed_from n d long = search (rules, length-append, get_or-append_right, take-append-le, take_all, eq-eqb)

@@ -1,0 +1,290 @@
+"""avrstk-serial --each: a number or a row of a table for each board, written into the image of a memory. No number is
+given twice: the counter's file has the next one, and is on the disk before a number is used."""
+
+from __future__ import annotations
+
+from avrstk_common import Fault, ended_by
+from avrstk_elf import Run, hex_rows
+from avrstk_words import RECORD, UNOPENED, Update, Words
+
+import copy
+import csv
+import fcntl
+import os
+import re
+import time
+from typing import Iterator
+
+SPEC = re.compile(r"(flash|eeprom)@(0[xX][0-9A-Fa-f]{1,8}|[0-9]{1,9})=(.+)", re.S)
+FIELD = re.compile(r"\{([^{}:]+)(?::(0?)([0-9]{0,2})([dxX]?))?\}")
+
+# the greatest number, and the most seconds to wait for the counter's lock
+MOST, PATIENCE = 10**15 - 1, 60
+
+# what begins a record that ends a file: Intel HEX's type 01, and S7 to S9
+ENDS = {"i": re.compile(rb"^:[0-9A-Fa-f]{6}01", re.M), "s": re.compile(rb"^S[789]", re.M)}
+
+
+class Spec:
+    """One --each: a memory, an address and a text with fields. After 0x the text is hexadecimal digits of bytes."""
+
+    def __init__(self, given: str, names: list[str]) -> None:
+        found = SPEC.fullmatch(given)
+        if not found:
+            raise Fault(f"--each {given}: give MEMORY@ADDRESS=TEXT, such as eeprom@0x3F0={{n:06}}")
+        self.given, self.memory, self.text = given, found[1], found[3]
+        self.address = int(found[2], 16 if found[2][:2].lower() == "0x" else 10)
+        fields = {field[1] for field in FIELD.finditer(self.text)}
+        if not fields:
+            raise Fault(f"--each {given}: without a field such as {{n}} all boards get the same")
+        if re.search("[{}]", FIELD.sub("", self.text)):
+            raise Fault(f"--each {given}: a field is {{n}}, {{n:06}} or {{COLUMN}}")
+        unknown = sorted(fields - set(names))
+        if unknown:
+            raise Fault(f"--each {given}: no field {', '.join(unknown)}; there is {', '.join(names)}")
+        if any(field[1] != "n" and ":" in field[0] for field in FIELD.finditer(self.text)):
+            raise Fault(f"--each {given}: only {{n}} takes a width")
+
+    def filled(self, number: int, row: dict[str, str]) -> str:
+        """Returns the text for a number and a row."""
+
+        def value(field: re.Match[str]) -> str:
+            if field[1] != "n":
+                return row[field[1]]
+            shown = format(number, (field[2] or "") + (field[3] or "") + (field[4] or ""))
+            if field[3] and len(shown) > int(field[3]):
+                raise Fault(f"--each {self.given}: {number} is too long for {field[0]}")
+            return shown
+
+        return FIELD.sub(value, self.text)
+
+    def piece(self, text: str) -> Run:
+        """Returns the address and the bytes of a filled text."""
+        is_hex = self.text[:2].lower() == "0x"
+        if is_hex and not re.fullmatch("([0-9A-Fa-f]{2})+", text[2:]):
+            raise Fault(f"--each {self.given}: {text} is not pairs of hexadecimal digits")
+        held = bytes.fromhex(text[2:]) if is_hex else text.encode("utf-8", "surrogateescape")
+        if not held:
+            raise Fault(f"--each {self.given}: the text is empty")
+        return self.address, held
+
+
+class Counter:
+    """A file with the next number, which is replaced whole, by one program at a time."""
+
+    def __init__(self, file: str, least: int | None) -> None:
+        # (two links to one file have one lock)
+        self.given, self.file, self.least = file, os.path.realpath(file), least
+
+    def next(self) -> int:
+        """Returns the next number."""
+        try:
+            with open(self.file, encoding="ascii", errors="replace") as held:
+                text = held.read(100)
+        except FileNotFoundError:
+            if self.least is None:
+                raise Fault(f"--counter {self.given} is not there: --from N makes it, which begins with N")
+            return self.least
+        if not re.fullmatch("[0-9]{1,15}\n", text):
+            raise Fault(f"--counter {self.given} has no number in its first line")
+        return max(int(text), self.least or 0)
+
+    def take(self, most: int, why: str) -> int:
+        """Returns the next number, after which the file has a later one, also if the power fails. `why` is the error if
+        it is above `most`."""
+        lock = os.open(f"{self.file}.lock", os.O_RDONLY | os.O_CREAT | os.O_CLOEXEC | os.O_NOFOLLOW, 0o666)
+        try:
+            self.hold(lock)
+            number = self.next()
+            if number > most:
+                raise Fault(why)
+            self.replace(f"{number + 1}\n".encode())
+            return number
+        finally:
+            os.close(lock)
+
+    def hold(self, lock: int) -> None:
+        """Locks the counter. Another program needs it for milliseconds."""
+        until = time.monotonic() + PATIENCE
+        while True:
+            try:
+                return fcntl.flock(lock, fcntl.LOCK_EX | fcntl.LOCK_NB)
+            except BlockingIOError:
+                if ended_by():
+                    raise Fault("ended before a number was taken")
+                if time.monotonic() > until:
+                    raise Fault(f"another program has held {self.given}.lock for {PATIENCE} seconds")
+                time.sleep(0.005)
+
+    def replace(self, text: bytes) -> None:
+        """Replaces the file, and syncs it and its folder."""
+        spare = f"{self.file}.new"
+        file = os.open(spare, os.O_WRONLY | os.O_CREAT | os.O_TRUNC | os.O_CLOEXEC | os.O_NOFOLLOW, 0o666)
+        try:
+            if os.path.exists(self.file):
+                os.fchmod(file, os.stat(self.file).st_mode & 0o777)
+            if os.write(file, text) != len(text):
+                raise Fault(f"--counter {self.given} can't be written whole")
+            os.fsync(file)
+        finally:
+            os.close(file)
+        folder = os.open(os.path.dirname(self.file), os.O_RDONLY | os.O_DIRECTORY | os.O_CLOEXEC)
+        try:
+            os.rename(spare, self.file)
+            os.fsync(folder)
+        finally:
+            os.close(folder)
+
+
+class Each:
+    """What --each, --from, --rows and --counter ask for. `number` is the one that the last run took."""
+
+    def __init__(self, words: Words) -> None:
+        least, rows, counter = (words.last.get(option) for option in ("--from", "--rows", "--counter"))
+        if counter is None:
+            raise Fault("--each counts the boards: name the file that has the next number, --counter FILE")
+        if least is not None and not re.fullmatch("[0-9]{1,15}", least):
+            raise Fault(f"--from {least}: not a number from 0 to {MOST}")
+        if "-n" in words.flags:
+            raise Fault("--each writes, and -n writes nothing: leave out one of them")
+        self.names: list[str] = []
+        self.rows: list[list[str]] | None = None
+        if rows is not None:
+            self.names, self.rows = table_of(rows)
+        self.file, self.specs = rows, [Spec(given, ["n", *self.names]) for given in words.each_given]
+        self.counter = Counter(counter, None if least is None else int(least))
+        self.base: list[Update] | None = None
+        self.number: int | None = None
+
+    def row(self, number: int) -> dict[str, str]:
+        return dict(zip(self.names, self.rows[number - 1])) if self.rows is not None else {}
+
+    def last(self) -> tuple[int, str]:
+        """Returns the greatest number, and what is wrong with a later one."""
+        if self.rows is None:
+            return MOST, f"--counter {self.counter.given}: all numbers are given"
+        return len(self.rows), f"--rows {self.file}: all its {len(self.rows)} rows are given"
+
+    def judge(self, words: Words) -> None:
+        """Puts the next number into the images, so that they can be judged. It isn't taken yet."""
+        (most, why), number = self.last(), self.counter.next()
+        if number > most:
+            raise Fault(why)
+        if self.rows and not number:
+            raise Fault("--from 0: the first row of --rows is 1")
+        self.put(words, number)
+
+    def give(self, words: Words) -> None:
+        """Takes the next number, and puts it into the images."""
+        try:
+            self.number = self.counter.take(*self.last())
+        except OSError as fault:
+            raise Fault(f"--counter {fault.filename or self.counter.given}: {fault.strerror}: no number was taken")
+        self.put(words, self.number)
+        filled = "; ".join(f"{spec.memory}@0x{spec.address:X}={text}" for spec, text in self.texts(self.number))
+        words.note(f"number {self.number}: {filled}")
+
+    def texts(self, number: int) -> list[tuple[Spec, str]]:
+        row = self.row(number)
+        return [(spec, spec.filled(number, row)) for spec in self.specs]
+
+    def put(self, words: Words, number: int) -> None:
+        """Puts what is for a number into the images of the command; a memory that it doesn't write gets an image."""
+        self.base = words.updates if self.base is None else self.base
+        updates, pieces = list(self.base), [(spec.memory, spec.piece(text)) for spec, text in self.texts(number)]
+        for memory in dict.fromkeys(memory for memory, _ in pieces):
+            own = sorted(piece for name, piece in pieces if name == memory)
+            self.judge_pieces(words, memory, own)
+            writes = [at for at, update in enumerate(updates) if update.writes(memory)]
+            if writes:
+                last = updates[writes[-1]]
+                updates[writes[-1]] = joined(last, words.contents.get(last.file), own)
+            else:
+                # (a locked chip takes nothing more)
+                locks = [at for at, update in enumerate(updates) if update.writes("lock")]
+                updates.insert(min(locks, default=len(updates)), image_of(memory, own))
+        words.updates, words.given = updates, [update.given for update in updates]
+
+    def judge_pieces(self, words: Words, memory: str, pieces: list[Run]) -> None:
+        """Refuses bytes outside a memory, and two texts at one place."""
+        size = words.field(f"{memory}_size")
+        ends = [at + len(held) for at, held in pieces]
+        if size and max(ends) > size:
+            raise Fault(f"--each: {memory} of {words.part} has {size} bytes: {UNOPENED}")
+        for end, (at, _) in zip(ends, pieces[1:]):
+            if end > at:
+                raise Fault(f"--each: two texts have a byte at {memory}@0x{at:X}: {UNOPENED}")
+
+    def reported(self) -> dict[str, object]:
+        """Returns the fields of a report."""
+        if self.number is None:
+            return {"number": None, "each": []}
+        rows = [
+            {"memory": spec.memory, "address": spec.address, "text": text, "hex": spec.piece(text)[1].hex().upper()}
+            for spec, text in self.texts(self.number)
+        ]
+        return {"number": self.number, "each": rows}
+
+
+def table_of(file: str) -> tuple[list[str], list[list[str]]]:
+    """Returns the names of a table's columns, and its rows."""
+    try:
+        with open(file, encoding="utf-8-sig", newline="") as held:
+            names, *rows = [row for row in csv.reader(held, strict=True) if row] or [[]]
+    except (csv.Error, UnicodeDecodeError) as fault:
+        raise Fault(f"--rows {file}: {fault}")
+    if not names:
+        raise Fault(f"--rows {file} is empty: its first line has the names of the columns")
+    if len(set(names)) < len(names) or "n" in names:
+        raise Fault(f"--rows {file}: each column needs another name than n")
+    if not rows:
+        raise Fault(f"--rows {file} has names of columns, but no row")
+    for number, row in enumerate(rows, 1):
+        if len(row) != len(names):
+            raise Fault(f"--rows {file}: row {number} has another number of values than there are names")
+    return names, rows
+
+
+def image_of(memory: str, pieces: list[Run]) -> Update:
+    """Returns the update that writes these bytes alone."""
+    update = Update(f"{memory}:w:--each")
+    update.elf = pieces
+    return handed(update, b"")
+
+
+def joined(update: Update, content: bytes | None, pieces: list[Run]) -> Update:
+    """Returns an update that also writes these bytes, in place of those of its image."""
+    if not update.is_image or content is None:
+        raise Fault(f"-U {update.given}: --each needs a file there, or no -U of {update.memory}: {UNOPENED}")
+    one, whole = copy.copy(update), bytes(content)
+    begins = RECORD.match(whole[:1024])
+    detected = ("i" if b":" in begins[0] else "s") if begins else "r"
+    kind = detected if update.format in (None, "a") else update.format
+    if update.elf or kind == "r":
+        # (a later byte at an address counts)
+        one.elf = [*(update.elf or [(0, whole)]), *pieces]
+        return handed(one, whole)
+    # (of several records with one address the last one before the end record counts)
+    end = ENDS[kind].search(whole) if kind and kind in ENDS else None
+    at = end.start() if end else len(whole)
+    front = whole[:at] + (b"" if whole[:at].endswith(b"\n") else b"\n")
+    rows = [*hex_rows([*pieces])][:-1] if kind == "i" else srec_rows(pieces)
+    return handed(one, front + "".join(rows).encode() + whole[at:])
+
+
+def handed(update: Update, content: bytes) -> Update:
+    """Gives avrstk the bytes of an update, whose format was printed before."""
+    named = update.named
+    update.front = content[:65_536]
+    update.hand_on(content)
+    update.named = named
+    return update
+
+
+def srec_rows(pieces: list[Run]) -> Iterator[str]:
+    """Yields records of type S3."""
+    for begin, held in pieces:
+        for at in range(0, len(held), 16):
+            row = held[at : at + 16]
+            body = bytes([len(row) + 5]) + (begin + at).to_bytes(4, "big") + row
+            yield f"S3{(body + bytes([~sum(body) & 255])).hex().upper()}\n"

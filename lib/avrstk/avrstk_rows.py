@@ -1,0 +1,450 @@
+"""avrstk-serial --try-rows: tries the rows of docs/BOARDS at a programmer and its chip.
+
+A row is met if its command was done, or not done at all. If its reply is good, it was done, and the data in the reply
+are the chip's. Each row is tried at some addresses: that is a test, and proves nothing."""
+
+from avrstk_common import READ, Fault, Frames, came, is_frame, ready, refuse, say, show
+from avrstk_backup import FILES, command_again
+from avrstk_elf import hex_rows
+from avrstk_faults import framed, spoiled, xor
+from avrstk_words import UNOPENED
+
+import contextlib
+import os
+import random
+import re
+import tempfile
+import time
+from typing import Any, Callable, Dict, List, Optional, Sequence, Tuple
+
+# what a chip's memories hold; None is a memory that can't be read
+Chip = Dict[str, Optional[bytes]]
+
+# bodies of commands (docs/PROTOCOL), and the beginnings of others
+SIGN_ON, ENTER, LEAVE = b"\1", bytes.fromhex("10C8641920005303AC530000"), b"\x11\1\1"
+ERASE, ERASED, CORRUPT = bytes.fromhex("120900AC800000"), b"\x12\0", b"\xb0\xc1"
+READS = {"lfuse": "180450000000", "hfuse": "180458080000", "efuse": "180450080000", "lock": "1A0458000000"}
+READS.update({"calibration": "1C0438000000", "signature": "1B043000{:02X}00", "flash": "14{:04X}20"})
+READS.update({"eeprom": "16{:04X}A0"})
+WRITES = {"lfuse": "17ACA000", "hfuse": "17ACA800", "efuse": "17ACA400", "lock": "19ACE000"}
+WRITES.update({"flash": "13{:04X}C10A404C20FFFF", "eeprom": "15{:04X}C10AC1C2A0FFFF"})
+FUSES = ("lfuse", "hfuse", "efuse")
+
+# the bytes of a block, and the blocks of flash that are read again after a row, unless all rows are tried
+BLOCK, SAMPLE = 256, 16
+
+MEMORIES = {"signature": ("signature",), "calibration": ("calibration",), "fuses": FUSES, "lock": ("lock",)}
+MEMORIES.update({"flash": ("flash",), "EEPROM": ("eeprom",)})
+KEPT = ("SIGN_ON", "ENTER", "LEAVE", "damaged frame", "restart")
+READING = list(MEMORIES)
+WRITING = ("erases", "writes flash", "writes fuses", "writes lock")
+
+
+class Ended(Exception):
+    """No further row can be tried."""
+
+
+def hexed(*bodies: bytes) -> str:
+    return ", ".join(it[:16].hex(" ").upper() + " .." * (len(it) > 16) for it in bodies)
+
+
+class Programmer:
+    """Sends commands. `opens` opens the device, and restarts a board that restarts by DTR."""
+
+    def __init__(self, opens: Callable[[], Any]) -> None:
+        self.opens, self.file, self.number, self.repeated, self.heeds = opens, opens(), 0, 0, True
+
+    def restart(self) -> None:
+        self.file.close()
+        time.sleep(0.2)
+        self.file = self.opens()
+
+    def send(self, body: bytes, is_damaged: bool = False) -> Optional[bytes]:
+        """Sends a frame. Returns the body of its reply; None after a second without a byte."""
+        self.number = (self.number + 1) % 256
+        frame, pieces = framed(self.number, body), Frames()
+        os.write(self.file.fileno(), spoiled(frame) if is_damaged else frame)
+        while True:
+            found = ready({self.file: READ, **({came: READ} if self.heeds else {})}, time.monotonic() + 1)
+            if came in found or not found:
+                break
+            piece = os.read(self.file.fileno(), 4096)
+            if not piece:
+                raise Ended("the device is gone")
+            for it in filter(is_frame, pieces.pieces(piece)):
+                if it[1] == self.number and not xor(it):
+                    return it[5:-1]
+        if came in found:
+            raise Ended("a signal came")
+        return None
+
+    def ask(self, *step: bytes) -> bytes:
+        """Sends a step at most four times, as avrstk does. Returns the last reply, or an earlier bad one."""
+        for attempt in range(4):
+            reply, self.repeated = None, self.repeated + (attempt > 0)
+            for body in step:
+                reply = self.send(body)
+                if reply is None or reply[1:2] != b"\0":
+                    break
+            if reply is not None and reply != CORRUPT:
+                return reply
+        raise Ended(f"no answer to {hexed(*step)}")
+
+
+class Rows:
+    """The rows, tried one after another. `chip` is what the memories hold, and `saved` what they held at first."""
+
+    def __init__(self, words: Any, opens: Callable[[], Any]) -> None:
+        names = ("flash_size", "flash_page", "eeprom_size", "eeprom_page", "eesave_bit")
+        found = {it: words.of_part(it) or "" for it in names}
+        is_known = all(re.fullmatch("[1-9][0-9_]*|0", it) for it in found.values())
+        refuse((not is_known, f"the sizes of {words.part} are not known here: {UNOPENED}"))
+        self.part = part = {it: int(value) for it, value in found.items()}
+        self.words, self.is_all, self.sizes = words, words.trial == "all", {"signature": 3, "calibration": 1}
+        self.sizes.update({it: 1 for it in (*FUSES, "lock")}, flash=part["flash_size"], eeprom=part["eeprom_size"])
+        # the pages that are written. (With -c wiring a command restores only the first 256 bytes of EEPROM)
+        half = min(part["eeprom_size"], 256 if words.is_wiring else 1 << 16) // 2
+        self.cell = half // part["eeprom_page"] * part["eeprom_page"]
+        self.page = min(10, part["flash_size"] // part["flash_page"] // 2) * part["flash_page"]
+        self.results: Dict[str, Optional[bool]] = {}
+        self.chip: Chip = {}
+        self.saved: Chip = {}
+        self.folder = self.undo = self.asked = ""
+        self.programmer = Programmer(opens)
+
+    def row(self, name: str, fault: Optional[str], seen: str = "") -> None:
+        """Prints a row that was tried."""
+        self.results[name] = not fault
+        show(f"row {name:19} {'FAILS' if fault else 'meets':9} {fault or seen}".rstrip())
+
+    def leave_out(self, name: str, why: str) -> None:
+        self.results[name] = None
+        show(f"row {name:19} not tried {why}")
+
+    def leave_out_all(self, why: str) -> None:
+        for name in WRITING:
+            self.leave_out(name, why)
+
+    def addressed(self, memory: str, at: int) -> List[bytes]:
+        """Returns the LOAD_ADDRESS of a command, if it has one."""
+        far = 0x80000000 if self.sizes["flash"] > 0x20000 else 0
+        address = {"flash": at // 2 | far, "eeprom": at}.get(memory)
+        return [] if address is None else [b"\6" + address.to_bytes(4, "big")]
+
+    def read(self, memory: str, at: int, count: int) -> Optional[bytes]:
+        """Returns bytes of a memory; None if the reply isn't good."""
+        body = bytes.fromhex(READS[memory].format(count if memory in ("flash", "eeprom") else at))
+        step = [*self.addressed(memory, at), body]
+        reply = self.programmer.ask(*step)
+        is_good = reply[:2] == step[-1][:1] + b"\0" and reply[-1:] == b"\0" and len(reply) == count + 3
+        self.asked = f"{hexed(*step)} was answered {hexed(reply)}"
+        return reply[2:-1] if is_good else None
+
+    def writing(self, memory: str, at: int, data: bytes) -> List[bytes]:
+        return [*self.addressed(memory, at), bytes.fromhex(WRITES[memory].format(len(data))) + data]
+
+    def written(self, memory: str, at: int, data: bytes) -> Chip:
+        """Returns what the chip holds after a write: of flash and the lock only bits are cleared."""
+        held = self.chip[memory] or b""
+        data = bytes(old & new for old, new in zip(held[at:], data)) if memory in ("flash", "lock") else data
+        return {**self.chip, memory: held[:at] + data + held[at + len(data) :]}
+
+    def blocks(self, memory: str, shift: int = 0) -> List[Tuple[int, int]]:
+        """Returns place and length of the blocks of a memory. With `shift` they begin elsewhere, and a few more are
+        drawn."""
+        size, step = self.sizes[memory], 2 if memory == "flash" else 1
+        if memory not in ("flash", "eeprom"):
+            return [(it, 1) for it in range(size)]
+        begins = [0, *range(min(shift, size // 4 * 2) or BLOCK, size, BLOCK)]
+        found = [(at, end - at) for at, end in zip(begins, [*begins[1:], size])]
+        for at in [random.randrange(0, size - step, step) for _ in range(4 if shift else 0)]:
+            found.append((at, random.randrange(step, min(BLOCK, size - at) + 1, step)))
+        return found
+
+    def whole(self) -> Chip:
+        """Reads all memories."""
+        chip: Chip = {}
+        for memory in self.sizes:
+            pieces: List[bytes] = []
+            for it in self.blocks(memory):
+                piece = self.read(memory, *it)
+                if piece is None:
+                    break
+                pieces.append(piece)
+            else:
+                chip[memory] = b"".join(pieces)
+        return {it: chip.get(it) for it in self.sizes}
+
+    def difference(self, wanted: Chip, shift: int = 0) -> Optional[str]:
+        """Reads all memories, or a sample, and returns where one differs."""
+        for memory, held in wanted.items():
+            blocks = self.blocks(memory, shift) if held is not None else []
+            is_sample = memory == "flash" and not self.is_all and len(blocks) > SAMPLE
+            for at, count in sorted(random.sample(blocks, SAMPLE)) if is_sample else blocks:
+                found, right = self.read(memory, at, count), (held or b"")[at : at + count]
+                if found is None:
+                    raise Ended(f"{memory} could be read before: {self.asked}")
+                place = next((it for it in range(count) if found[it] != right[it]), None)
+                if place is not None:
+                    return f"{memory}: address {at + place:08X}: {right[place]:02X} expected, {found[place]:02X} found"
+        return None
+
+    def attempt(self, done: Chip, *step: bytes, enters: bool = False) -> Tuple[Optional[str], str]:
+        """Sends a step that makes the chip `done`. If its reply isn't good, the chip may also be as before. Returns the
+        fault, and what was seen."""
+        reply, code = self.programmer.ask(*step), step[-1][:1]
+        if enters:
+            self.enter()
+        is_good = reply == code + bytes(2 if code in b"\x17\x19" else 1)
+        fault, seen = self.difference(done), "done" if is_good else "refused" + ", and done" * (done != self.chip)
+        if fault and not is_good and not self.difference(self.chip):
+            fault, done, seen = None, self.chip, "refused"
+        self.chip = self.whole() if fault else done
+        return fault and f"{hexed(*step)} was answered {hexed(reply)}; {fault}", f"{hexed(reply)}: {seen}"
+
+    def write(self, memory: str, at: int, data: bytes, enters: bool = False) -> Tuple[Optional[str], str]:
+        return self.attempt(self.written(memory, at, data), *self.writing(memory, at, data), enters=enters)
+
+    def enter(self) -> None:
+        reply = self.programmer.ask(ENTER)
+        if reply != ENTER[:1] + b"\0":
+            raise Ended(f"{hexed(ENTER)} was answered {hexed(reply)}")
+
+    def begin(self) -> None:
+        """Signs on, enters programming mode and saves all memories. Ends if the chip is another one, or locked."""
+        self.programmer.ask(SIGN_ON)
+        self.enter()
+        signature, lock = [self.read("signature", it, 1) or b"" for it in range(3)], self.read("lock", 0, 1)
+        found = b"".join(signature)
+        if found and found.hex() != (self.words.of_part("signature") or "").lower():
+            raise Ended(f"the chip's signature is {hexed(found)}: is -p right?")
+        if lock and lock[0] & 3 != 3:
+            raise Ended(f"the chip is locked ({hexed(lock)}), so nothing is tried")
+        self.chip = self.saved = self.whole()
+        self.folder = tempfile.mkdtemp("", "try-rows-", ".")
+        for memory, held in self.saved.items():
+            self.save(f"{memory}.{FILES[memory][:3]}", held)
+        self.save("page.hex", (self.saved["eeprom"] or b"")[: self.cell + self.part["eeprom_page"]], self.cell)
+        self.save("front.hex", (self.saved["flash"] or b"")[: self.page + self.part["flash_page"]])
+        say(f"all memories that can be read are saved in {self.folder}")
+
+    def save(self, name: str, held: Optional[bytes], begin: int = 0) -> None:
+        """Writes a file of the form that --backup gives it."""
+        if held:
+            values = ",".join(f"0x{it:02x}" for it in held) + "\n"
+            with open(f"{self.folder}/{name}", "w", encoding="ascii") as file:
+                file.write(values if name.endswith("txt") else "".join(hex_rows([(begin, held[begin:])])))
+
+    def begin_to_change(self) -> None:
+        """Notes the command that restores the chip from now on."""
+        page = ("-U", f"eeprom:w:{self.folder}/page.hex:i") if self.saved["eeprom"] else ()
+        front = ("-D", "-U", f"flash:w:{self.folder}/front.hex:i", *page)
+        all_of_it = front if self.words.is_bootloader else (f"--restore={self.folder}",)
+        self.undo = command_again(self.words, *(all_of_it if self.is_all else page))
+
+    def only(self, *memories: str) -> Chip:
+        return {it: self.chip[it] for it in memories}
+
+    def reads(self) -> None:
+        """Reads memories again, by blocks that begin elsewhere. (If all is well, `eeprom` reads it once more.)"""
+        for name in READING:
+            here = {it: held for it, held in self.only(*MEMORIES[name]).items() if held is not None}
+            fault = self.difference({**here}, BLOCK // 2)
+            seen = ", ".join(hexed(it) if len(it) < 4 else f"{len(it):,} bytes" for it in here.values())
+            if not here:
+                self.read(MEMORIES[name][0], 0, 1)
+            if fault or not here or name != "EEPROM":
+                self.row(f"reads {name}", fault and f"{self.asked}; {fault}", seen or f"refused: {self.asked}")
+
+    def keeps(self) -> None:
+        """Nothing is changed by SIGN_ON, ENTER and LEAVE."""
+        for name, body in ("SIGN_ON", SIGN_ON), ("ENTER", ENTER), ("LEAVE", LEAVE):
+            reply = self.programmer.ask(body)
+            if body == LEAVE and self.words.is_bootloader:
+                # (it has ended)
+                self.programmer.restart()
+                self.programmer.ask(SIGN_ON)
+            self.enter()
+            fault = self.difference(self.chip)
+            self.row(name, fault and f"{hexed(body)} was answered {hexed(reply)}; {fault}", hexed(reply))
+            self.chip = self.whole() if fault else self.chip
+
+    def damaged(self, write: bytes) -> None:
+        """A frame with a wrong checksum is not obeyed."""
+        if self.words.is_version1:
+            return self.leave_out("damaged frame", "version 1 has no checksums")
+        self.programmer.ask(*self.addressed("eeprom", self.cell))
+        bodies = [write, *[ERASE] * self.is_all]
+        replies = [self.programmer.send(it, True) for it in bodies]
+        obeyed = [hexed(it) for it, reply in zip(bodies, replies) if reply and reply[1:2] == b"\0"]
+        fault = f"{' and '.join(obeyed)} was obeyed" if obeyed else self.difference(self.chip)
+        self.row("damaged frame", fault, " and ".join(hexed(it) if it else "no reply" for it in replies))
+        self.chip = self.whole() if fault else self.chip
+
+    def eeprom(self) -> None:
+        """Inverts bits of all but one byte of a page, and puts them back twice. Both ways of reading see the same."""
+        held, fault, seen, unlike = self.chip["eeprom"], None, "", None
+        if held is None or "reads EEPROM" in self.results:
+            self.leave_out("damaged frame", "EEPROM can't be read")
+            return self.leave_out("writes EEPROM", "EEPROM can't be read")
+        old = held[self.cell : self.cell + self.part["eeprom_page"]]
+        self.begin_to_change()
+        self.damaged(self.writing("eeprom", self.cell, bytes(it ^ 0x5A for it in old))[-1])
+        for data in bytes(it ^ 0xA5 for it in old[:-1] or old), old, old:
+            wrong, told = self.write("eeprom", self.cell, data)
+            fault, seen = fault or wrong, seen or told
+            if not unlike:
+                unlike = self.difference(self.only("eeprom"), BLOCK // 2)
+                unlike = unlike and f"{self.asked}; {unlike}"
+        self.is_put_back()
+        self.row("reads EEPROM", unlike, f"{len(held):,} bytes")
+        if unlike:
+            return self.leave_out("writes EEPROM", "what is written can't be read")
+        self.row("writes EEPROM", fault, seen)
+
+    def is_put_back(self) -> None:
+        if self.chip["eeprom"] == self.saved["eeprom"] and not self.is_all:
+            self.undo = ""
+
+    def restart(self) -> None:
+        """After a restart each row before the next ENTER is refused, or does what it says."""
+        self.programmer.restart()
+        self.programmer.ask(SIGN_ON)
+        fault, found = None, []
+        for memory, held in self.chip.items():
+            at, count = random.choice(self.blocks(memory))
+            found += [self.read(memory, at, count)] if held is not None else []
+            if held and found[-1] not in (None, held[at : at + count]):
+                fault = fault or f"before ENTER {self.asked}"
+        held = self.chip["eeprom"] if self.results["reads EEPROM"] else None
+        if held is not None:
+            old = held[self.cell : self.cell + self.part["eeprom_page"]]
+            self.begin_to_change()
+            wrong, _ = self.write("eeprom", self.cell, bytes(it ^ 0x5A for it in old), enters=True)
+            again, _ = self.write("eeprom", self.cell, old)
+            fault = fault or (wrong and f"before ENTER {wrong}") or again
+            self.is_put_back()
+        self.enter()
+        changed, refused = self.difference(self.chip), found.count(None)
+        fault, self.chip = fault or changed, self.whole() if changed else self.chip
+        self.row("restart", fault, f"before ENTER {refused} readings are refused, {len(found) - refused} are true")
+
+    def erase(self) -> bool:
+        """Returns whether the chip was erased."""
+        flash, eeprom, hfuse = self.chip["flash"], self.chip["eeprom"], self.chip["hfuse"]
+        if flash is None or eeprom is None or hfuse is None:
+            self.leave_out("erases", "not all memories can be restored")
+            return False
+        takes = hfuse[0] >> self.part["eesave_bit"] & 1
+        done: Chip = {**self.chip, "flash": b"\xff" * len(flash), "lock": b"\xff"}
+        done["eeprom"] = b"\xff" * len(eeprom) if takes else eeprom
+        fault, seen = self.attempt(done, ERASE)
+        self.row("erases", fault, seen)
+        return self.chip is done
+
+    def changes(self) -> None:
+        """Erases, and writes flash, fuses and the lock."""
+        if self.chip["flash"] is None:
+            return self.leave_out_all("flash can't be read")
+        self.begin_to_change()
+        is_erased = self.erase()
+        one, other = os.urandom(self.part["flash_page"]), os.urandom(self.part["flash_page"])
+        self.writes("writes flash", [("flash", it) for it in (one, one, other)], "twice, and another page over it")
+        # (a part of which nothing is known may have no extended fuse)
+        fuses = FUSES if self.words.parts_file is None or self.words.bits() else FUSES[:2]
+        self.writes("writes fuses", [(it, self.chip[it]) for it in fuses], "each with its own byte")
+        # (a bit of the lock is cleared only if an erase has set it, or a bootloader can't clear it)
+        values = [b"\xff", b"\xfe"] if is_erased or self.words.is_bootloader else [b"\xff"]
+        lock = [("lock", it if self.chip["lock"] else None) for it in values]
+        self.writes("writes lock", lock, f"with {hexed(*values)}")
+        self.restore(is_erased)
+
+    def writes(self, name: str, given: Sequence[Tuple[str, Optional[bytes]]], what: str) -> None:
+        """Writes these bytes, one after another, up to the first fault."""
+        fault, seen = None, ""
+        for memory, data in given:
+            if data is None:
+                return self.leave_out(name, "what is written can't be read")
+            if not fault:
+                fault, told = self.write(memory, self.page if memory == "flash" else 0, data)
+                seen = seen or f"{told}; {what}"
+        self.row(name, fault, seen)
+
+    def restore(self, is_erased: bool) -> None:
+        """Writes what was saved, in two rounds if needed."""
+        for _ in range(2):
+            self.programmer.restart()
+            self.programmer.ask(SIGN_ON)
+            self.enter()
+            self.programmer.ask(ERASE)
+            self.chip = self.whole()
+            for memory in "flash", "eeprom", "lock":
+                page, saved = self.part.get(f"{memory}_page", 1), self.saved[memory] or b""
+                places = range(0, len(saved), page)
+                wrong = [it for it in places if saved[it : it + page] != (self.chip[memory] or b"")[it : it + page]]
+                # (without an erase, a bootloader may erase a page for each one written, from 0 on)
+                is_whole = memory == "flash" and wrong and not is_erased
+                for at in range(0, wrong[-1] + 1, page) if is_whole else wrong:
+                    self.programmer.ask(*self.writing(memory, at, saved[at : at + page]))
+            self.chip = self.whole()
+            if self.chip == self.saved:
+                self.undo = ""
+                say("the chip is as it was before")
+                break
+
+    def try_all(self) -> None:
+        self.begin()
+        self.reads()
+        self.keeps()
+        self.eeprom()
+        self.restart()
+        if self.is_all:
+            self.changes()
+        else:
+            self.leave_out_all("--try-rows=all tries it, at a chip to spare")
+        self.programmer.ask(LEAVE)
+
+    def put_back(self) -> None:
+        """After an early end, writes a page of EEPROM back if the programmer still replies."""
+        self.programmer.heeds = False
+        old = self.saved.get("eeprom")
+        if self.undo and old and not self.is_all:
+            place = self.cell, old[self.cell : self.cell + self.part["eeprom_page"]]
+            if self.programmer.ask(*self.writing("eeprom", *place))[1:2] == b"\0":
+                self.undo = ""
+        self.programmer.ask(LEAVE)
+
+    def left(self) -> str:
+        """Returns the promise that these rows leave."""
+        failed = [name for name, meets in self.results.items() if meets is False]
+        unread = [it for it in READING if f"reads {it}" in failed]
+        if not self.chip or any(it in failed for it in KEPT) or len(unread) == len(READING):
+            return "none"
+        if not failed and None not in self.results.values() and not self.words.is_version1:
+            return "the promise of README"
+        limit = " while the line changes no byte (version 1 has no checksums)" * self.words.is_version1
+        limit += f" (not {', '.join(unread)})" if unread else ""
+        return f"what a run has compared after its last write is there{limit}"
+
+
+def try_rows(words: Any, opens: Callable[[], Any]) -> int:
+    """Tries the rows, and returns the status: 0 if all that were tried are met."""
+    rows, why = Rows(words, opens), None
+    try:
+        rows.try_all()
+    except (Ended, Fault, OSError) as fault:
+        why = (fault.strerror if isinstance(fault, OSError) else None) or str(fault)
+        with contextlib.suppress(Ended, OSError):
+            rows.put_back()
+    finally:
+        rows.programmer.file.close()
+    tried, again = [it for it in rows.results.values() if it is not None], rows.programmer.repeated
+    if why:
+        say(f"no further row is tried: {why}")
+    say(f"{sum(tried)} of {len(tried)} rows meet, tried at some addresses; {again} commands repeated")
+    say(f"what that leaves: {'not known' if why else rows.left()}")
+    if rows.undo:
+        say(f"the chip is changed. What restores it: {rows.undo}")
+    elif rows.chip != rows.saved:
+        say(f"the chip is changed. What it held is in {rows.folder}")
+    return 0 if all(tried) and not why else 1

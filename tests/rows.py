@@ -1,0 +1,461 @@
+#!/usr/bin/env python3
+"""Tests avrstk-serial --try-rows over the emulated programmer, over wrong ones, and over simulated boards.
+
+Not proved: No proof covers the script, and bootloaders and the simulator are programs of others.
+
+The emulated programmer is behind avrstk-serve, with each of its faults. Each wrong programmer fails its own row. The
+simulated boards are a Mega 2560 with its bootloader, and boards of version 1.
+
+    tests/rows.py [CASE ..]    needs a built program (program.py); a Mega and boards of version 1 need what
+                               mega.py and boards.py need, and are left out without it
+"""
+
+import contextlib
+import os
+import random
+import select
+import shutil
+import subprocess
+import sys
+import threading
+
+import boards
+import mega
+import serial
+from cases import PATIENCE, leave_out, named, run_cases, same, see
+from line import frames_of
+from program import SESSION, TOP, frame, xor
+from serial import room
+
+sys.path[:0] = [str(TOP / "lib/avrstk")]
+import avrstk_rows  # noqa: E402
+import avrstk_version1  # noqa: E402
+from avrstk_report import Report  # noqa: E402
+from avrstk_words import Words  # noqa: E402
+
+KEPT = ["SIGN_ON", "ENTER", "LEAVE", "damaged frame", "restart"]
+READING = [f"reads {it}" for it in ("signature", "calibration", "fuses", "lock", "flash", "EEPROM")]
+WRITING = ["erases", "writes flash", "writes fuses", "writes lock"]
+SAFE, ALL = ["--try-rows"], ["--try-rows=all", "--yes"]
+BY_A_GOOD_LINE = " while the line changes no byte (version 1 has no checksums)"
+FIRMWARE, COMPARED = "the promise of README", "what a run has compared after its last write is there"
+TINY, FLASH, EEPROM = ["--parts", "tiny.toml", "-p", "tiny"], 2_048, 64
+room.keep("tiny.toml", boards.TINY.encode())
+# (flash and EEPROM with content of their own, fuses, and an open lock)
+CHIP = (
+    random.Random(4).randbytes(FLASH - 640) + b"\xff" * 640 + random.Random(5).randbytes(EEPROM) + b"\x62\xd9\xfd\xff"
+)
+
+
+class Plug:
+    """A pseudo terminal. Each opening of it gets a connection that `call` makes, as a board's reset does."""
+
+    def __init__(self, call):
+        self.call, self.ends, self.vanishes = call, threading.Event(), threading.Event()
+        self.line, self.device = serial.terminal()
+        self.thread = threading.Thread(target=self.live, daemon=True)
+        self.thread.start()
+
+    def live(self):
+        while not self.ends.wait(0.002) and not self.vanishes.is_set():
+            if serial.is_open(self.line):
+                with self.call() as programmer, contextlib.suppress(OSError):
+                    self.bring(programmer)
+        os.close(self.line)
+
+    def bring(self, programmer):
+        """Passes bytes on until the device is closed, and then waits until the programmer has ended."""
+        with contextlib.suppress(OSError):
+            while serial.is_open(self.line) and not self.vanishes.is_set():
+                found, _, _ = select.select([self.line, programmer], [], [], 0.02)
+                if self.line in found:
+                    programmer.sendall(os.read(self.line, 4_096))
+                if programmer in found:
+                    os.write(self.line, programmer.recv(4_096))
+        programmer.shutdown(1)
+        while programmer.recv(4_096):
+            pass
+
+    def end(self):
+        self.ends.set()
+        self.thread.join(PATIENCE)
+
+
+class Wrong:
+    """An emulated programmer and chip of which something differs. `act` gets the body of each command, and what asks
+    the programmer, and returns the reply's body, or None. It may obey frames with a wrong checksum."""
+
+    def __init__(self, act, obeys_all=False, chip=CHIP):
+        self.act, self.obeys_all = act, obeys_all
+        room.put("wrong.bin", chip)
+
+    def call(self):
+        ours, caller = serial.socket.socketpair()
+        threading.Thread(target=self.live, args=(ours,), daemon=True).start()
+        return caller
+
+    def live(self, caller):
+        inner, outer = serial.socket.socketpair()
+        words = [SESSION, *TINY, "-P", "emu:wrong.bin"]
+        with serial.forks:
+            run = subprocess.Popen(words, stdin=inner, stdout=inner, stderr=subprocess.DEVNULL, cwd=room.folder)
+        inner.close()
+        replies, number = frames_of(outer), 0
+
+        def ask(body):
+            nonlocal number
+            number = (number + 1) % 256
+            outer.sendall(frame(number, body))
+            return next(replies)[5:-1]
+
+        with caller, outer:
+            with contextlib.suppress(OSError):
+                for it in frames_of(caller):
+                    is_bad = xor(it) and not self.obeys_all
+                    reply = b"\xb0\xc1" if is_bad else self.act(it[5:-1], ask)
+                    caller.sendall(frame(it[1], reply) if reply else b"")
+            outer.shutdown(1)
+            run.wait(PATIENCE)
+
+
+def rows_of(output):
+    """Returns what was printed of each row: how it ended, and the rest."""
+    found = {}
+    for it in output.decode().splitlines():
+        see(f"{it}: is a row", it[:4] == "row " and it[24:33].strip() in ("meets", "FAILS", "not tried"), it)
+        found[it[4:24].strip()] = it[24:33].strip(), it[34:]
+    return found
+
+
+def tried(what, words, failing=(), left=(), promise=None, status=None):
+    """Tries the rows. Checks which fail and which are left out, the status, and the promise that is left."""
+    found_status, output, _, own = serial.run(words)
+    found = rows_of(output)
+    seen(what, found, own, found_status, failing, left, promise, status)
+    return found, own
+
+
+def seen(what, found, own, found_status, failing, left, promise, status=None):
+    """Checks what was printed."""
+    for how, wanted in ("FAILS", failing), ("not tried", left):
+        same(f"{what}: rows with {how}", {name for name, (it, _) in found.items() if it == how}, set(wanted))
+    same(f"{what}: its status", found_status, int(bool(failing)) if status is None else status)
+    if promise:
+        see(f"{what}: the promise", f"what that leaves: {promise}" in own, str(own))
+
+
+def served(words, options=(), chip=CHIP, part=TINY, failing=(), **more):
+    """Tries the rows over avrstk-serve. The chip has to be as before."""
+    room.put("chip.bin", chip)
+    program = [sys.executable, TOP / "avrstk-serve"]
+    command = ["--pty", "link", *part, "--chip", "chip.bin", *options]
+    with room.start(command, program=program, env=os.environ | {"AVRSTK": str(serial.PROGRAM)}) as server:
+        server.stdout.readline()
+        found = tried(f"{words} {options}", [*part, "-P", "link", *words], failing, **more)
+        server.terminate()
+        _, told = server.communicate(timeout=PATIENCE)
+    if "--locked" not in options:
+        same(f"{words} {options}: the chip", room.read("chip.bin"), chip)
+    return *found, told.decode()
+
+
+def emulated():
+    """The emulated programmer meets each row, and the chip is as before. All memories were saved first."""
+    found, own, _ = served(SAFE, left=WRITING, promise=COMPARED)
+    same("the rows", list(found), [*READING[:-1], *KEPT[:4], READING[-1], "writes EEPROM", "restart", *WRITING])
+    folder = room.folder / own[0].rpartition(" ")[2]
+    files = {it.name: it.read_text() for it in folder.iterdir()}
+    same("what was saved", serial.image_of(files["flash.hex"].encode()), dict(enumerate(CHIP[:FLASH])))
+    same(
+        "the fuses",
+        [files[f"{it}.txt"] for it in ("lfuse", "hfuse", "efuse", "lock")],
+        ["0x62\n", "0xd9\n", "0xfd\n", "0xff\n"],
+    )
+    found, own, _ = served(ALL, promise=FIRMWARE)
+    see("all rows", not {it for it in found if it not in (*READING, *KEPT, *WRITING, "writes EEPROM")}, str(found))
+    # (the erase keeps this EEPROM)
+    served(ALL, chip=CHIP[:-3] + b"\xd1\xfd\xff", promise=FIRMWARE)
+    served(SAFE, part=["-p", "m328p"], chip=serial.os.urandom(33_792) + b"\x62\xd9\xfd\xff", left=WRITING)
+
+
+# how each fault of avrstk-serve shows: faults of the line only make the script repeat commands
+LINE = [
+    "--lose READ_FUSE#2",
+    "--lose-reply PROGRAM_EEPROM#2",
+    "--corrupt LEAVE_PROGMODE#1",
+    "--corrupt-reply READ_EEPROM#3",
+]
+LINE += ["--drop READ_LOCK#2 --late READ_FLASH#4:1.2"]
+
+
+def faults_of_the_line():
+    """With each fault of a frame all rows are met, and commands were repeated."""
+    for options in LINE:
+        _, own, told = served(SAFE, options.split(), left=WRITING, promise=COMPARED)
+        see(f"{options}: a command was repeated", not any("; 0 commands" in it for it in own), str(own))
+        see(f"{options}: it struck", "never struck" not in told, told)
+
+
+def faults_of_a_chip():
+    """A bootloader that refuses much meets the rows, and fails one that does what it doesn't say. Nothing is tried
+    without a chip, or if it is locked."""
+    served(ALL, ["--bootloader"], failing=["writes flash"], promise=COMPARED)
+    served(SAFE, ["--bootloader"], left=WRITING, promise=COMPARED)
+    for option, why in ("--no-chip", "10 C8 64 19 20 00 53 03 AC 53 00 00 was answered 10 C0"), (
+        "--locked",
+        "the chip is locked (FC), so nothing is tried",
+    ):
+        found, own, _ = served(SAFE, [option], status=1)
+        same(f"{option}: the rows", (found, own[0]), ({}, f"no further row is tried: {why}"))
+
+
+def writes_eeprom(ask, at, byte):
+    ask(b"\6" + at.to_bytes(4, "big"))
+    ask(bytes.fromhex("150001C10AC1C2A0FFFF") + bytes([byte]))
+
+
+def changing(when):
+    """Returns what also writes a byte of EEPROM just before a command."""
+
+    def act(body, ask):
+        if when(body):
+            writes_eeprom(ask, 5, random.randrange(256))
+        return ask(body)
+
+    return act
+
+
+def once(front, number, wrong):
+    """Returns what makes one reply to a command wrong."""
+    count = 0
+
+    def act(body, ask):
+        nonlocal count
+        reply = ask(body)
+        count += body.startswith(front)
+        return (
+            reply[:2] + bytes([reply[2] ^ wrong]) + reply[3:] if body.startswith(front) and count == number else reply
+        )
+
+    return act
+
+
+def readdressed(code, change):
+    """Returns what reads at another address."""
+    at = 0
+
+    def act(body, ask):
+        nonlocal at
+        at = int.from_bytes(body[1:], "big") if body[:1] == b"\6" else at
+        if body[0] == code:
+            ask(b"\6" + change(at).to_bytes(4, "big"))
+        return ask(body)
+
+    return act
+
+
+def before_enter(answers):
+    """Returns what replies so to a command outside programming mode, without doing it."""
+
+    def act(body, ask):
+        reply = ask(body)
+        return answers[body[:1]] if reply[1:2] == b"\xc0" and body[:1] in answers else reply
+
+    return act
+
+
+def instead(front, other):
+    """Returns what does another command in place of one."""
+    return lambda body, ask: ask(other(body) if body.startswith(front) else body)
+
+
+def pretends(front, reply):
+    """Returns what replies OK to a command without doing it."""
+    return lambda body, ask: reply if body.startswith(front) else ask(body)
+
+
+WRONG = [
+    ("SIGN_ON", changing(lambda body: body == b"\1")),
+    ("LEAVE", changing(lambda body: body[:1] == b"\x11")),
+    ("reads fuses", once(b"\x18\4\x58", 2, 0x20)),
+    ("reads lock", once(b"\x1a", 3, 1)),
+    ("reads calibration", once(b"\x1c", 2, 8)),
+    ("reads flash", readdressed(0x14, lambda at: at & ~0x7F)),
+    ("reads EEPROM", readdressed(0x16, lambda at: at * 2 % EEPROM)),
+    ("restart", before_enter({b"\x18": b"\x18\0\0\0"})),
+    ("restart", before_enter({b"\x15": b"\x15\0"})),
+    ("writes EEPROM", instead(b"\x15\0\3", lambda body: b"\x15\0\4" + body[3:] + b"\xff")),
+    ("writes EEPROM, restart", pretends(b"\x15", b"\x15\0")),
+    ("erases", pretends(b"\x12", b"\x12\0")),
+    ("writes flash", instead(b"\x13", lambda body: body[:11] + b"\xff" + body[12:])),
+    ("writes fuses", instead(b"\x17\xac\xa0", lambda body: b"\x17\xac\xa8" + body[3:])),
+    ("writes lock", pretends(b"\x19", b"\x19\0\0")),
+]
+
+
+def wrong():
+    """Each wrong programmer fails its row, and that row alone. The promise is the one that the others leave."""
+    for number, (row, act) in enumerate(WRONG):
+        rows, what = row.split(", "), f"wrong {number}, {row}"
+        left = ["damaged frame", "writes EEPROM"] if row == "reads EEPROM" else []
+        plug = Plug(Wrong(act).call)
+        words = [*TINY, "-P", plug.device, *(ALL if row in WRITING else SAFE)]
+        unread = f" (not {row[6:]})" if row in READING else ""
+        promise = "none" if set(rows) & set(KEPT) else COMPARED + unread
+        found, _ = tried(what, words, rows, left + WRITING * (row not in WRITING), promise)
+        see(f"{what}: the frames are shown", " was answered " in found[rows[0]][1], found[rows[0]])
+        plug.end()
+    plug = Plug(Wrong(lambda body, ask: ask(body), obeys_all=True).call)
+    tried("damaged frames are obeyed", [*TINY, "-P", plug.device, *SAFE], ["damaged frame"], WRITING, "none")
+    plug.end()
+    same("damaged frames are obeyed: the chip", room.read("wrong.bin"), CHIP)
+
+
+def unseen():
+    """A programmer that doesn't write fuses, and replies OK, isn't seen: each fuse is written with its own byte."""
+    plug = Plug(Wrong(pretends(b"\x17", b"\x17\0\0")).call)
+    tried("fuses aren't written", [*TINY, "-P", plug.device, *ALL], [], [], FIRMWARE)
+    plug.end()
+
+
+def ends_early():
+    """If the device goes away or no reply comes while something is changed, the last line has a command that restores
+    it. After Ctrl-C the page is written back."""
+    for what, row, words in (
+        ("gone", b"\x15", SAFE),
+        ("silent", b"\x15", SAFE),
+        ("gone", b"\x13", ALL),
+        ("Ctrl-C", b"\x15", SAFE),
+    ):
+        pids, done = [], []
+
+        def act(body, ask):
+            reply = None if done and what == "silent" else ask(body)
+            if body[:1] == row and not done:
+                done.append(True)
+                if what == "Ctrl-C":
+                    os.kill(pids[0], serial.signal.SIGINT)
+                elif what == "gone":
+                    plug.vanishes.set()
+            return reply
+
+        plug = Plug(Wrong(act).call)
+        status, _, _, own = serial.run([*TINY, "-P", plug.device, *words], begun=lambda it: pids.append(it.pid))
+        same(f"{what} at {row}: the status", status, 1)
+        plug.end()
+        if what == "Ctrl-C":
+            see("Ctrl-C: nothing is to be restored", "What restores it" not in own[-1], str(own))
+        else:
+            command = serial.shlex.split(own[-1].partition("What restores it: ")[2])
+            see(f"{what} at {row}: a command restores it", command[:1] == ["avrstk-serial"], str(own))
+            again = Plug(Wrong(lambda body, ask: ask(body), chip=room.read("wrong.bin")).call)
+            command[command.index("-P") + 1] = again.device
+            same(f"{what} at {row}: what that command does", serial.run(command[1:])[0], 0)
+            again.end()
+        same(f"{what} at {row}: the chip", room.read("wrong.bin"), CHIP)
+
+
+def refused():
+    """What --try-rows doesn't take is refused before the device is opened."""
+    at = "-P /dev/null -p m328p"
+    cases = {
+        f"{at} --try-rows=all": "--try-rows=all erases and writes the chip, and clears a bit of its lock: at a chip ",
+        f"{at} --try-rows=some": "--try-rows=some: there is --try-rows, and --try-rows=all",
+        f"{at} --yes": "--yes is for --try-rows=all",
+        f"{at} --try-rows -e": "--try-rows tries a programmer, and takes no -e",
+        f"{at} --try-rows -U lfuse:r:-:h": "--try-rows tries a programmer, and takes no -U",
+        f"{at} --try-rows --json report": "--try-rows tries a programmer, and takes no --json",
+        "-P emu:chip.bin -p m328p --try-rows": "--try-rows is for a serial device, not -P emu:chip.bin",
+        "-P /dev/null -p nosuch --try-rows": "the sizes of nosuch are not known here: nothing was sent",
+    }
+    for words, why in cases.items():
+        status, output, _, own = serial.run(words.split())
+        same(words, (status, output, own[0][: len(why)]), (1, b"", why))
+
+
+MEGA = """[parts.m2560]
+signature = "1E9801"
+flash_size = {}
+flash_page = 256
+eeprom_size = 1024
+eeprom_page = 8
+eesave_bit = 3
+"""
+
+
+def mega_2560():
+    """The bootloader of a Mega 2560 fails the rows that docs/BOARDS names; what it refuses is met."""
+    missing = [str(it) for it in (mega.HEX, mega.HEADER) if not it.exists()]
+    if missing or not shutil.which("cc"):
+        return leave_out("a Mega 2560", f"{' and '.join(missing) or 'cc'} is not installed")
+    size = mega.FLASH if os.environ.get("FULL") == "1" else 4_096
+    room.put("mega.toml", MEGA.format(size).encode())
+    content = b"\xff\xff" + random.Random(3).randbytes(8_190)
+    words = ["--parts", "mega.toml", "-p", "m2560", "-c", "wiring"]
+    with mega.Board(content) as board:
+        plug = Plug(board.call)
+        wrong, promise = ["reads EEPROM", "writes flash", "writes lock"], f"{COMPARED} (not EEPROM)"
+        found, _ = tried("a Mega, all", [*words, "-P", plug.device, *ALL], wrong, ["writes EEPROM"], promise)
+        for name, code in ("erases", "12"), ("writes fuses", "17"), ("reads calibration", "1C"):
+            see(f"a Mega, {name}: refused", f"{code} C0" in found[name][1], found[name])
+        plug.end()
+        board.started.stdout.readline()
+        board.holds("a Mega", content)
+
+
+def over_version1(kind, programmer, words):
+    """Tries the rows over a simulated board in its own time. Returns the rows, what else is printed, the status, and
+    whether the flash is as before."""
+    old = random.Random(9).randbytes(boards.FLASH)
+    board = boards.Board(kind, old)
+    translator = avrstk_version1.Version1(board, [0], not board.is_sketch)
+
+    class Direct(avrstk_rows.Programmer):
+        """(Nothing is lost, and no time passes but the board's.)"""
+
+        def send(self, body, is_damaged=False):
+            return translator.reply(body)
+
+        def restart(self):
+            translator.is_in_step = False
+            board.reset() if not board.is_sketch else board.pause(0.5)
+
+    rows, own = [], []
+    avrstk_rows.Programmer, avrstk_rows.show, avrstk_rows.say = Direct, rows.append, own.append
+    os.chdir(room.folder)
+    given = Words([*TINY, "-c", programmer, "-P", "/dev/null", *words], Report())
+    status = avrstk_rows.try_rows(given, lambda: open(os.devnull, "rb"))
+    is_kept = board.flash()[:FLASH] == old[:FLASH]
+    rest = bytes(board.rest()[0][:EEPROM]) + board.rest()[1] if board.is_sketch else b""
+    return "\n".join(rows).encode(), own, status, is_kept, rest
+
+
+def version1():
+    """A bootloader of version 1 meets what reads, and refuses the rest; its pages are erased before they are written.
+    Arduino as ISP meets all rows that can be tried."""
+    missing = boards.missing()
+    if missing:
+        return leave_out("boards of version 1", f"{missing} is not installed")
+    left = ["damaged frame", "writes EEPROM", "erases", "writes fuses", "writes lock"]
+    cases = [(it, "arduino", ALL, ["writes flash"], left) for it in ("optiboot-fast", "ATmegaBOOT")]
+    if boards.SKETCH:
+        cases.append(("ArduinoISP-fast", "arduino_as_isp", ALL, [], ["damaged frame"]))
+    else:
+        leave_out("ArduinoISP", "its sketch is not there")
+    for kind, programmer, words, wrong, left in cases:
+        boards.prepare(kind, 0)
+        output, own, status, is_kept, rest = boards.apart(lambda: over_version1(kind, programmer, words))
+        seen(kind, rows_of(output), own, status, wrong, left, COMPARED + BY_A_GOOD_LINE)
+        see(f"{kind}: the flash is as before", is_kept)
+        if kind.startswith("ArduinoISP"):
+            same(f"{kind}: EEPROM, fuses and lock", rest, b"\xff" * EEPROM + b"\x62\xd9\xff\xff")
+
+
+CASES = named(
+    *(emulated, faults_of_the_line, faults_of_a_chip, wrong, unseen),
+    *(ends_early, refused, mega_2560, version1),
+)
+
+
+if __name__ == "__main__":
+    sys.exit(run_cases(CASES, __doc__))

@@ -1,0 +1,468 @@
+#!/usr/bin/env python3
+"""Tests avrstk-serial with several boards in one command, and the numbers of --each. The boards are doubles:
+avrstk-serve at pseudo terminals, some with faults.
+
+Not proved: No proof covers avrstk-serial and avrstk-serve, which are Python, processes, terminals and signals.
+
+    tests/station.py [CASE ..]        needs a built program (program.py)
+"""
+
+import contextlib
+import json
+import os
+import pty
+import random
+import re
+import shlex
+import shutil
+import signal
+import struct
+import subprocess
+import sys
+import tempfile
+import termios
+import time
+from fcntl import ioctl
+from pathlib import Path
+
+import serial
+from cases import PATIENCE, SOMEBODY, named, put_program, run_cases, same, see, table, wait_until
+from program import CHIP_FILE, EEPROM, PROGRAM, SESSION, TOP, forks, read_whole
+from records import hex_of, image_of
+from serial import PYTHON, SCRIPT, SHARED, elf_with
+
+SERVE = TOP / "avrstk-serve"
+ENVIRONMENT = os.environ | {"AVRSTK": str(PROGRAM)}
+HOW = {"stdin": subprocess.DEVNULL, "stdout": subprocess.PIPE, "stderr": subprocess.PIPE, "env": ENVIRONMENT}
+# where the numbers are written, and what is there
+PLACE, EACH = 0x3F0, ["--each", "eeprom@0x3F0={n:06}"]
+FLASH = ["-p", "m328p", "-U", "flash:w:blink.hex:i"]
+DONE = ["device signature = 1E 95 0F", "chip erased", "flash: 228 bytes written", "flash: 228 bytes verified", "done"]
+room = serial.room
+
+
+class Doubles:
+    """avrstk-serve at a link for each of these names, with its options."""
+
+    def __init__(self, names, faults=None, prefix=()):
+        self.names, faults = list(names), faults or {}
+        self.started = {}
+        for it in self.names:
+            words = ["--pty", it, "-p", "m328p", "--chip", f"{it}.bin", *faults.get(it, [])]
+            self.started[it] = subprocess.Popen([*prefix, SERVE, *words], **HOW, cwd=room.folder)
+
+    def __enter__(self):
+        for it in self.started.values():
+            it.stdout.readline()
+        return self
+
+    def __exit__(self, *_):
+        for it in self.started.values():
+            it.terminate()
+        for it in self.started.values():
+            it.communicate(timeout=PATIENCE)
+
+    def ports(self):
+        return [word for it in self.names for word in ("-P", it)]
+
+
+def run(words, **more):
+    """Returns the status, the output, and the lines of messages."""
+    ran = subprocess.run([SCRIPT, *words], cwd=room.folder, timeout=PATIENCE, **{**HOW, **more})
+    return ran.returncode, ran.stdout.decode(), ran.stderr.decode().splitlines()
+
+
+def report():
+    """Returns the report, which has to fit its schema."""
+    return serial.report_of("report.json")
+
+
+def chip_of(name):
+    return room.read(f"{name}.bin")
+
+
+def written(number=None):
+    """Returns the chip that has the firmware, and a number of six digits."""
+    chip = bytearray(b"\xff" * EEPROM + b"\xff" * (CHIP_FILE - EEPROM))
+    for at, byte in image_of(room.read("blink.hex")).items():
+        chip[at] = byte
+    if number is not None:
+        chip[EEPROM + PLACE : EEPROM + PLACE + 6] = b"%06d" % number
+    return bytes(chip)
+
+
+def lines_of(name, messages):
+    """Returns avrstk's lines of a board."""
+    front = f"{name}: avrstk: "
+    return [it[len(front) :] for it in messages if it.startswith(front)]
+
+
+# doubles with faults: their options, the kind of the failure, and its error
+FAULTY = {
+    "d03": (["--no-chip"], "no chip", "command 10 refused with status C0"),
+    "d11": (["--lose", "SIGN_ON"], "silent", "no answer"),
+    "d17": (["--bootloader"], "refused", "command 12 refused with status C0"),
+}
+
+
+def twenty_doubles():
+    """Twenty doubles in one command, three of them with faults: the others are flashed, each with its own number."""
+    names = [f"d{it:02}" for it in range(20)]
+    good = [it for it in names if it not in FAULTY]
+    with Doubles(names, {it: words for it, (words, *_) in FAULTY.items()}) as doubles:
+        words = [*FLASH, *doubles.ports(), *EACH, "--counter", "counter", "--from", "100", "--json", "report.json"]
+        status, output, told = run(words)
+    held = report()
+    same("the status", (status, output, held["status"]), (1, "", 1))
+    same("a report of each, in their order", [it["device"] for it in held["runs"]], names)
+    numbers = {it["device"]: it["number"] for it in held["runs"]}
+    same("twenty numbers", sorted(numbers.values()), list(range(100, 120)))
+    same("the next one", room.read("counter"), b"120\n")
+    for it in good:
+        same(f"{it}: the lines", lines_of(it, told), [*DONE[:-1], *EEPROM_LINES, "done"])
+        same(f"{it}: the chip", chip_of(it), written(numbers[it]))
+    for it in held["runs"]:
+        _, kind, error = FAULTY.get(it["device"], ([], None, None))
+        same(f"{it['device']}: its report", (it["status"], it["kind"], it["error"]), (int(bool(kind)), kind, error))
+    for it in FAULTY:
+        same(f"{it}: the chip", chip_of(it) or b"\xff" * CHIP_FILE, b"\xff" * CHIP_FILE)
+    rows = [it[15:].split(None, 4) for it in told if it.startswith("avrstk-serial: ")][-22:]
+    same("the table's heads", rows[0], ["board", "number", "time", "result"])
+    same("its devices and numbers", {it[0]: it[1] for it in rows[1:-1]}, {it: str(n) for it, n in numbers.items()})
+    same("its results", [it[4] == "done" for it in rows[1:-1]], [it in good for it in names])
+    for it in rows[1:-1]:
+        _, kind, error = FAULTY.get(it[0], ([], "", ""))
+        see(f"{it[0]}: its row", f"({kind})" in it[4] and error in it[4] or not kind, it)
+    same("its end", " ".join(rows[-1]), "20 boards: 17 done, 3 failed")
+    fronts = {it.split(": ")[0] for it in told}
+    same("each line has its device in front", fronts, {*names, "avrstk-serial"})
+
+
+EEPROM_LINES = ["eeprom: 6 bytes written", "eeprom: 6 bytes verified"]
+
+
+def one_command():
+    """An image from a pipe is read once for all; reads go into a file of each. A board that isn't there stops none."""
+    with Doubles(["one", "two"]) as doubles, open(TOP / "examples/blink.hex", "rb") as given:
+        words = ["-p", "m328p", *doubles.ports(), "-P", "three", "-q", "--json", "-"]
+        updates = ["flash:w:-:i", "flash:r:{board}.hex:i", "lfuse:r:-:h"]
+        reader, writer = os.pipe()
+        os.write(writer, given.read())
+        os.close(writer)
+        status, output, told = run([*words, *(word for it in updates for word in ("-U", it))], stdin=reader)
+        os.close(reader)
+    *rows, held = output.splitlines()
+    same("a board that isn't there", (status, [it["status"] for it in json.loads(held)["runs"]]), (1, [0, 0, 1]))
+    same("its kind", [it["kind"] for it in json.loads(held)["runs"]], [None, None, "device"])
+    why = "three: there is no such device (is the cable in?)"
+    see("its line", f"three: avrstk-serial: {why}" in told, told)
+    same("lists go to the output", sorted(rows), ["one: 0xff", "two: 0xff"])
+    for it in ["one", "two"]:
+        same(f"{it}: the chip", chip_of(it), written())
+        same(f"{it}: its file", image_of(room.read(f"{it}.hex")), image_of(room.read("blink.hex")))
+    status, _, told = run(["-p", "m328p", "-P", "emu:a.bin", "-P", "emu:b.bin", "-e", "-q", "-q"])
+    same("-q twice", (status, told), (0, []))
+    for part in ["-p", "auto"], ["-p", "t85"]:
+        with Doubles(["one", "two"]) as doubles:
+            found = run([*part, *doubles.ports(), *FLASH[2:], "--json", "report.json"])
+        kinds = {it["kind"] for it in report()["runs"]}
+        same(f"{part}", (found[0], kinds), (0, {None}) if part[1] == "auto" else (1, {"other part"}))
+    status, output, _ = run(["-p", "m328p", "-P", "emu:a.bin", "-P", "emu:b.bin", "--backup", "kept-{board}"])
+    restore = [shlex.split(it.partition(": ")[2]) for it in sorted(output.splitlines())]
+    same("backups", (status, [it[-1] for it in restore]), (0, [f"--restore=kept-emu-{it}.bin" for it in "ab"]))
+    for it in "ab":
+        shutil.rmtree(room.folder / f"kept-emu-{it}.bin")
+
+
+def refused():
+    """A refused command opens no device and takes no number; its line comes once."""
+    texts = {"counter": "7\n", "bad": "seven\n", "rows.csv": "serial,mac\nA1,0102\nA2,0304\n"}
+    for name, text in {**texts, "empty.csv": "serial\n", "odd.csv": "serial,mac\nA1\n"}.items():
+        room.put(name, text.encode())
+
+    def ran(words):
+        line, device = serial.terminal()
+        status, output, told = run(["-p", "m328p", *shlex.split(words.replace("DEVICE", device))])
+        opened = serial.is_open(line)
+        os.close(line)
+        own = [it.replace(device, "DEVICE") for it in told if not it.startswith("avrstk: ")]
+        return (status, output, len(own), opened), own
+
+    rows = table("station")
+    for (words, wanted), (found, own) in zip(rows, serial.side_by_side(lambda it: ran(it[0]), rows)):
+        same(f"{words}: its status and lines", found, (1, "", 1, False))
+        see(f"{words}: the line", own and own[0].startswith(f"avrstk-serial: {wanted}"), own)
+    same("no number is taken", room.read("counter"), b"7\n")
+
+
+def all_devices():
+    """-P all takes each serial device of USB that is there, and lists them first, as typed in docs/USAGE."""
+    patch = "import glob, runpy, sys\nsys.argv[:1] = []\nreal = glob.glob\n"
+    patch += "glob.glob = lambda it: [f'{n}.tty' for n in 'ab'] if it == '/dev/ttyACM*' else real(it)\n"
+    patch += "runpy.run_path(sys.argv[0], run_name='__main__')\n"
+    section = (TOP / "docs/USAGE.md").read_text().split("## Many boards")[1].split("\n## ")[0]
+    commands = re.findall(r"^    avrstk-serial (.*)$", section.replace("\\\n", ""), re.M)
+    room.put("macs.csv", b"mac\n0A0B\n0C0D\n")
+    same("docs/USAGE has two commands", len(commands), 2)
+    for typed in commands:
+        words = shlex.split(typed.replace("firmware.hex", "blink.hex"))
+        with Doubles(["a.tty", "b.tty"]):
+            command = [sys.executable, "-c", patch, SCRIPT, *words]
+            ran = subprocess.run(command, cwd=room.folder, **HOW_TO_WAIT)
+        told = ran.stderr.decode().splitlines()
+        same(f"{typed}: the list", (ran.returncode, told[0]), (0, "avrstk-serial: 2 boards: a.tty, b.tty"))
+    chips = [chip_of(it) for it in ("a.tty", "b.tty")]
+    same("the rows", sorted(it[EEPROM : EEPROM + 2] for it in chips), [b"\x0a\x0b", b"\x0c\x0d"])
+    firmware = [it[:EEPROM] + b"\xff\xff" + it[EEPROM + 2 :] for it in chips]
+    same("the numbers, and the firmware", sorted(firmware), [written(1000), written(1001)])
+
+
+HOW_TO_WAIT = {"stdin": subprocess.DEVNULL, "capture_output": True, "env": ENVIRONMENT, "timeout": PATIENCE}
+
+# images, their format, and the bytes that they have
+IMAGES = {
+    "blink.hex": (None, None),
+    "blink.srec": (None, None),
+    "far.hex": (hex_of([(0x7EF8, bytes(range(16)))]), None),
+    "cr.hex": (hex_of([(0, b"abc"), (0x7F00, b"0123456789")]).replace(b"\n", b"\r\n") + b"no record\n", None),
+    "segment.hex": (b":0200000207F005\n:0400000001020304F2\n:00000001FF\n", None),
+    "cut.hex": (hex_of([(0x100, b"uncut")])[: -len(":00000001FF\n") - 1], None),
+    "count.srec": (b"S1060000414243" b"33\nS5030001FB\nS9030000FC\n", None),
+    "raw.bin": (bytes(range(1, 41)), {at: at + 1 for at in range(40)}),
+    "long.bin": (b"\x95" * 0x7F80, dict.fromkeys(range(0x7F80), 0x95)),
+    "small.elf": (elf_with(b"\x0c\x94\x34\x00"), dict(enumerate(b"\x0c\x94\x34\x00"))),
+}
+
+
+def into_images():
+    """A text replaces the bytes of an image at its address, whatever the image's format; other bytes are as before."""
+    for name, (content, held) in IMAGES.items():
+        room.put(name, content or (TOP / f"examples/{name}").read_bytes())
+        image = dict(image_of(room.read(name).split(b"no record")[0]) if held is None else held)
+        for at, text in [(0x7F00, "0x{n:04X}00FF"), (2, "{n:04}")]:
+            each = ["--each", f"flash@{at}={text}", "--counter", "counter", "--from", "1000"]
+            room.put("counter", b"4660\n")
+            status, _, told = run(["-p", "m328p", "-P", "emu:x.bin", "-U", f"flash:w:{name}", *each])
+            wanted = {**image, **dict(enumerate(b"\x12\x34\0\xff" if "x" in text else b"4660", at))}
+            chip = room.read("x.bin")
+            found = {place: chip[place] for place in range(EEPROM)}
+            all_of = {place: wanted.get(place, 0xFF) for place in range(EEPROM)}
+            same(f"{name}, {text}", (status, found == all_of), (0, True))
+            see(f"{name}: a missing end is reported", (name == "cut.hex") == ("no end record" in " ".join(told)), told)
+        room.clear()
+    status, _, told = run(["-p", "m328p", "-P", "emu:x.bin", "-U", "lock:w:0xFC:m", *COUNTED])
+    memories = [re.match(r"avrstk: (\w+): \d+ bytes written", it) for it in told]
+    same("the lock comes last", (status, [it[1] for it in memories if it]), (0, ["eeprom", "lock"]))
+    room.put("rows.csv", '\ufeffserial,mac\r\nA1,0102\r\n"Ü,2",0304\r\n'.encode())
+    rows = ["--rows", "rows.csv", "--each", "eeprom@0={serial}", "--each", "eeprom@16=0x{mac}", "--json", "report.json"]
+    for number, wanted in [(1, b"A1"), (2, "Ü,2".encode())]:
+        status, *_ = run(["-p", "m328p", "-P", f"emu:{number}.bin", *rows, "--counter", "rows", "--from", "1"])
+        chip = room.read(f"{number}.bin")[EEPROM:]
+        same(f"row {number}", (status, chip[: len(wanted)], chip[16]), (0, wanted, 2 * number - 1))
+        same(
+            f"row {number}: the report",
+            (report()["number"], report()["each"][1]["hex"]),
+            (number, f"0{2 * number - 1}0{2 * number}"),
+        )
+    status, _, told = run(["-p", "m328p", "-P", "emu:3.bin", *rows, "--counter", "rows"])
+    same("no third row", (status, told), (1, ["avrstk-serial: --rows rows.csv: all its 2 rows are given"]))
+
+
+COUNTED = [*EACH, "--counter", "counter", "--from", "0"]
+
+
+def retried():
+    """A retry takes a number of its own, since another board may be there by then."""
+    lost = iter([b""] * 4)
+    first = {"answer": lambda reply: next(lost, reply) if reply[5] == 0x15 else reply}
+    it = serial.Boards(first, {})
+    status, _, told = run(["-p", "m328p", "-P", str(it.device), "--retry", "1", *COUNTED])
+    chip = it.end()
+    numbers = [it[15:] for it in told if "number" in it]
+    same("its numbers", numbers, [f"number {n}: eeprom@0x3F0=00000{n}" for n in (0, 1)])
+    same("the chip has the last one", (status, chip[EEPROM + PLACE :][:6]), (0, b"000001"))
+
+
+# in place of avrstk: it appends its EEPROM image to a file
+STAND_IN = """#!/bin/sh
+while [ "$1" != -U ]; do shift; done
+image=${2#eeprom:w:}
+cat "${image%:i}" >>"$NOTED"
+"""
+
+
+def numbers_given_once():
+    """A thousand numbers of stations that are killed at random moments, two at a time, by two users if this is root:
+    none is given twice. (A hundred, where samples are tried.)"""
+    count, draw = 100 if "SAMPLE" in os.environ else 1000, random.Random(os.environ.get("SEED", str(time.time())))
+    with tempfile.TemporaryDirectory(dir="/tmp") as name:
+        folder = Path(name)
+        folder.chmod(0o777)
+        shutil.copytree(SHARED, folder / "lib")
+        shutil.copy(SCRIPT, folder)
+        (folder / "avrstk_session").symlink_to(SESSION)
+        put_program(folder / "stand-in", STAND_IN)
+        ports = [word for it in range(30) for word in ("-P", f"emu:{it}")]
+        words = ["-q", "-q", "-p", "m328p", *ports, "--each", "eeprom@0={n:06}", "--counter", "number", "--from", "5"]
+        noted = folder / "noted"
+        noted.touch()
+        noted.chmod(0o666)
+        environment = os.environ | {"AVRSTK": str(folder / "stand-in"), "NOTED": str(noted)}
+        how = {**HOW, "stdout": subprocess.DEVNULL, "stderr": subprocess.DEVNULL, "cwd": folder, "env": environment}
+
+        def starts(front):
+            command = [*front, PYTHON, str(folder / "avrstk-serial"), *words]
+            return subprocess.Popen(command, start_new_session=True, umask=0, **how)
+
+        def rows():
+            return noted.read_bytes().count(b"\n:00000001FF\n")
+
+        def given():
+            return int((folder / "number").read_text()) - 5 if (folder / "number").exists() else 0
+
+        stations = 0
+        while given() < count:
+            begun, some = rows(), draw.randrange(60)
+            pair = [starts([]), starts(SOMEBODY)]
+            stations += 2
+            while rows() < begun + some and any(it.poll() is None for it in pair):
+                time.sleep(0.001)
+            for it in pair:
+                end_somehow(it, draw)
+                it.wait(PATIENCE)
+        # (a station's boards may go on after it was killed)
+        wait_until(lambda: not running_in(folder), 0.05)
+        found = [image_of(it.encode() + b":00000001FF\n") for it in noted.read_text().split(":00000001FF\n")[:-1]]
+        numbers = [int(bytes(it[at] for at in range(6))) for it in found]
+        last = int((folder / "number").read_text())
+    see(f"most are used, by {stations} stations", len(numbers) > count / 4, len(numbers))
+    same("none is given twice", len(set(numbers)), len(numbers))
+    see("all are of the counter", set(numbers) <= set(range(5, last)), (min(numbers), max(numbers), last))
+
+
+def end_somehow(station, draw):
+    """Kills a station, one of its boards or all of them, or sends it a signal, or lets it end."""
+    way, boards = draw.randrange(5), []
+    with contextlib.suppress(OSError):
+        boards = Path(f"/proc/{station.pid}/task/{station.pid}/children").read_text().split()
+    with contextlib.suppress(ProcessLookupError):
+        if way == 0:
+            os.killpg(station.pid, signal.SIGKILL)
+        elif way == 1:
+            station.kill()
+        elif way == 2 and boards:
+            os.kill(int(draw.choice(boards)), signal.SIGKILL)
+        elif way == 3:
+            station.terminate()
+
+
+def running_in(folder):
+    """Returns the processes that run the script of this folder."""
+    found = []
+    for it in Path("/proc").glob("[0-9]*/cmdline"):
+        with contextlib.suppress(OSError):
+            found += [it] if f"{folder}/avrstk-serial".encode() in it.read_bytes() else []
+    return found
+
+
+def signals():
+    """SIGINT and SIGTERM end all boards, each with the state of its chip. If one board's process is killed, the others
+    go on."""
+    names = ["one", "two", "three"]
+    slow = {it: ["--late", "PROGRAM_FLASH:0.5"] for it in names}
+    for number in (signal.SIGTERM, signal.SIGINT):
+        with Doubles(names, slow) as doubles:
+            it = busy([*FLASH, *doubles.ports(), "--json", "report.json"], 3)
+            it.send_signal(number)
+            told = it.communicate(timeout=PATIENCE)[1].decode().splitlines()
+        same(f"{number.name}: the status", it.returncode, 1)
+        for name in names:
+            state = f"ended by {number.name}: the chip is erased or partly written, and may be held in reset"
+            see(f"{number.name}: {name}", any(row.startswith(f"{name}: avrstk-serial: {state}") for row in told), told)
+        same(f"{number.name}: the report", {it["kind"] for it in report()["runs"]}, {"interrupted"})
+    with Doubles(names, slow) as doubles:
+        it = busy([*FLASH, *doubles.ports(), "--json", "report.json"], 3)
+        boards = Path(f"/proc/{it.pid}/task/{it.pid}/children").read_text().split()
+        os.kill(int(boards[1]), signal.SIGKILL)
+        it.communicate(timeout=PATIENCE)
+    held = [(it["status"], it["kind"], it["chip"]) for it in report()["runs"]]
+    killed = (1, "interrupted", "erased or partly written")
+    same("a board's process is killed", (it.returncode, held), (1, [(0, None, "done"), killed, (0, None, "done")]))
+
+
+def busy(words, count):
+    """Starts the script, and returns it once so many boards have erased their chips."""
+    file = (room.folder / "messages").open("w+b")
+    it = subprocess.Popen([SCRIPT, *words, "-l", "log"], cwd=room.folder, **HOW)
+    file.close()
+    wait_until(lambda: (room.read("log") or b"").count(b"chip erased") == count or it.poll() is not None)
+    return it
+
+
+def progress():
+    """On a terminal each board has a line, which is redrawn below the messages; the messages and the table stay."""
+    with Doubles(["one", "two"], {it: ["--late", "READ_FLASH:0.02"] for it in ["one", "two"]}) as doubles:
+        with forks:
+            mine, theirs = pty.openpty()
+        ioctl(theirs, termios.TIOCSWINSZ, struct.pack("4H", 24, 100, 0, 0))
+        with forks:
+            it = subprocess.Popen([SCRIPT, *FLASH, *doubles.ports()], cwd=room.folder, **{**HOW, "stderr": theirs})
+        os.close(theirs)
+        got = read_whole(mine).decode()
+        status = it.wait(PATIENCE)
+    stays, drawn = screen(got)
+    same("the messages of a board that stay", (status, lines_of("one", stays)), (0, DONE))
+    see("the table is last", stays[-1] == "avrstk-serial: 2 boards: 2 done, 0 failed", stays)
+    see("two lines are drawn", all(len(it) == 2 for it in drawn), drawn)
+    see("each with its board", all([row[:4] for row in it] == ["one ", "two "] for it in drawn), drawn)
+    shown = [row for it in drawn for row in it]
+    see("with its progress", any(re.match(r"one reading flash: [\d,]+ bytes, \d+ %", it) for it in shown), shown)
+
+
+def screen(text):
+    """Returns the lines that stay on a terminal, and those of each drawing that was removed."""
+    stays, drawn = [], []
+    for piece in re.split(r"(\x1b\[\d+A\r\x1b\[J)", text.replace("\r\n", "\n")):
+        found = re.match(r"\x1b\[(\d+)A", piece)
+        if found:
+            drawn.append(stays[-int(found[1]) :])
+            del stays[-int(found[1]) :]
+        else:
+            stays += piece.splitlines()
+    return stays, drawn
+
+
+def ordinary_user():
+    """A user who isn't root has a counter in his folder. Where he may not write, no number is taken."""
+    with tempfile.TemporaryDirectory(dir="/tmp") as name:
+        folder = Path(name)
+        for it in (folder, folder / "his", folder / "other"):
+            it.mkdir(exist_ok=True)
+            it.chmod(0o755)
+        if SOMEBODY:
+            os.chown(folder / "his", 65534, 65534)
+        else:
+            (folder / "other").chmod(0o555)
+        shutil.copytree(SHARED, folder / "lib")
+        shutil.copy(SCRIPT, folder)
+        for file, wanted in [("number", 0), ("../other/number", 1)]:
+            words = ["-p", "m328p", "-P", "emu:a.bin", "-P", "emu:b.bin", *EACH, "--counter", file, "--from", "3"]
+            command = [*SOMEBODY, PYTHON, str(folder / "avrstk-serial"), *words, "-q", "-q"]
+            ran = subprocess.run(command, cwd=folder / "his", **HOW_TO_WAIT)
+            same(f"{file}: the status", ran.returncode, wanted)
+            if wanted:
+                see(
+                    f"{file}: the error",
+                    b"number.lock: Permission denied: no number was taken" in ran.stderr,
+                    ran.stderr,
+                )
+        same("its number", (folder / "his/number").read_text(), "5\n")
+
+
+CASES = named(
+    *(twenty_doubles, refused, into_images, numbers_given_once, one_command, all_devices),
+    *(retried, signals, progress, ordinary_user),
+)
+
+if __name__ == "__main__":
+    sys.exit(run_cases({name: lambda it=it: (room.clear(), it()) for name, it in CASES.items()}, __doc__))
