@@ -205,7 +205,8 @@ def packages_hold_what_is_installed():
     """The Debian packages contain what install.sh installs without its manifest, and documents of their own."""
     with tempfile.TemporaryDirectory() as folder:
         prefix = Path(folder, "installed")
-        environment = os.environ | {"AVRSTK": str(PROGRAM)}
+        # (without the site, as in the clones)
+        environment = os.environ | {"AVRSTK": str(PROGRAM), "PATH": f"{made()[1].folder}/bin:{os.environ['PATH']}"}
         subprocess.run([TOP / "install.sh", prefix], env=environment, check=True, stdout=subprocess.DEVNULL)
         (prefix / "share/avrstk/manifest").unlink()
         placed = [it.replace("zsh/site-functions", "zsh/vendor-completions") for it in files(prefix)]

@@ -24,7 +24,7 @@ import tempfile
 import time
 from pathlib import Path
 
-from cases import PATIENCE, VERSION, leave_out, named, run_cases, same, see, table, wait_until
+from cases import PATIENCE, VERSION, leave_out, named, put_program, run_cases, same, see, table, wait_until
 from program import REPLIES, CHIP_FILE, EEPROM, ENDS, FRAMES, LFUSE, NAMED, PROGRAM, SESSION, TOP, Room
 from program import frame, has_avrdude, kept_port, lines, port_of, read_whole
 from records import image_of
@@ -326,8 +326,11 @@ def refused():
 
 def installed():
     """An installed server finds the program, the part file and the stamp of the build, as one in a clone does."""
-    with tempfile.TemporaryDirectory() as folder:
-        subprocess.run([TOP / "install.sh", folder], env=environment(), stdout=subprocess.DEVNULL, check=True)
+    with tempfile.TemporaryDirectory() as folder, tempfile.TemporaryDirectory() as tools:
+        # (without the site, which takes time)
+        put_program(Path(tools, "sphinx-build"), "#!/bin/sh\nexit 1\n")
+        own = environment() | {"PATH": f"{tools}:{os.environ['PATH']}"}
+        subprocess.run([TOP / "install.sh", folder], env=own, stdout=subprocess.DEVNULL, check=True)
         script = Path(folder, "bin/avrstk-serve")
         served = ran(["0", "-p", "atmega32u4", "--chip", "chip.bin", "--", "true"], script, AVRSTK="")
         same("it serves", served, (0, "", ""))
