@@ -1,5 +1,7 @@
 //! Each fault is formatted as its message line. The fault of a port isn't: its line also names the port.
-use avr_plan::{Settings, SettingsFault, Text, UpdateFault, plan, read_settings, read_words};
+use avr_plan::{
+    Settings, SettingsFault, Text, UpdateFault, parse_update, plan, read_settings, read_words,
+};
 use avr_desk::MemDesk;
 use avr_part::Mem;
 use avr_session::{Outcome, drive_outcome, refuse};
@@ -150,5 +152,25 @@ fn another_signature_shows_as_its_line(rt: HostRuntime) -> Result<(), Fail> {
     assert!(rt; outcome == Some(Outcome::Faulty(fault)));
     let line = format!(in alloc; "avrstk: error: {fault}, m328p has 1E 95 0F\n")?;
     assert!(rt; desk.messages().ends_with(line.as_bytes()));
+    Ok(())
+}
+
+/// A library's plan may have any number of tasks; a command line has 16 at most. Their number takes no stack.
+/// (only in ./test --all)
+#[test]
+fn many_tasks_take_no_stack(rt: HostRuntime) -> Result<(), Fail> {
+    let alloc = rt.alloc();
+    let mut settings = Settings::for_link(alloc, "m328p")?;
+    settings.switches.dry = true;
+    settings.switches.quiet = 2;
+    for _ in 0..40_000u64 {
+        settings.updates.push(parse_update(alloc, "lfuse:w:0xE2:m")?)?;
+    }
+    let mut desk = MemDesk::empty(alloc);
+    let Ok(plan) = plan(alloc, &settings, &mut desk) else {
+        panic!(rt; "the part is built in");
+    };
+    let mut link = TapeLink::new(alloc, replies_then(alloc, 63, &[])?, 281);
+    assert!(rt; drive_outcome(alloc, &plan, &mut desk, &mut link) == Outcome::Done);
     Ok(())
 }
