@@ -109,8 +109,8 @@ IsLoaded m None p = Unit {0}
 IsLoaded m (Some address) p = m.reply (load_body address) p ≡ 0x06 ∷ 0 ∷ []
 
 -- The row's command isn't done here, and its reply isn't the good one.
-pub record IsRefused {P : Type 0} (m : Device P) (view : P → Memories) (IsReady : P → Type 0) (row : Row) (p : P) : Type
-    0 where
+pub record RefusesRow {P : Type 0} (m : Device P) (view : P → Memories) (IsReady : P → Type 0) (row : Row)
+    (p : P) : Type 0 where
   pub kept : Stands view IsReady (view p) (m.after row.command p)
   pub bad : (read : List ℕ) → length read ≡ row.count → m.reply row.command p ≡ row.reply read → ⊥
 
@@ -126,7 +126,7 @@ pub record IsDoneOrNot {P : Type 0} (m : Device P) (view : P → Memories) (IsRe
       → m.reply row.command (addressed m row.address p) ≡ row.reply read → (read ≡ row.reads (view p))
       × Stands view IsReady (effects part row.writes (view p)) (m.after row.command (addressed m row.address p))
   pub restarted : (address : ℕ) → row.address ≡ Some address
-      → (m.reset p ≡ p) ⊎ IsRefused m view IsReady row (m.reset p)
+      → (m.reset p ≡ p) ⊎ RefusesRow m view IsReady row (m.reset p)
 
 -- The bodies of SIGN_ON, ENTER_PROGMODE_ISP and LEAVE_PROGMODE_ISP.
 abbrev pub sign_on_body : List ℕ

@@ -27,7 +27,8 @@ pub emulated_steps : (part : Part) → IsPart part → (commands : List Command)
     → IsRepeatable device commands (Settled part m) (Settled part (memories_after_step part commands m))
 emulated_steps part sound commands m is f w = step_fits part sound commands m is
 
-pub emulated_gives : (part : Part) → IsPart part → (commands : List Command) (m : Memories) (p : Programmer) (bytes : List ℕ)
+pub emulated_gives : (part : Part) → IsPart part
+    → (commands : List Command) (m : Memories) (p : Programmer) (bytes : List ℕ)
     → IsStep part commands → FitsPart part m → Unit {0}
     → (Settled part m p ⊎ Settled part (memories_after_step part commands m) p)
     → joined_reply device commands [] p ≡ Data bytes → bytes ≡ data_of_step part commands m

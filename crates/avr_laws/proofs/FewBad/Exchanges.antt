@@ -189,7 +189,8 @@ module _ (go_on : List ℕ → Dialog ⊥ Reply) (go : List ℕ → Reply) (size
   by_exchange one_exchange command p is calm each has = search (rules, replied)
 
 -- an attempt whose commands would all have data: the data come, or a frame went wrong
-attempt_tried : (commands : List Command) (before : List ℕ) (z : Spot Programmer) (got : List ℕ) → AtMostThreeBadOfSeven z.1
+attempt_tried : (commands : List Command) (before : List ℕ) (z : Spot Programmer) (got : List ℕ)
+    → AtMostThreeBadOfSeven z.1
     → joined_reply steady commands before z.0 ≡ Data got → Tries (length commands) z.1 got (attempt commands before) z
 unfolding attempt exchange
 attempt_tried [] before z got few has = done (inl has, few)
@@ -230,7 +231,8 @@ module _ (Before After : Programmer → Type 0) (commands : List Command) (got :
       again more s.place exchanges y s.near s.went_wrong s.behind_it clear stood few
   after_try more exchanges clear (Stop fault) y f' = search rules
 
-  step_steady : (z : Spot Programmer) → Before z.0 → AtMostThreeBadOfSeven z.1 → Runs steady (λ y. ⊤) Whole (step commands) z
+  step_steady : (z : Spot Programmer) → Before z.0 → AtMostThreeBadOfSeven z.1
+      → Runs steady (λ y. ⊤) Whole (step commands) z
   step_steady z before few =
       attempts (this_link steady) (λ bytes y. ⊤) commands Begins Whole
       (λ more y begins. wider (λ bytes y x. tt) (λ e y x. x) (after_try more y.1 begins.1.1)

@@ -178,7 +178,8 @@ module _ (s : Settings) (plan : Plan) (x y : Devices) (r : IsRun s x y 0)
         none_of d more are =
             none_forged real.device d 1 tape p executions [] more
             (subst (λ (fs : List (List ℕ)). NoneForged real.device fs tape p executions []) are
-            (subst (λ (t : Transcript). NoneForged real.device (frames (sent passed)) (heard t) p executions []) these none))
+            (subst (λ (t : Transcript). NoneForged real.device (frames (sent passed)) (heard t) p executions []) these
+            none))
 
         sent_first : IsFirstPart (played handshake 1 tape) (run (from_handshake plan handshake))
         sent_first = first_frames plan handshake 1 tape (sends_valid its_plan handshake
@@ -195,7 +196,8 @@ module _ (s : Settings) (plan : Plan) (x y : Devices) (r : IsRun s x y 0)
         pub kept_on_part : KeepsOnPart part plan before (real.memories (after_received_bytes real.device got later p))
             x.desk.kept y.desk.kept
         kept_on_part = record {
-          keeps = promise_for s x y r plan made_is silent its_plan (are_alike first_forged) its_tasks real sound p sizes idle signs works
+          keeps = promise_for s x y r plan made_is silent its_plan (are_alike first_forged) its_tasks real sound p sizes
+              idle signs works
               got later executions
               (subst (λ (t : Transcript). ReceivedSentFrames got later (frames (sent t)) executions) these came)
               (none_of (session its_plan) [] (frames_alike its_plan (are_alike first_forged) its_bodies

@@ -171,7 +171,8 @@ module _ (plan : Plan) where
         succeeds_by 0 seq left (part.signature ≡ plan.part.signature)
         (λ reading. played (from_handshake (go_on reading)) (next n)) (answer n tape)
         (λ reading rest e so.
-        let read = subst (on_reading (λ reading rest. IsAuthentic real.device body p (first_execution executions) reading
+        let read = subst (on_reading
+        (λ reading rest. IsAuthentic real.device body p (first_execution executions) reading
         × RepliesAreAuthentic real.device (go_on reading) (next n) rest
         (after_execution (first_execution executions) (real.device.after body p) p real.device.reset)
         (later_executions executions))) e authentic in

@@ -168,7 +168,8 @@ module _ (s : Settings) (x y : Devices) (r : IsRun s x y 0) where
         expected_there : IsExpectedRun other m0
             (real.memories (state_after real.device count (session other) p exchanges).programmer)
             (outputs_after real.device count (session other) p exchanges) 0
-        expected_there = session_succeeds other sound real m0 sizes fitted signs works p exchanges idle count 0 ended.0 refl
+        expected_there = session_succeeds other sound real m0 sizes fitted signs works p exchanges idle count 0 ended.0
+            refl
 
         pub promise_for : Keeps other m0 (real.memories q) x.desk.kept y.desk.kept
         promise_for = record {

@@ -194,7 +194,8 @@ module _ (plan : Plan) (sound : IsPart plan.part) (m0 : Memories) (f0 : FitsPart
       (actions_true (work plan) (OpenSession ∷ []) (work_fits plan fitted) refl) z opened
 
   pub session_goes : All (IsFitted plan.part) plan.tasks → (p : Programmer) (exchanges : List Exchange)
-      → HasMemories plan.part m0 p → Prints device T (AtMoment plan real m0) (AtEnd plan real m0 ⊤) (session plan) (p, exchanges)
+      → HasMemories plan.part m0 p
+      → Prints device T (AtMoment plan real m0) (AtEnd plan real m0 ⊤) (session plan) (p, exchanges)
   session_goes fitted p exchanges idle =
       session_prints_true fitted (λ m z. Settled plan.part m z.0) ⊤ (anyhow plan.part sound real plan.switches) (
         p,

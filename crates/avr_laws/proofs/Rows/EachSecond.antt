@@ -6,7 +6,7 @@ use Rattle.avr_part.specs.Part.{Part}
 use Rattle.stk_emu.specs.Device.{Device}
 use Rattle.stk_emu.specs.Effect.{Memories, effects}
 use Rattle.stk_emu.specs.Settled.{FitsPart}
-use Rattle.avr_laws.specs.Table.{IsDoneOrNot, IsLoaded, IsProgrammer, IsRefused, IsRow, Row, Stands, addressed, enter_body, load_body, ErasesChip, WritesFlashPage, WritesEepromRun, WritesFuse, WritesLock, ReadsFlash, ReadsEeprom, ReadsFuse, ReadsLock, ReadsSignature, ReadsCalibration}
+use Rattle.avr_laws.specs.Table.{IsDoneOrNot, IsLoaded, IsProgrammer, RefusesRow, IsRow, Row, Stands, addressed, enter_body, load_body, ErasesChip, WritesFlashPage, WritesEepromRun, WritesFuse, WritesLock, ReadsFlash, ReadsEeprom, ReadsFuse, ReadsLock, ReadsSignature, ReadsCalibration}
 
 -- the second byte of a good reply is 0
 good_status : (part : Part) (row : Row) → IsRow part row → (read : List ℕ) → slice_index (row.reply read) 1 ≡ 0
@@ -65,7 +65,7 @@ module _ {P : Type 0} (m : Device P) (view : P → Memories) (IsIn IsReady : P �
     good : IsLoaded d address p → (read : List ℕ) → length read ≡ row.count
         → d.reply row.command (addressed d address p) ≡ row.reply read → (read ≡ row.reads (see p))
         × Stands see Is (effects part row.writes (see p)) (d.after row.command (addressed d address p))
-    restarted : (a : ℕ) → address ≡ Some a → (d.reset p ≡ p) ⊎ IsRefused d see Is row (d.reset p)
+    restarted : (a : ℕ) → address ≡ Some a → (d.reset p ≡ p) ⊎ RefusesRow d see Is row (d.reset p)
 
   module _ (part : Part) (row : Row) (is : IsRow part row) (p : P) where
     never : (read : List ℕ) → refusing row.command ≡ row.reply read → ⊥
@@ -74,20 +74,20 @@ module _ {P : Type 0} (m : Device P) (view : P → Memories) (IsIn IsReady : P �
         let good = good_status part row is read in omega (arith, status, good)
 
     -- refused by the flag, and by the programmer itself
-    refused_now : (q : P) → IsReady q → IsRefused each_second view_of Ready row (q, true)
+    refused_now : (q : P) → IsReady q → RefusesRow each_second view_of Ready row (q, true)
     refused_now q ready = record {
       kept = record { memories = refl; is = ready };
       bad = λ read long e. never read e;
     }
 
-    refused_then : (q : P) → IsRefused m view IsReady row q → IsRefused each_second view_of Ready row (q, false)
+    refused_then : (q : P) → RefusesRow m view IsReady row q → RefusesRow each_second view_of Ready row (q, false)
     refused_then q refused = record {
       kept = record { memories = refused.kept.memories; is = refused.kept.is };
       bad = refused.bad;
     }
 
-    by_restart : (flag : Bool) → IsReady (m.reset p) → (m.reset p ≡ p) ⊎ IsRefused m view IsReady row (m.reset p)
-        → (each_second.reset (p, flag) ≡ (p, flag)) ⊎ IsRefused each_second view_of Ready row (m.reset p, flag)
+    by_restart : (flag : Bool) → IsReady (m.reset p) → (m.reset p ≡ p) ⊎ RefusesRow m view IsReady row (m.reset p)
+        → (each_second.reset (p, flag) ≡ (p, flag)) ⊎ RefusesRow each_second view_of Ready row (m.reset p, flag)
     by_restart true ready r = inr (refused_now (m.reset p) ready)
     by_restart false ready (inl same) = inl (ap (λ (q : P). (q, false)) same)
     by_restart false ready (inr refused) = inr (refused_then (m.reset p) refused)
@@ -149,7 +149,8 @@ module _ {P : Type 0} (m : Device P) (view : P → Memories) (IsIn IsReady : P �
 
     entered : (p : P) (flag : Bool) → IsIn p → reply_of enter_body p flag ≡ 0x10 ∷ 0 ∷ []
         → Ready (after_of enter_body p flag)
-    entered p true i e = absurd (let no : 0xC0 ≡ 0 = ap (λ (bytes : List ℕ). slice_index bytes 1) e in omega (arith, no))
+    entered p true i e = absurd
+        (let no : 0xC0 ≡ 0 = ap (λ (bytes : List ℕ). slice_index bytes 1) e in omega (arith, no))
     entered p false i e = t.entered p i e
 
     entered_again : (p : P) (flag : Bool) → IsReady p → Ready (after_of enter_body p flag)

@@ -13,7 +13,7 @@ use Rattle.stk_emu.specs.Settled.{FitsPart}
 use Rattle.stk_frame.specs.declared.command.Fuse.TheVariants.{Low, High, Extended}
 use Rattle.avr_laws.specs.EmulatedStates.{HasEmptyBuffers, HasPart, chip_memories}
 use Rattle.avr_laws.specs.Sheet.{IsVouched}
-use Rattle.avr_laws.specs.Table.{IsDoneOrNot, IsLoaded, IsProgrammer, IsRefused, IsRow, Row, Stands, addressed, enter_body, leave_body, load_body, sign_on_body, ErasesChip, WritesFlashPage, WritesEepromRun, WritesFuse, WritesLock, ReadsFlash, ReadsEeprom, ReadsFuse, ReadsLock, ReadsSignature, ReadsCalibration}
+use Rattle.avr_laws.specs.Table.{IsDoneOrNot, IsLoaded, IsProgrammer, RefusesRow, IsRow, Row, Stands, addressed, enter_body, leave_body, load_body, sign_on_body, ErasesChip, WritesFlashPage, WritesEepromRun, WritesFuse, WritesLock, ReadsFlash, ReadsEeprom, ReadsFuse, ReadsLock, ReadsSignature, ReadsCalibration}
 use Rattle.avr_laws.proofs.Table.Emulated.{emulated_meets, row_is_done}
 
 -- ---- one that does as the emulated one, as far as it is vouched for
@@ -34,25 +34,26 @@ module _ (m : Device Programmer) (loads : (a : ℕ) → SameReply m (load_body a
   same_loaded None p loaded = tt
   same_loaded (Some a) p loaded = sym ((loads a).0 p) ∙ loaded
 
-  module _ (part : Part) (row : Row) (p : Programmer) (reply : SameReply m row.command) (after : SameAfter m row.command)
+  module _ (part : Part) (row : Row) (p : Programmer) (reply : SameReply m row.command)
+      (after : SameAfter m row.command)
     where
       same_end : m.after row.command (addressed m row.address p)
           ≡ device.after row.command (addressed device row.address p)
       same_end = ap (λ q. m.after row.command q) (same_place row.address p) ∙ after (addressed device row.address p)
 
-      same_refused : (q : Programmer) → IsRefused device chip_memories (HasEmptyBuffers part) row q
-          → IsRefused m chip_memories (HasEmptyBuffers part) row q
+      same_refused : (q : Programmer) → RefusesRow device chip_memories (HasEmptyBuffers part) row q
+          → RefusesRow m chip_memories (HasEmptyBuffers part) row q
       same_refused q refused = record {
         kept = subst (Stands chip_memories (HasEmptyBuffers part) (chip_memories q)) (sym (after q)) refused.kept;
         bad = λ read long e. refused.bad read long (sym (reply q) ∙ e);
       }
 
       same_restarted : (device.reset p ≡ p)
-          ⊎ IsRefused device chip_memories (HasEmptyBuffers part) row (device.reset p)
-          → (m.reset p ≡ p) ⊎ IsRefused m chip_memories (HasEmptyBuffers part) row (m.reset p)
+          ⊎ RefusesRow device chip_memories (HasEmptyBuffers part) row (device.reset p)
+          → (m.reset p ≡ p) ⊎ RefusesRow m chip_memories (HasEmptyBuffers part) row (m.reset p)
       same_restarted (inl same) = inl (resets p ∙ same)
       same_restarted (inr refused) =
-          inr (same_refused (m.reset p) (subst (IsRefused device chip_memories (HasEmptyBuffers part) row)
+          inr (same_refused (m.reset p) (subst (RefusesRow device chip_memories (HasEmptyBuffers part) row)
           (sym (resets p)) refused))
 
       same_done : IsDoneOrNot device chip_memories (HasEmptyBuffers part) part row p
@@ -82,10 +83,12 @@ module _ (m : Device Programmer) (loads : (a : ℕ) → SameReply m (load_body a
   does_as_emulated part sound Vouched signs enter_reply enters leaves rows =
       let t = emulated_meets part sound Vouched in
       record {
-        signs_on = λ p i. subst (Stands chip_memories (HasPart part) (chip_memories p)) (sym (signs p)) (t.signs_on p i);
+        signs_on = λ p i. subst (Stands chip_memories (HasPart part) (chip_memories p)) (sym (signs p))
+            (t.signs_on p i);
         enters = λ p i. subst (Stands chip_memories (HasPart part) (chip_memories p)) (sym (enters p)) (t.enters p i);
         leaves = λ p i. subst (Stands chip_memories (HasPart part) (chip_memories p)) (sym (leaves p)) (t.leaves p i);
-        restarts = λ p i. subst (Stands chip_memories (HasPart part) (chip_memories p)) (sym (resets p)) (t.restarts p i);
+        restarts = λ p i. subst (Stands chip_memories (HasPart part) (chip_memories p)) (sym (resets p))
+            (t.restarts p i);
         entered = λ p i e. subst (HasEmptyBuffers part) (sym (enters p)) (t.entered p i (sym (enter_reply p) ∙ e));
         ready_in = t.ready_in;
         entered_again = λ p s. subst (HasEmptyBuffers part) (sym (enters p)) (t.entered_again p s);
@@ -139,14 +142,16 @@ module _ (part : Part) (sound : IsPart part) where
     calibrated_does : (row : Row) (is : IsRow part row) (x : Memories) → IsVouched becomes part row is x
         → Same (calibrated byte) row
     calibrated_does row (ErasesChip e) x v = by_row (calibrated byte) row _ e (λ q. refl, λ q. refl)
-    calibrated_does row (WritesFlashPage page bytes whole inside e) x v = by_row (calibrated byte) row _ e (λ q. refl, λ q. refl)
+    calibrated_does row (WritesFlashPage page bytes whole inside e) x v = by_row (calibrated byte) row _ e
+        (λ q. refl, λ q. refl)
     calibrated_does row (WritesEepromRun start bytes some within inside e) x v =
         by_row (calibrated byte) row _ e (λ q. refl, λ q. refl)
     calibrated_does row (WritesFuse fuse b e) x v = by_row (calibrated byte) row _ e (λ q. refl, λ q. refl)
     calibrated_does row (WritesLock b e) x v = by_row (calibrated byte) row _ e (λ q. refl, λ q. refl)
     calibrated_does row (ReadsFlash start count some few inside even evens e) x v =
         by_row (calibrated byte) row _ e (λ q. refl, λ q. refl)
-    calibrated_does row (ReadsEeprom start count some few inside e) x v = by_row (calibrated byte) row _ e (λ q. refl, λ q. refl)
+    calibrated_does row (ReadsEeprom start count some few inside e) x v = by_row (calibrated byte) row _ e
+        (λ q. refl, λ q. refl)
     calibrated_does row (ReadsFuse fuse e) x v = by_row (calibrated byte) row _ e (λ q. refl, λ q. refl)
     calibrated_does row (ReadsLock e) x v = by_row (calibrated byte) row _ e (λ q. refl, λ q. refl)
     calibrated_does row (ReadsSignature place few e) x v = by_row (calibrated byte) row _ e (λ q. refl, λ q. refl)
@@ -162,7 +167,8 @@ module _ (part : Part) (sound : IsPart part) where
       → Same keeping_bits row
   bits_do row (ErasesChip e) x v = by_row keeping_bits row _ e (λ q. refl, λ q. refl)
   bits_do row (WritesFlashPage page bytes whole inside e) x v = by_row keeping_bits row _ e (λ q. refl, λ q. refl)
-  bits_do row (WritesEepromRun start bytes some within inside e) x v = by_row keeping_bits row _ e (λ q. refl, λ q. refl)
+  bits_do row (WritesEepromRun start bytes some within inside e) x v = by_row keeping_bits row _ e
+      (λ q. refl, λ q. refl)
   bits_do row (WritesFuse Low b e) x v = by_row keeping_bits row _ e (λ q. refl, λ q. refl)
   bits_do row (WritesFuse High b e) x v = by_row keeping_bits row _ e (λ q. refl, λ q. refl)
   bits_do row (WritesFuse Extended b e) x v =
@@ -171,7 +177,8 @@ module _ (part : Part) (sound : IsPart part) where
         λ q. ap (λ (byte : ℕ). device.after (0x17 ∷ 0xAC ∷ 0xA4 ∷ 0 ∷ byte ∷ []) q) v,
       )
   bits_do row (WritesLock b e) x v = by_row keeping_bits row _ e (λ q. refl, λ q. refl)
-  bits_do row (ReadsFlash start count some few inside even evens e) x v = by_row keeping_bits row _ e (λ q. refl, λ q. refl)
+  bits_do row (ReadsFlash start count some few inside even evens e) x v = by_row keeping_bits row _ e
+      (λ q. refl, λ q. refl)
   bits_do row (ReadsEeprom start count some few inside e) x v = by_row keeping_bits row _ e (λ q. refl, λ q. refl)
   bits_do row (ReadsFuse fuse e) x v = by_row keeping_bits row _ e (λ q. refl, λ q. refl)
   bits_do row (ReadsLock e) x v = by_row keeping_bits row _ e (λ q. refl, λ q. refl)

@@ -242,8 +242,8 @@ whole mem byte = byte
 abbrev pub Any : Plan → Transcript → Record → Record → Type 0
 Any = IsKeptByAny m328p device chip_memories (HasPart m328p) (HasEmptyBuffers m328p) whole
 
-pub run_is_kept_by_any : IsKeptByAny m328p device chip_memories (HasPart m328p) (HasEmptyBuffers m328p) whole plan passed
-    nothing_kept reported.kept
+pub run_is_kept_by_any : IsKeptByAny m328p device chip_memories (HasPart m328p) (HasEmptyBuffers m328p) whole plan
+    passed nothing_kept reported.kept
 run_is_kept_by_any =
     kept_by_any m328p device chip_memories (HasPart m328p) (HasEmptyBuffers m328p) whole settings plan
     (devices (link_state [] 0) empty_desk) (devices (link_state passed 0) reported) ran refl refl
@@ -470,7 +470,11 @@ pub over_network : KeepsPlanAt Any (IsOverAddress network reads writes (λ side.
     [] nothing_kept reported.kept
 over_network = (
   refl,
-  (link_state passed 0, connected passed, (plan, (plan_asked (FileGave nothing_kept reported.kept), run_is_kept_by_any))),
+  (
+    link_state passed 0,
+    connected passed,
+    (plan, (plan_asked (FileGave nothing_kept reported.kept), run_is_kept_by_any)),
+  ),
 )
 
 pub over_emulator : (At : ConnectionState) → KeepsPlanAt Any At (Emulated file) settings [] nothing_kept saved

@@ -16,7 +16,7 @@ use Rattle.stk_emu.proofs.Replies.Commands.{enter_does, executes_command, leave_
 use Rattle.avr_tool.proofs.Given.StepsGive.{gives_given}
 use Rattle.avr_tool.proofs.WriteOperations.OutsideMode.{load_reply, step_ends, step_fits}
 use Rattle.avr_laws.specs.EmulatedStates.{HasEmptyBuffers, HasPart, chip_memories}
-use Rattle.avr_laws.specs.Table.{IsDoneOrNot, IsProgrammer, IsRefused, IsRow, Row, Stands, addressed, enter_body}
+use Rattle.avr_laws.specs.Table.{IsDoneOrNot, IsProgrammer, RefusesRow, IsRow, Row, Stands, addressed, enter_body}
 use Rattle.avr_laws.proofs.Table.Steps.{Fits32, IsSent, RowFor, step_for}
 
 -- the two ways to say it
@@ -139,7 +139,7 @@ module _ (part : Part) (sound : IsPart part) where
 
     refused : (q : Programmer) → chip_memories q ≡ x
         → FailsAt device (λ z. Settled part x z ⊎ Settled part x z) r.command q
-        → IsRefused device chip_memories (HasEmptyBuffers part) r.row q
+        → RefusesRow device chip_memories (HasEmptyBuffers part) r.row q
     refused q same fails = record {
       kept = subst (λ (bytes : List ℕ). Stands chip_memories (HasEmptyBuffers part) (chip_memories q)
           (device.after bytes q)) r.body_is
@@ -152,7 +152,7 @@ module _ (part : Part) (sound : IsPart part) where
     }
 
     ended : (a : ℕ) → r.row.address ≡ Some a → (device.reset p ≡ p)
-        ⊎ IsRefused device chip_memories (HasEmptyBuffers part) r.row (device.reset p)
+        ⊎ RefusesRow device chip_memories (HasEmptyBuffers part) r.row (device.reset p)
     ended a is =
         let sent : commands ≡ LoadAddress a ∷ r.command ∷ [] =
         subst (λ (o : Option ℕ). IsSent o r.command commands) is r.is_sent in
@@ -174,7 +174,8 @@ module _ (part : Part) (sound : IsPart part) where
           ];
       good = λ loaded read long e.
           let has = good_reply read long e in (
-            gives_given part sound commands x read step f (record { from = p; stood = inl (settled part p s); is = has })
+            gives_given part sound commands x read step f
+                (record { from = p; stood = inl (settled part p s); is = has })
                 ∙ sym (r.reads x),
             done_from (subst (Settled part after) there (fits.whole p read has (settled part p s))),
           );

@@ -31,7 +31,8 @@ module _ {P : Type 0} (part : Part) (m : Device P) (view : P → Memories) (IsIn
       let V = IsVouched becomes part in
       kept_on_part s plan x y r made_is silent part sound fits (real_of part sound m view IsIn IsReady V meets) p
       executions sizes (record { memories = refl; is = is_in })
-      (steps_work part sound m view IsIn IsReady V meets signature_steps (view p) (signature_works becomes part (view p)))
+      (steps_work part sound m view IsIn IsReady V meets signature_steps (view p)
+      (signature_works becomes part (view p)))
       (actions_work part sound m view IsIn IsReady V meets (work (on_part part plan)) (view p)
       (plan_works becomes (on_part part plan) (view p) suits)) got later came none
 

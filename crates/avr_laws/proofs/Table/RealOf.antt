@@ -20,7 +20,7 @@ use Rattle.avr_tool.specs.Items.{action_items}
 use Rattle.avr_tool.proofs.Given.StepsGive.{changed_sizes, given_same}
 use Rattle.avr_tool.proofs.Hosts.AnyExchange.{data_in}
 use Rattle.avr_tool.proofs.Real.{ActionsWork, AllWork, Real}
-use Rattle.avr_laws.specs.Table.{IsDoneOrNot, IsLoaded, IsProgrammer, IsRefused, IsRow, Row, Stands, addressed}
+use Rattle.avr_laws.specs.Table.{IsDoneOrNot, IsLoaded, IsProgrammer, RefusesRow, IsRow, Row, Stands, addressed}
 use Rattle.avr_laws.proofs.Table.Steps.{IsSent, RowFor, bodies, row_for, short}
 
 abbrev Verdict : Type 0
@@ -229,7 +229,8 @@ module _ {P : Type 0} (part : Part) (sound : IsPart part) (m : Device P) (view :
     abbrev at : P → P
     at p = addressed m r.row.address p
 
-    row_at : (y : Memories) (p : P) → FitsPart part y → IsVouched y → Ready y p → IsDoneOrNot m view IsReady part r.row p
+    row_at : (y : Memories) (p : P) → FitsPart part y → IsVouched y → Ready y p
+        → IsDoneOrNot m view IsReady part r.row p
     row_at y p fits v s = t.rows r.row p r.is_row (subst IsVouched (sym s.memories) v)
         (subst (FitsPart part) (sym s.memories) fits) s.is
 
@@ -245,7 +246,8 @@ module _ {P : Type 0} (part : Part) (sound : IsPart part) (m : Device P) (view :
     loads_at : (y : Memories) → FitsPart part y → IsVouched y → (p : P) → Ready y p → Ready y (at p)
     loads_at y fits v p s = moved IsReady (view p) y (at p) s.memories (row_at y p fits v s).loaded
 
-    wrote : (y : Memories) (p : P) → view p ≡ y → effects part r.row.writes (view p) ≡ memories_after_step part commands y
+    wrote : (y : Memories) (p : P) → view p ≡ y
+        → effects part r.row.writes (view p) ≡ memories_after_step part commands y
     wrote y p is = ap (effects part r.row.writes) is ∙ r.writes y
 
     either_at : (y : Memories) → FitsPart part y → IsVouched y → (p : P) → Ready y p → IsLoaded m r.row.address p
@@ -286,7 +288,7 @@ module _ {P : Type 0} (part : Part) (sound : IsPart part) (m : Device P) (view :
     Either q = Ready x q ⊎ Ready after q
 
     fails : (y : Memories) (q : P) → view q ≡ y → ((z : P) → Ready y z → Either z)
-        → IsRefused m view IsReady r.row q → FailsAt m Either r.command q
+        → RefusesRow m view IsReady r.row q → FailsAt m Either r.command q
     fails y q is among refused = record {
       none = λ bytes e.
           let reply = m.reply (body r.command) q in
@@ -298,7 +300,7 @@ module _ {P : Type 0} (part : Part) (sound : IsPart part) (m : Device P) (view :
     }
 
     by_refused : (y : Memories) (p : P) → Ready y p → ((z : P) → Ready y z → Either z)
-        → (m.reset p ≡ p) ⊎ IsRefused m view IsReady r.row (m.reset p)
+        → (m.reset p ≡ p) ⊎ RefusesRow m view IsReady r.row (m.reset p)
         → (m.reset p ≡ p) ⊎ FailsAt m Either r.command (m.reset p)
     by_refused y p s among (inl same) = inl same
     by_refused y p s among (inr refused) = inr (fails y (m.reset p) (restart_ready y p s).memories among refused)

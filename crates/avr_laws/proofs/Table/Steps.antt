@@ -311,7 +311,8 @@ pub record StepFor (part : Part) (row : Row) : Type 0 where
 
 module _ (part : Part) (sound : IsPart part) where
   pub step_for : (row : Row) → IsRow part row → StepFor part row
-  unfolding for_erase for_page for_run for_fuse for_lock for_flash_read for_eeprom_read for_fuse_read for_lock_read for_signature for_calibration
+  unfolding for_erase for_page for_run for_fuse for_lock for_flash_read for_eeprom_read for_fuse_read for_lock_read
+      for_signature for_calibration
   step_for row (ErasesChip e) = record {
     commands = _;
     step = Erases refl;

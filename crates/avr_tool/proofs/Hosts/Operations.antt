@@ -96,7 +96,8 @@ module _ (part : Part) (sound : IsPart part) (real : Real part) where
   idle_reached : (m : Memories) (q : real.P) → Reached real signature_steps m q → HasMemories real m q
   idle_reached m q r = settled_idle real m q (search (rules, quiet_stays, read_quiet))
 
-  pub beginning_goes : (m : Memories) (p : real.P) → FitsPart part m → AllWork real signature_steps m → HasMemories real m p
+  pub beginning_goes : (m : Memories) (p : real.P) → FitsPart part m → AllWork real signature_steps m
+      → HasMemories real m p
       → Keeps real.device (HasMemories real m) (AfterBeginning real m) handshake p
   unfolding handshake
   beginning_goes m p f w idle =
@@ -120,7 +121,8 @@ module _ (part : Part) (sound : IsPart part) (real : Real part) where
 abbrev pub IsClosed : Result ⊤ HostFault → Type 0
 IsClosed r = (r ≡ Ok tt) ⊎ ((fault : StepFault) × (r ≡ Err (host_fault fault)))
 
-pub closing_goes : {P : Type 0} (m : Device P) (Stands : P → Type 0) → IsRepeatable m (leave ∷ []) Stands Stands → (p : P)
+pub closing_goes : {P : Type 0} (m : Device P) (Stands : P → Type 0) → IsRepeatable m (leave ∷ []) Stands Stands
+    → (p : P)
     → Stands p → Keeps m Stands (λ r q. Stands q × IsClosed r) closing p
 unfolding closing
 closing_goes {P = P} m Stands fits p stands =

@@ -36,7 +36,8 @@ End P R = R → List OutputEvent → Spot P → Type 0
 
 module _ {P : Type 0} (m : Device P) where
   -- both, after `k` commands along the link
-  pub record Printed {R : Type 0} (Now : Moment P) (After : End P R) (k : ℕ) (d : Dialog OutputEvent R) (z : Spot P) : Type
+  pub record Printed {R : Type 0} (Now : Moment P) (After : End P R) (k : ℕ) (d : Dialog OutputEvent R) (z : Spot P) :
+      Type
       0 where
     pub now : Now (outputs_after m k d z.0 z.1) (spot m k d z)
     pub after : (r : R) → (state_after m k d z.0 z.1).dialog ≡ Done r
@@ -51,8 +52,9 @@ module _ {P : Type 0} (m : Device P) where
     PrintsFrom Now After (Ask bytes go_on) z =
         Now [] z × PrintsFrom Now After (go_on ((this_link m).reads bytes z tt)) ((this_link m).after bytes z tt)
 
-    pub record Prints {R : Type 0} (Now : Moment P) (After : End P R) (d : Dialog OutputEvent R) (z : Spot P) : Type 0 where
-      pub holds : PrintsFrom Now After d z
+    pub record Prints {R : Type 0} (Now : Moment P) (After : End P R) (d : Dialog OutputEvent R) (z : Spot P) : Type 0
+      where
+        pub holds : PrintsFrom Now After d z
 
     pub stops : {R : Type 0} {Now : Moment P} (After : End P R) (r : R) (emitted : List OutputEvent) (z : Spot P)
         → After r emitted z → Prints Now (λ b x. After b (emitted ++ x)) (Done r) z
@@ -70,16 +72,19 @@ module _ {P : Type 0} (m : Device P) where
         → ((y : Spot P) → During y → Now [] y) → ((r : Result A HostFault) (y : Spot P) → After r y
         → AllTrue True (outcome_output r) y.0 × Then (standing r) (outcome_output r) y)
         → Prints Now Then (reported d outcome_output) z
-    prints_reported {A = A} {During = During} {After = After} {Now = Now} {Then = Then} {d = d} {z = z} outcome_output l f
+    prints_reported {A = A} {During = During} {After = After} {Now = Now} {Then = Then} {d = d} {z = z} outcome_output l
+        f
         each = record { holds = on d z l.holds }
       where
-        on : (d : Dialog ⊥ (Result A HostFault)) (z : Spot P) → HoldsFrom (this_link m) (λ bytes y. During y) NoOutput After d z
+        on : (d : Dialog ⊥ (Result A HostFault)) (z : Spot P)
+            → HoldsFrom (this_link m) (λ bytes y. During y) NoOutput After d z
             → PrintsFrom Now Then (reported d outcome_output) z
         on (Done r) z h = let x = each r z h in on_outputs Now Then (outcome_output r) (standing r) z x.0 x.1
         on (Emit e d) z h = absurd e
         on (Ask bytes go_on) z h = (f z h.0, on (go_on _) ((this_link m).after bytes z tt) (h.1 tt))
 
-    on_bind : {A B : Type 0} (Now Now' : Moment P) (Between : End P A) (After : End P B) (next : A → Dialog OutputEvent B)
+    on_bind : {A B : Type 0} (Now Now' : Moment P) (Between : End P A) (After : End P B) (next : A
+        → Dialog OutputEvent B)
         → ((emitted : List OutputEvent) (y : Spot P) → Now emitted y → Now' emitted y)
         → ((a : A) (emitted : List OutputEvent) (y : Spot P) → Between a emitted y
         → Prints (λ x. Now' (emitted ++ x)) (λ b x. After b (emitted ++ x)) (next a) y)
@@ -97,11 +102,13 @@ module _ {P : Type 0} (m : Device P) where
         {next : A → Dialog OutputEvent B} {d : Dialog OutputEvent A} {z : Spot P}
         → ((emitted : List OutputEvent) (y : Spot P) → Now emitted y → Now' emitted y) → Prints Now Between d z
         → ((a : A) (emitted : List OutputEvent) (y : Spot P) → Between a emitted y
-        → Prints (λ x. Now' (emitted ++ x)) (λ b x. After b (emitted ++ x)) (next a) y) → Prints Now' After (d >>= next) z
+        → Prints (λ x. Now' (emitted ++ x)) (λ b x. After b (emitted ++ x)) (next a) y)
+        → Prints Now' After (d >>= next) z
     prints_then {Now = Now} {Now' = Now'} {Between = Between} {After = After} {next = next} {d = d} {z = z} f l more =
         record { holds = on_bind Now Now' Between After next f more d z l.holds }
 
-    pub prints_wider : {R : Type 0} {Now Now' : Moment P} {After After' : End P R} {d : Dialog OutputEvent R} {z : Spot P}
+    pub prints_wider : {R : Type 0} {Now Now' : Moment P} {After After' : End P R} {d : Dialog OutputEvent R}
+        {z : Spot P}
         → ((emitted : List OutputEvent) (y : Spot P) → Now emitted y → Now' emitted y)
         → ((r : R) (emitted : List OutputEvent) (y : Spot P) → After r emitted y → After' r emitted y)
         → Prints Now After d z → Prints Now' After' d z

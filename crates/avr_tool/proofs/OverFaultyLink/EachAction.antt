@@ -48,7 +48,8 @@ module _ (part : Part) (real : Real part) (s : Switches) (At : Memories → Spot
       × RestsIn real (action_items action) m z))
 
   abbrev pub Comes : Action → Memories → Spot real.P → Type 0
-  Comes action m z = Runs real.device (λ y. RestsIn real (action_items action) m y) (Came action m) (call_of part s action) z
+  Comes action m z = Runs real.device (λ y. RestsIn real (action_items action) m y) (Came action m)
+      (call_of part s action) z
 
   -- as the expected run: its state, its output and its memories
   pub record Own (c : Expected) (at : Standing) (emitted : List OutputEvent) (z : Spot real.P) : Type 0 where
@@ -92,7 +93,8 @@ module _ (part : Part) (sound : IsPart part) (real : Real part) (s : Switches) w
   AnyOutcome action m got q = Came part real s (λ m z. Settled real m z.0) ⊤ action m got (q, [])
 
   abbrev pub ComesAnyhow : Action → Memories → real.P → Type 0
-  ComesAnyhow action m p = Keeps real.device (Rests real (steps_of_items part (action_items action)) m) (AnyOutcome action m)
+  ComesAnyhow action m p = Keeps real.device (Rests real (steps_of_items part (action_items action)) m)
+      (AnyOutcome action m)
       (call_of part s action) p
 
   -- an action that is a run of steps and the check of their data
@@ -100,7 +102,8 @@ module _ (part : Part) (sound : IsPart part) (real : Real part) (s : Switches) w
       → AllWork real (action_steps part action) m → (p : real.P)
       → Settled real m p → ComesAnyhow action m p
   operation_comes action m fits f w p settled =
-      subst (λ d. Keeps real.device (Rests real (steps_of_items part (action_items action)) m) (AnyOutcome action m) d p)
+      subst (λ d. Keeps real.device (Rests real (steps_of_items part (action_items action)) m) (AnyOutcome action m) d
+      p)
       o.call_is
       (wider (λ bytes q r. rests q r) (λ e q x. x) came
       (operation_goes part sound real (action_steps part action) m o.judge p o.are f w settled))
@@ -121,7 +124,8 @@ module _ (part : Part) (sound : IsPart part) (real : Real part) (s : Switches) w
       came got q (inr broke) = inr (tt, (broke.0, broke.1, rests q broke.2))
 
   -- the opening, with the part's own signature
-  pub opening_comes : (m : Memories) → FitsPart part m → AllWork real signature_steps m → (p : real.P) → HasMemories real m p
+  pub opening_comes : (m : Memories) → FitsPart part m → AllWork real signature_steps m → (p : real.P)
+      → HasMemories real m p
       → ComesAnyhow OpenSession m p
   unfolding opening
   opening_comes m f w p idle =
@@ -167,7 +171,8 @@ module _ (part : Part) (sound : IsPart part) (real : Real part) (s : Switches) (
 
   abbrev pub Goes : List Action → Memories → Spot real.P → Type 0
   Goes actions m z =
-      Prints real.device True (Now part real s At Fails actions m) (After part real s At Fails actions m) (actions_dialog part s actions) z
+      Prints real.device True (Now part real s At Fails actions m) (After part real s At Fails actions m)
+      (actions_dialog part s actions) z
 
   module _ (action : Action) (rest : List Action) (m : Memories) (fits : ItemsFit part (action_items action))
       (f : FitsPart part m) where
@@ -178,12 +183,14 @@ module _ (part : Part) (sound : IsPart part) (real : Real part) (s : Switches) (
     c = outcome_expected part s action m
 
     pub action_prints : (z : Spot real.P) → ActionTrue part real s True action m → Comes part real s At Fails action m z
-        → Prints real.device True (λ emitted y. RestsIn real items m y × FirstActionsOutput part s (action ∷ rest) m emitted)
+        → Prints real.device True (λ emitted y. RestsIn real items m y
+        × FirstActionsOutput part s (action ∷ rest) m emitted)
         (AfterOne part real s At Fails action rest m) (action_dialog part s action) z
     action_prints z holds comes =
         subst (λ d. Prints real.device True (λ emitted y. RestsIn real items m y × FirstActionsOutput part s (action
         ∷ rest) m emitted) (AfterOne part real s At Fails action rest m) d z) (dialog_is part s action)
-        (prints_reported real.device True (outcome_output part s action) comes (λ y r. (r, none_done (action ∷ rest) m)) each)
+        (prints_reported real.device True (outcome_output part s action) comes (λ y r. (r, none_done (action ∷ rest) m))
+        each)
       where
         each : (got : Result (Outcome action) HostFault) (y : Spot real.P) → Came part real s At Fails action m got y
             → AllTrue True (outcome_output part s action got) y.0
@@ -241,7 +248,8 @@ module _ (part : Part) (sound : IsPart part) (real : Real part) (s : Switches) (
           → RestsIn real (actions_items (action ∷ rest)) m y
       rests_later y r = rests_behind real sound items (actions_items rest) m y.0 fits f r
 
-      after_behind : (at : Standing) (x : List OutputEvent) (y : Spot real.P) → After part real s At Fails rest c.memories at x y
+      after_behind : (at : Standing) (x : List OutputEvent) (y : Spot real.P)
+          → After part real s At Fails rest c.memories at x y
           → After part real s At Fails (action ∷ rest) m at (emitted ++ x) y
       after_behind at x y (rests, inl own) =
           search (rules, rests_later y rests, goes_as (actions_expected part s rest) NoFault fine)
@@ -269,7 +277,8 @@ module _ (part : Part) (sound : IsPart part) (real : Real part) (s : Switches) (
     goes_cons z holds comes more =
         prints_then real.device True (λ emitted y x. (before y x.0, x.1)) (action_prints z holds comes) on
       where
-        on : (at : Standing) (emitted : List OutputEvent) (y : Spot real.P) → AfterOne part real s At Fails action rest m at emitted
+        on : (at : Standing) (emitted : List OutputEvent) (y : Spot real.P)
+            → AfterOne part real s At Fails action rest m at emitted
             y → Prints real.device True (λ x. Now part real s At Fails (action ∷ rest) m (emitted ++ x))
             (λ b x. After part real s At Fails (action ∷ rest) m b (emitted ++ x))
             (unless_fault (actions_dialog part s rest) at) y
@@ -291,7 +300,8 @@ module _ (part : Part) (sound : IsPart part) (real : Real part) (s : Switches) (
             stops real.device True (After part real s At Fails (action ∷ rest) m) at emitted y (before y r, inr broken)
 
   -- the actions after the opening
-  pub goes_actions : (actions : List Action) (m : Memories) (z : Spot real.P) → AllFitActions part actions → FitsPart part m → ActionsWork real actions m
+  pub goes_actions : (actions : List Action) (m : Memories) (z : Spot real.P) → AllFitActions part actions
+      → FitsPart part m → ActionsWork real actions m
       → ActionsTrue part real s True actions m → At m z → Goes actions m z
   goes_actions [] m z fits f w holds at = search rules
   goes_actions (action ∷ rest) m z fits f w holds at =

@@ -15,9 +15,10 @@ use Rattle.avr_tool.proofs.Each.{Each, each_of}
 use Rattle.avr_tool.proofs.WriteOperations.Items.{items_do, changed_all, effect_sizes, ItemsFit}
 
 -- the memories after some number of first steps, in any mode
-pub record Rests {part : Part} (real : Real part) (steps : List (List Command)) (m : Memories) (q : real.P) : Type 0 where
-  pub count : ℕ
-  pub stands : HasMemories real (memories_after_steps part count steps m) q
+pub record Rests {part : Part} (real : Real part) (steps : List (List Command)) (m : Memories) (q : real.P) : Type 0
+  where
+    pub count : ℕ
+    pub stands : HasMemories real (memories_after_steps part count steps m) q
 
 -- a count past the last step changes nothing more
 pub changed_min : (part : Part) (count : ℕ) (steps : List (List Command)) (m : Memories)

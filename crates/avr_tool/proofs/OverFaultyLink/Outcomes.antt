@@ -34,7 +34,8 @@ module _ (plan : Plan) (sound : IsPart plan.part) (real : Real plan.part) (m0 : 
   )
 
   -- over any link, or if no step fails
-  pub session_passes : (At : Memories → Spot real.P → Type 0) (Fails : Type 0) → Passes plan.part real plan.switches At Fails
+  pub session_passes : (At : Memories → Spot real.P → Type 0) (Fails : Type 0)
+      → Passes plan.part real plan.switches At Fails
       → (z : Spot real.P) → Comes plan.part real plan.switches At Fails OpenSession m0 z
       → Prints real.device Anything (AtMoment plan real m0) (AtEnd plan real m0 Fails) (session plan) z
   session_passes At Fails pass z opened =
@@ -44,7 +45,8 @@ module _ (plan : Plan) (sound : IsPart plan.part) (real : Real plan.part) (m0 : 
       (anything (work plan) m0) z opened
 
   module _ (p : real.P) (exchanges : List Exchange) (idle : HasMemories real m0 p) where
-    pub session_along : (k : ℕ) → Printed real.device (AtMoment plan real m0) (AtEnd plan real m0 ⊤) k (session plan) (p, exchanges)
+    pub session_along : (k : ℕ)
+        → Printed real.device (AtMoment plan real m0) (AtEnd plan real m0 ⊤) k (session plan) (p, exchanges)
     session_along k =
         at_moment real.device Anything (at_last plan real m0 ⊤) k
         (session_passes (λ m z. Settled real m z.0) ⊤ (anyhow plan.part sound real plan.switches) (p, exchanges)
@@ -60,7 +62,8 @@ module _ (plan : Plan) (sound : IsPart plan.part) (real : Real plan.part) (m0 : 
       | inr broke ↦ let one = broke.1.1 in absurd (omega (arith, zero, one))
     ]
 
-    pub session_leaves : Leads real.device (session plan) p exchanges (λ q. HasFirstOperations plan m0 (real.memories q))
+    pub session_leaves : Leads real.device (session plan) p exchanges
+        (λ q. HasFirstOperations plan m0 (real.memories q))
         (λ status q. status ≡ 0 → IsDone plan m0 (real.memories q))
     session_leaves = record {
       during = λ k. (session_along k).now.0;

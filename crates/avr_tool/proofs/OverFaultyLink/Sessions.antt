@@ -30,7 +30,8 @@ use Rattle.avr_tool.specs.Items.{items}
 use Rattle.avr_tool.specs.Outcome.{HasFirstOperations, IsExpectedRun}
 
 -- over any link, where each step may fail
-pub anyhow : (part : Part) → IsPart part → (real : Real part) → (s : Switches) → Passes part real s (λ m z. Settled real m z.0) ⊤
+pub anyhow : (part : Part) → IsPart part → (real : Real part) → (s : Switches)
+    → Passes part real s (λ m z. Settled real m z.0) ⊤
 anyhow part sound real s = record {
   idle = λ m z t. settled_idle real m z.0 t;
   calls = λ action m z fits f w t. on_link real.device (operation_comes part sound real s action m fits f w z.0 t);
@@ -41,7 +42,8 @@ anyhow part sound real s = record {
           | inl ok ↦ inl ok
           | inr broke ↦ inr (tt, broke)
         ],
-      )) (on_link real.device (closing_goes real.device (HasMemories real m) (real.leaves m) z.0 (settled_idle real m z.0 t)));
+      )) (on_link real.device
+      (closing_goes real.device (HasMemories real m) (real.leaves m) z.0 (settled_idle real m z.0 t)));
 }
 
 module _ (plan : Plan) (real : Real plan.part) (m : Memories) where
@@ -54,7 +56,8 @@ module _ (plan : Plan) (real : Real plan.part) (m : Memories) where
       × (IsExpectedRun plan m (real.memories y.0) emitted status
       ⊎ (Fails × (OutputToFault plan.part plan.switches (actions plan) m emitted × (status ≡ 1))))
 
-  pub at_last : (Fails : Type 0) (status : ℕ) (emitted : List OutputEvent) (y : Spot real.P) → AtEnd Fails status emitted y
+  pub at_last : (Fails : Type 0) (status : ℕ) (emitted : List OutputEvent) (y : Spot real.P)
+      → AtEnd Fails status emitted y
       → AtMoment emitted y
   at_last Fails status emitted y e' = search rules
 
@@ -62,7 +65,8 @@ module _ (plan : Plan) (sound : IsPart plan.part) (real : Real plan.part) (fitte
     (True : OutputEvent → real.P → Type 0)
     (fault_true : (fault : StepFault) (q : real.P) → AllTrue True (fault_output plan.part fault) q)
     (done_true : (q : real.P) → AllTrue True (closing_output plan.switches.quiet plan.part (Ok tt)) q)
-    (At : Memories → Spot real.P → Type 0) (Fails : Type 0) (pass : Passes plan.part real plan.switches At Fails) (m : Memories)
+    (At : Memories → Spot real.P
+    → Type 0) (Fails : Type 0) (pass : Passes plan.part real plan.switches At Fails) (m : Memories)
     (f : FitsPart plan.part m) (works : ActionsWork real (work plan) m) where
   abbrev part : Part
   part = plan.part
@@ -140,7 +144,8 @@ module _ (plan : Plan) (sound : IsPart plan.part) (real : Real plan.part) (fitte
           ),
         )
 
-  with_fault : (at : Standing) (emitted : List OutputEvent) (y z : Spot real.P) → ending_output plan at ≡ [] → status_of at ≡ 1
+  with_fault : (at : Standing) (emitted : List OutputEvent) (y z : Spot real.P) → ending_output plan at ≡ []
+      → status_of at ≡ 1
       → After part real s At Fails (actions plan) m at emitted y → real.memories z.0 ≡ real.memories y.0
       → AtEnd plan real m Fails 1 emitted z
   with_fault at emitted y z none one (rests, inl own) kept =
@@ -150,7 +155,8 @@ module _ (plan : Plan) (sound : IsPart plan.part) (real : Real plan.part) (fitte
 
   ending_prints : (at : Standing) (emitted : List OutputEvent) (y : Spot real.P)
       → After part real s At Fails (actions plan) m at emitted y
-      → Prints real.device True (λ x. AtMoment plan real m (emitted ++ x)) (λ b x. AtEnd plan real m Fails (status_of b) (emitted ++ x))
+      → Prints real.device True (λ x. AtMoment plan real m (emitted ++ x))
+      (λ b x. AtEnd plan real m Fails (status_of b) (emitted ++ x))
       (ending part s at) y
   ending_prints NoFault emitted y (rests, inl own) =
       prints_reported real.device True (closing_output s.quiet part) (pass.closes w.memories y own.left)
@@ -173,8 +179,10 @@ module _ (plan : Plan) (sound : IsPart plan.part) (real : Real plan.part) (fitte
       (λ closed x z a. stops real.device True (λ b v. AtEnd plan real m Fails (status_of b) (emitted ++ v)) Over x z a)
   ending_prints Over emitted y after = search (rules, with_fault Over emitted y y refl refl after refl)
 
-  pub session_prints : ActionTrue part real s True OpenSession m → ActionsTrue part real s True (work plan) m → (z : Spot real.P)
-      → Comes part real s At Fails OpenSession m z → Prints real.device True (AtMoment plan real m) (AtEnd plan real m Fails) (session plan) z
+  pub session_prints : ActionTrue part real s True OpenSession m → ActionsTrue part real s True (work plan) m
+      → (z : Spot real.P)
+      → Comes part real s At Fails OpenSession m z
+      → Prints real.device True (AtMoment plan real m) (AtEnd plan real m Fails) (session plan) z
   unfolding session
   session_prints opening_true work_true z opened =
       prints_then real.device True (λ x y now. now)

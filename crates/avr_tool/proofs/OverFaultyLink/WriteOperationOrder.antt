@@ -113,10 +113,12 @@ module _ (part : Part) (sound : IsPart part) (s : Switches) where
     abbrev Kept : Dialog OutputEvent Standing → Spot Programmer → Type 0
     Kept d z = Prints device Anything (λ emitted y. HasMemories part m y.0) (λ at emitted y. HasMemories part m y.0) d z
 
-    closing_keeps : (outcome_output : Result ⊤ HostFault → List OutputEvent) (z : Spot Programmer) → HasMemories part m z.0
+    closing_keeps : (outcome_output : Result ⊤ HostFault → List OutputEvent) (z : Spot Programmer)
+        → HasMemories part m z.0
         → Kept (reported closing outcome_output) z
     closing_keeps outcome_output z i =
-        prints_reported device Anything outcome_output (on_link device (closing_goes device (HasMemories part m) (leave_fits part m)
+        prints_reported device Anything outcome_output
+        (on_link device (closing_goes device (HasMemories part m) (leave_fits part m)
         z.0 i)) (λ y i. i) (λ r y x. (any_outputs (outcome_output r) y.0, x.0))
 
     ending_keeps : (at : Standing) (z : Spot Programmer) → HasMemories part m z.0 → Kept (ending part s at) z

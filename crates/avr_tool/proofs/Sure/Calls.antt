@@ -107,7 +107,8 @@ module _ (Such : List Exchange → Type 0) (sure : IsSure Such) where
         (closing_brings part m z i t.1));
   }
 
-  pub opens_sure : (part : Part) (sound : IsPart part) (s : Switches) (m : Memories) (z : Spot Programmer) → FitsPart part m
+  pub opens_sure : (part : Part) (sound : IsPart part) (s : Switches) (m : Memories) (z : Spot Programmer)
+      → FitsPart part m
       → HasMemories part m z.0 → Such z.1 → Comes part (emulated part sound) s (AtSure part) ⊥ OpenSession m z
   opens_sure part sound s m z f idle few =
       wider (λ bytes y r. r) (λ e y x. x) (λ got y x. inl (x.1.0.0, (x.1.0.1, x.1.1)))

@@ -41,7 +41,8 @@ others_steady : (exchanges : List Exchange) → AreSteady exchanges → AreStead
 others_steady exchanges s = search rules
 
 -- over such exchanges no device restarts
-pub on_steady : {R : Type 0} (After : R → Spot Programmer → Type 0) (d : Dialog ⊥ R) (z : Spot Programmer) → AreSteady z.1
+pub on_steady : {R : Type 0} (After : R → Spot Programmer → Type 0) (d : Dialog ⊥ R) (z : Spot Programmer)
+    → AreSteady z.1
     → HoldsFrom (this_link steady) (λ bytes y. ⊤) NoOutput After d z
     → HoldsFrom (this_link device) (λ bytes y. ⊤) NoOutput After d z
 on_steady After (Done r) z s h = h
