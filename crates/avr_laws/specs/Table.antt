@@ -109,9 +109,8 @@ IsLoaded m None p = Unit {0}
 IsLoaded m (Some address) p = m.reply (load_body address) p ≡ 0x06 ∷ 0 ∷ []
 
 -- The row's command isn't done here, and its reply isn't the good one.
-pub record RefusesRow {P : Type 0} (m : Device P) (view : P → Memories) (IsReady : P
-    → Type 0) (row : Row) (p : P) : Type
-    0 where
+pub record RefusesRow {P : Type 0} (m : Device P) (view : P → Memories) (IsReady : P → Type 0) (row : Row)
+    (p : P) : Type 0 where
   pub kept : Stands view IsReady (view p) (m.after row.command p)
   pub bad : (read : List ℕ) → length read ≡ row.count → m.reply row.command p ≡ row.reply read → ⊥
 

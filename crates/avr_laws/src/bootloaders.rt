@@ -66,9 +66,9 @@ pub fn a_program_with_status_0_left_what_it_compared_last<
     run_command_line(line, network, alloc, desk, link)
 }
 
-/// States that a bootloader that erases elsewhere reads truly, though it doesn't keep the table, and that all premises
-/// hold together in a worked run over it, which ended with status 0. The run wrote two images, and the second one's page
-/// cost the first one's.
+/// States that a bootloader that erases elsewhere reads truly, though it doesn't keep the table. All premises hold
+/// together in a worked run over it, which ended with status 0. The run wrote two images. The second one is there, and
+/// writing its page erased the first one's.
 // Proof: the lemmas of Rows/Bootloader, and `counter_refused` (Rows/PageCounter).
 pub fn a_run_over_a_bootloader_meets_all_premises()
     ensures reads { IsReader loss_part (bootloader loss_part) (λ b. b.memories) (FitsBoot loss_part) IsRead }

@@ -1,5 +1,5 @@
 -- Status 0 means the plan, by what was sent and received alone.
-use Rattle.std.proofs.Common.{◌≡◌, ◌⊎◌, ℕ, All, List, [], ◌∷◌, ◌++◌, take, sym, ap, arith, ◌∙◌, append-nil, inl, inr, refl, subst, Option, Some, None}
+use Rattle.std.proofs.Common.{◌≡◌, ◌⊎◌, ℕ, All, List, [], ◌∷◌, ◌++◌, take, sym, ap, arith, ◌∙◌, append-nil, inl, inr, subst, Option, Some, None}
 use Rattle.std.specs.Prelude.{false}
 use Rattle.avr_plan.specs.declared.settings.Settings.{Settings}
 use Rattle.avr_desk.specs.OutputEvents.{OutputEvent}

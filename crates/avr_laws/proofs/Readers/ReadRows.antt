@@ -19,7 +19,8 @@ use Rattle.avr_laws.specs.Table.{IsRow, Row, ErasesChip, WritesFlashPage, Writes
 -- what tells by which memory a command reads: its code, and of a fuse its instruction
 abbrev key_of : List ℕ → ℕ
 key_of body =
-    if slice_index body 0 == 0x18 then 0x18 + 256 * (slice_index body 2 + 256 * slice_index body 3) else slice_index body 0
+    if slice_index body 0 == 0x18 then 0x18 + 256 * (slice_index body 2 + 256 * slice_index body 3)
+    else slice_index body 0
 
 abbrev key_in : List (List ℕ) → ℕ
 key_in [] = 0
@@ -108,8 +109,10 @@ module _ (Reads : Mem → Type 0) (part : Part) where
   step_keys Hfuse = each_of (Has Hfuse) (read_step part Hfuse) 0 (read_count part Hfuse) (λ i. (refl, tt))
   step_keys Efuse = each_of (Has Efuse) (read_step part Efuse) 0 (read_count part Efuse) (λ i. (refl, tt))
   step_keys Lock = each_of (Has Lock) (read_step part Lock) 0 (read_count part Lock) (λ i. (refl, tt))
-  step_keys Signature = each_of (Has Signature) (read_step part Signature) 0 (read_count part Signature) (λ i. (refl, tt))
-  step_keys Calibration = each_of (Has Calibration) (read_step part Calibration) 0 (read_count part Calibration) (λ i. (refl, tt))
+  step_keys Signature =
+      each_of (Has Signature) (read_step part Signature) 0 (read_count part Signature) (λ i. (refl, tt))
+  step_keys Calibration =
+      each_of (Has Calibration) (read_step part Calibration) 0 (read_count part Calibration) (λ i. (refl, tt))
 
   all_work : (mem : Mem) → Reads mem → (steps : List (List Command)) → Each (Has mem) steps → (x : Memories)
       → StepsWork part (ReadsOneOf Reads part) steps x

@@ -76,16 +76,16 @@ module _ (part : Part) (sound : IsPart part) where
   by_row : (row other : Row) (b : Bootloader) → row ≡ other → Done other b → Done row b
   by_row row other b e done = subst (λ r. Done r b) (sym e) done
 
+  -- a refusal isn't a good reply
+  refused : (code : ℕ) (more : List ℕ) → code ∷ 0xC0 ∷ [] ≡ code ∷ 0 ∷ more → ⊥
+  refused code more e = let status = ap (λ (xs : List ℕ). slice_index xs 1) e in omega (arith, status)
+
   -- a reply with a block is true
   truly : (on : Bool) (code : ℕ) (block read : List ℕ)
       → cond on (code ∷ 0 ∷ (block ++ 0 ∷ [])) (code ∷ 0xC0 ∷ []) ≡ code ∷ 0 ∷ (read ++ 0 ∷ []) → read ≡ block
   truly true code block read e =
       sym (append_cancel_right block read (0 ∷ []) (ap (λ (xs : List ℕ). drop 2 xs) e))
-  truly false code block read e = absurd (let status = ap (λ (xs : List ℕ). slice_index xs 1) e in omega (arith, status))
-
-  -- a refusal isn't a good reply
-  refused : (code : ℕ) (more : List ℕ) → code ∷ 0xC0 ∷ [] ≡ code ∷ 0 ∷ more → ⊥
-  refused code more e = let status = ap (λ (xs : List ℕ). slice_index xs 1) e in omega (arith, status)
+  truly false code block read e = absurd (refused code (read ++ 0 ∷ []) e)
 
   reads_block : (start count : ℕ) (b : Bootloader) → FitsBoot part b → start + count ≤ part.flash_size → start % 2 ≡ 0
       → count ≤ 256
@@ -114,7 +114,8 @@ module _ (part : Part) (sound : IsPart part) where
       }
 
   reads_place : (place : ℕ) (b : Bootloader) → FitsBoot part b
-      → Done (reading None (0x1B ∷ 4 ∷ 0x30 ∷ 0x00 ∷ place ∷ 0x00 ∷ []) 1 (λ x. take 1 (drop place part.signature)) 0x1B) b
+      → Done (reading None (0x1B ∷ 4 ∷ 0x30 ∷ 0x00 ∷ place ∷ 0x00 ∷ []) 1 (λ x. take 1 (drop place part.signature))
+      0x1B) b
   reads_place place b f = record {
     loaded = record { memories = refl; is = f };
     either = λ loaded. inl (record { memories = refl; is = f });

@@ -243,8 +243,7 @@ abbrev pub Any : Plan → Transcript → Record → Record → Type 0
 Any = IsKeptByAny m328p device chip_memories (HasPart m328p) (HasEmptyBuffers m328p) whole
 
 pub run_is_kept_by_any : IsKeptByAny m328p device chip_memories (HasPart m328p) (HasEmptyBuffers m328p) whole plan
-    passed
-    nothing_kept reported.kept
+    passed nothing_kept reported.kept
 run_is_kept_by_any =
     kept_by_any m328p device chip_memories (HasPart m328p) (HasEmptyBuffers m328p) whole settings plan
     (devices (link_state [] 0) empty_desk) (devices (link_state passed 0) reported) ran refl refl
