@@ -176,9 +176,9 @@ def refusals(mutants):
 
 TEMPLATE = """# Evidence
 
-This page is what the gate, `./test --all`, printed for one commit. `tools/evidence.py LOG` makes the page from the
-gate's log, so that the outcome can be seen without the kit. [CHECK](CHECK.md) explains each word, and how to run the
-gate.
+This page is what `rt ci`, or the whole gate, `./test --all`, printed for one commit. `tools/evidence.py LOG` makes the
+page from that log, so that the outcome can be seen without the kit. [CHECK](CHECK.md) explains each word, and how to run
+the gate.
 
 {about}
 
