@@ -117,12 +117,10 @@ def unread(words: Words, found: Match[str]) -> str:
     name, line, fault, address = found.groups()
     named = (update for update in words.updates if name in (update.file, update.memory, *update.text.split(":")))
     update = next(named, None)
-    if not update:
-        return "is -p right?"
-    if address:
+    if update and address:
         return too_far(words, update, int(address, 16))
-    held = update.held(65_536)
-    if not (fault == "no record mark" and line == "1") and held[:4] != b"\x7fELF":
+    held, is_at_begin = update.held(65_536) if update else b"", fault == "no record mark" and line == "1"
+    if not update or not is_at_begin and held[:4] != b"\x7fELF":
         return "the file is damaged or cut short: build or download it again"
     other = {b":": "i", b"S": "s", b"\x7f": "e"}.get(held[:1], update.format)
     if other and other != update.format:
