@@ -177,8 +177,8 @@ def refusals(mutants):
 TEMPLATE = """# Evidence
 
 This page is what `rt ci`, or the whole gate, `./test --all`, printed for one commit. `tools/evidence.py LOG` makes the
-page from that log, so that the outcome can be seen without the kit. [CHECK](CHECK.md) explains each word, and how to run
-the gate.
+page from that log, so that the outcome can be seen without the kit. [CHECK](CHECK.md) explains each word, and how to
+run the gate.
 
 {about}
 
