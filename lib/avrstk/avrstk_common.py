@@ -17,7 +17,7 @@ import subprocess
 import sys
 import time
 from pathlib import Path
-from typing import Callable, Iterable, Mapping, Protocol, TypeVar, Union
+from typing import Callable, Iterable, Mapping, Protocol, Union
 
 # the folder and the name of the script that loads this module. In a clone, ./avrstk knows the built programs
 HERE, NAME = os.path.split(os.path.realpath(sys.argv[0]))
@@ -208,21 +208,6 @@ def run(main: Callable[[str], int], help_text: str, needs_lines: bool = False) -
         status = 1
     messages.finish()
     sys.exit(1 if needs_lines and messages.lost else status)
-
-
-T = TypeVar("T")
-
-
-def first(*rows: tuple[object, T]) -> T | None:
-    """Returns what is in the first row whose condition holds; None if none does."""
-    return next((value for holds, value in rows if holds), None)
-
-
-def refuse(*rows: tuple[object, object]) -> None:
-    """Ends the script with the text of the first row whose condition holds."""
-    why = first(*rows)
-    if why:
-        raise Fault(why)
 
 
 def data_file(name: str) -> str:

@@ -3,11 +3,11 @@
 A row is met if its command was done, or not done at all. If its reply is good, it was done, and the data in the reply
 are the chip's. Each row is tried at some addresses: that is a test, and proves nothing."""
 
-from avrstk_common import READ, Fault, Frames, came, is_frame, ready, refuse, say, show
+from avrstk_common import READ, Fault, Frames, came, is_frame, ready, say, show
 from avrstk_backup import FILES, command_again
 from avrstk_elf import hex_rows
 from avrstk_faults import framed, spoiled, xor
-from avrstk_words import UNOPENED
+from avrstk_words import UNOPENED, Words
 
 import contextlib
 import os
@@ -15,7 +15,7 @@ import random
 import re
 import tempfile
 import time
-from typing import Any, Callable, Dict, List, Optional, Sequence, Tuple
+from typing import Callable, Dict, List, Optional, Protocol, Sequence, Tuple
 
 # what a chip's memories hold; None is a memory that can't be read
 Chip = Dict[str, Optional[bytes]]
@@ -40,6 +40,16 @@ READING = list(MEMORIES)
 WRITING = ("erases", "writes flash", "writes fuses", "writes lock")
 
 
+class Opened(Protocol):
+    """A device, or what speaks version 1 to it."""
+
+    def fileno(self) -> int:
+        ...
+
+    def close(self) -> None:
+        ...
+
+
 class Ended(Exception):
     """No further row can be tried."""
 
@@ -51,7 +61,7 @@ def hexed(*bodies: bytes) -> str:
 class Programmer:
     """Sends commands. `opens` opens the device, and restarts a board that restarts by DTR."""
 
-    def __init__(self, opens: Callable[[], Any]) -> None:
+    def __init__(self, opens: Callable[[], Opened]) -> None:
         self.opens, self.file, self.number, self.repeated, self.heeds = opens, opens(), 0, 0, True
 
     def restart(self) -> None:
@@ -94,11 +104,11 @@ class Programmer:
 class Rows:
     """The rows, tried one after another. `chip` is what the memories hold, and `saved` what they held at first."""
 
-    def __init__(self, words: Any, opens: Callable[[], Any]) -> None:
+    def __init__(self, words: Words, opens: Callable[[], Opened]) -> None:
         names = ("flash_size", "flash_page", "eeprom_size", "eeprom_page", "eesave_bit")
         found = {it: words.of_part(it) or "" for it in names}
-        is_known = all(re.fullmatch("[1-9][0-9_]*|0", it) for it in found.values())
-        refuse((not is_known, f"the sizes of {words.part} are not known here: {UNOPENED}"))
+        if not all(re.fullmatch("[1-9][0-9_]*|0", it) for it in found.values()):
+            raise Fault(f"the sizes of {words.part} are not known here: {UNOPENED}")
         self.part = part = {it: int(value) for it, value in found.items()}
         self.words, self.is_all, self.sizes = words, words.trial == "all", {"signature": 3, "calibration": 1}
         self.sizes.update({it: 1 for it in (*FUSES, "lock")}, flash=part["flash_size"], eeprom=part["eeprom_size"])
@@ -427,7 +437,7 @@ class Rows:
         return f"what a run has compared after its last write is there{limit}"
 
 
-def try_rows(words: Any, opens: Callable[[], Any]) -> int:
+def try_rows(words: Words, opens: Callable[[], Opened]) -> int:
     """Tries the rows, and returns the status: 0 if all that were tried are met."""
     rows, why = Rows(words, opens), None
     try:

@@ -3,7 +3,7 @@
 from __future__ import annotations
 
 from avrstk_common import BUILT_IN, READ, WRITE, Fault, Frames, Source, Way, brief, came, data_file, ended_by
-from avrstk_common import heed_signals, is_frame, messages, parts, ready, refuse, say, session_program, show, text_of
+from avrstk_common import heed_signals, is_frame, messages, parts, ready, say, session_program, show, text_of
 from avrstk_common import version, wait
 from avrstk_backup import asking, back_up, restored
 from avrstk_each import Each
@@ -227,7 +227,7 @@ class Device:
             os.close(self.file)
 
 
-def opened(words: Words) -> Source:
+def opened(words: Words) -> Device | Bridge:
     """Opens the device for frames, and resets a board that has DTR for that."""
     device, wait = Device(words.device or "", words.speeds[0], True), float(words.wait)
     time.sleep(wait)
@@ -581,16 +581,22 @@ def check(words: Words) -> None:
 def judge_rows(words: Words) -> None:
     """Refuses what --try-rows doesn't take."""
     own = {"--try-rows", "--yes", "--parts", "--wait", "-p", "-P", "-c", "-b", "-l", "-q", "-v", "-C", "-s", "-u"}
-    other, name = next((it for it in words.last if it not in own), None), f"--try-rows={words.trial}"
-    spare = "erases and writes the chip, and clears a bit of its lock: at a chip to spare give --yes, too"
-    refuse(
-        (words.trial is None and "--yes" in words.last, "--yes is for --try-rows=all"),
-        (words.trial not in (None, "safe", "all"), f"{name}: there is --try-rows, and --try-rows=all"),
-        (words.trial and other, f"--try-rows tries a programmer, and takes no {other}"),
-        (words.trial and words.is_station, "--try-rows is for one board"),
-        (words.trial and words.has_port, f"--try-rows is for a serial device, not -P {words.device}"),
-        (words.trial == "all" and "--yes" not in words.last, f"{name} {spare}; {UNOPENED}"),
-    )
+    if words.trial is None:
+        if "--yes" in words.last:
+            raise Fault("--yes is for --try-rows=all")
+        return
+    if words.trial not in ("safe", "all"):
+        raise Fault(f"--try-rows={words.trial}: there is --try-rows, and --try-rows=all")
+    for option in words.last:
+        if option not in own:
+            raise Fault(f"--try-rows tries a programmer, and takes no {option}")
+    if words.is_station:
+        raise Fault("--try-rows is for one board")
+    if words.has_port:
+        raise Fault(f"--try-rows is for a serial device, not -P {words.device}")
+    if words.trial == "all" and "--yes" not in words.last:
+        spare = "erases and writes the chip, and clears a bit of its lock: at a chip to spare give --yes, too"
+        raise Fault(f"--try-rows=all {spare}; {UNOPENED}")
 
 
 def judge_files(words: Words, begin: str = "") -> None:
