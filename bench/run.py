@@ -24,7 +24,7 @@ from pathlib import Path
 TOP = Path(__file__).resolve().parent.parent
 sys.path.insert(0, str(TOP / "tests"))
 
-from cases import ended, leave_out, same, see  # noqa: E402
+from cases import check, check_equal, ended, leave_out  # noqa: E402
 from line import BadLine  # noqa: E402
 from program import PROGRAM, Room, Server  # noqa: E402
 
@@ -238,7 +238,7 @@ def hold(found):
     for name, figure in found.items():
         print(f"{figure:12}  {name}")
         if name in held:
-            see(f"{name}: at most 2 % above {held[name]}", figure <= 1.02 * held[name], figure)
+            check(f"{name}: at most 2 % above {held[name]}", figure <= 1.02 * held[name], figure)
     if "--write" in sys.argv:
         FIGURES.write_text(json.dumps(found, indent=4) + "\n")
 
@@ -267,7 +267,7 @@ def count_calls(room):
     for side in ["tool", "served"]:
         sends, receipts = calls_of(room.folder / f"{side}.trace")
         print(f"{side:>8}: {sends} sends and {receipts} receipts for {frames} frames")
-        same(f"{side}: sends and receipts for {frames} frames", (sends, receipts), (frames, frames))
+        check_equal(f"{side}: sends and receipts for {frames} frames", (sends, receipts), (frames, frames))
 
 
 def main():

@@ -52,6 +52,7 @@ SOURCES = (
     "vendor",
     "rattle names",
     "documents",
+    "texts",
     *CHECKED,
 )
 # scripts over the library for C, which takes minutes to prove and build, so that only --all runs them

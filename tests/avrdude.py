@@ -23,7 +23,7 @@ import subprocess
 import sys
 from dataclasses import dataclass
 
-from cases import PATIENCE, leave_out, run_cases, same, see
+from cases import PATIENCE, check, check_equal, leave_out, run_cases
 from program import Room, Server, has_avrdude
 
 
@@ -98,7 +98,7 @@ class Beside:
         sizes = [len(it or b"") for it in (theirs, own)]
         differ = [at for at, (a, b) in enumerate(zip(theirs or b"", own or b"")) if a != b]
         good = sizes == [self.part.chip] * 2 and not differ
-        see(f"{self.name}: {what}: the chip file", good, f"{sizes} bytes, {len(differ)} differ, at {differ[:8]}")
+        check(f"{self.name}: {what}: the chip file", good, f"{sizes} bytes, {len(differ)} differ, at {differ[:8]}")
 
     def request(self, what, words, status=0):
         """Makes one request by both programs."""
@@ -106,8 +106,8 @@ class Beside:
         own, own_messages = self.by_this(words)
         good = (found != 0) == (own != 0) == (status != 0)
         detail = f"{found}, {own}\n{messages.decode()}\n{own_messages.decode()}"
-        see(f"{self.name}: {what}: both end alike", good, detail)
-        same(f"{self.name}: {what}: the server", ended, (0, b"", b""))
+        check(f"{self.name}: {what}: both end alike", good, detail)
+        check_equal(f"{self.name}: {what}: the server", ended, (0, b"", b""))
         self.chips_are_alike(what)
 
     def written(self):
@@ -122,22 +122,22 @@ class Beside:
 
     def holds(self, what, at, content):
         chip = self.room.read("served.bin") or b""
-        see(f"{self.name}: {what}: is in the chip", chip[at : at + len(content)] == content)
+        check(f"{self.name}: {what}: is in the chip", chip[at : at + len(content)] == content)
 
     def read(self):
         """Both programs read each memory into a file; each compares the records that the other wrote."""
         found, messages, _ = self.by_avrdude(updates(*(f"{it}:r:{it}.theirs:r" for it in MEMORIES)))
         own, _ = self.by_this(updates(*(f"{it}:r:{it}.own:r" for it in MEMORIES)))
-        see(f"{self.name}: all memories are read", found == own == 0, f"{found}, {own}\n{messages.decode()}")
+        check(f"{self.name}: all memories are read", found == own == 0, f"{found}, {own}\n{messages.decode()}")
         for it in MEMORIES:
             theirs, ours = self.room.read(f"{it}.theirs"), self.room.read(f"{it}.own")
-            see(f"{self.name}: {it} is read alike", theirs is not None and theirs == ours, f"{theirs}\n{ours}"[:300])
+            check(f"{self.name}: {it} is read alike", theirs is not None and theirs == ours, f"{theirs}\n{ours}"[:300])
         records = ["flash:{}:read.hex:i", "eeprom:{}:read.srec:s"]
         by_both = [self.by_avrdude, self.by_this]
         for reads, compares in [by_both, by_both[::-1]]:
             found = reads(updates(*(it.format("r") for it in records)))[0]
             again = compares(updates(*(it.format("v") for it in records)))[0]
-            same(f"{self.name}: records of one are read by the other, {reads.__name__}", (found, again), (0, 0))
+            check_equal(f"{self.name}: records of one are read by the other, {reads.__name__}", (found, again), (0, 0))
         self.chips_are_alike("after all was read")
 
     def refused(self):
@@ -147,9 +147,9 @@ class Beside:
         other = next(it for it in PARTS if it != self.name)
         (self.room.folder / "served.bin").rename(self.room.folder / "kept.bin")
         found, _, ended = self.by_avrdude(updates("lfuse:w:0x00:m"), part=other)
-        same(f"{self.name}: another part", (found != 0, ended), (True, (0, b"", b"")))
+        check_equal(f"{self.name}: another part", (found != 0, ended), (True, (0, b"", b"")))
         blank = b"\xff" * PARTS[other].chip
-        see(f"{self.name}: another part's chip file", self.room.read("served.bin") == blank)
+        check(f"{self.name}: another part's chip file", self.room.read("served.bin") == blank)
         (self.room.folder / "kept.bin").rename(self.room.folder / "served.bin")
 
     def erased(self):

@@ -24,7 +24,7 @@ import sys
 from concurrent.futures import ThreadPoolExecutor
 from dataclasses import dataclass
 
-from cases import named, run_cases, same, sampled, see
+from cases import check, check_equal, named, run_cases, sampled
 from line import BadLine, Link, frame_size, frames_of
 from model import trimmed
 from program import CHIP_FILE, Room, Server, xor
@@ -156,16 +156,16 @@ def run(plan, seed, most, fate_of):
 
 def holds(name, plan, status, told, is_forged, served, chip):
     """Checks a run and its server by what is proved."""
-    see(f"{name}: the server", served == (0, b"", b""), served)
-    see(f"{name}: the chip is whole", chip is not None and len(chip) == CHIP_FILE)
+    check(f"{name}: the server", served == (0, b"", b""), served)
+    check(f"{name}: the chip is whole", chip is not None and len(chip) == CHIP_FILE)
     if status == 0:
-        see(f"{name}: the chip has what was written", is_forged or chip == plan.page_writes[-1])
-        same(f"{name}: the messages", told, plan.told)
+        check(f"{name}: the chip has what was written", is_forged or chip == plan.page_writes[-1])
+        check_equal(f"{name}: the messages", told, plan.told)
     else:
-        see(f"{name}: the chip is as some first page writes leave it", is_forged or chip in plan.page_writes)
+        check(f"{name}: the chip is as some first page writes leave it", is_forged or chip in plan.page_writes)
         front = told[:-1]
-        see(f"{name}: the messages begin so", status == 1 and front == plan.told[: len(front)], told)
-        see(f"{name}: and end with an error", told[-1:] and told[-1].startswith(b"avrstk: error: "), told)
+        check(f"{name}: the messages begin so", status == 1 and front == plan.told[: len(front)], told)
+        check(f"{name}: and end with an error", told[-1:] and told[-1].startswith(b"avrstk: error: "), told)
 
 
 def drawn(rate, kinds):
@@ -214,7 +214,7 @@ def runs_over(name, kind):
         holds(label, plan, *outcome)
     good, forged = (sum(it) for it in zip(*((it[0] == 0, it[2]) for it in found)))
     SUCCEEDED[name] = good
-    see(f"{name}: the chips of most runs are judged", forged <= (kind.count // 4 if "losses" in name else 0), forged)
+    check(f"{name}: the chips of most runs are judged", forged <= (kind.count // 4 if "losses" in name else 0), forged)
     print(
         f"{name}: {good} of {kind.count} runs succeeded; in {forged} runs changed bytes became a valid frame",
         flush=True,
@@ -293,19 +293,19 @@ def restarts():
         good = list(pool.map(lambda plan: plan.run({}), plans))
         for number, (plan, found) in enumerate(zip(plans, good)):
             wanted = (0, found[1], plan.left, plan.read, found[4])
-            same(f"plan {number}, {plan.words}: without a restart", found, wanted)
+            check_equal(f"plan {number}, {plan.words}: without a restart", found, wanted)
         tried = [(plan, it, found) for plan, found in zip(plans, good) for it in range(1, found[4] + 1)]
         tried = sampled("restarts", 150, tried)
         found = list(pool.map(lambda it: it[0].run({it[1]: "restart"}), tried))
     for (plan, at, good), (status, told, *held, _) in zip(tried, found):
         name = f"{plan.words}: a restart after frame {at} of {good[4]}"
         if status == 0:
-            same(name, (told, *held), good[1:4])
-            see(f"{name}: status 0", at in (1, good[4] - 1, good[4]))
+            check_equal(name, (told, *held), good[1:4])
+            check(f"{name}: status 0", at in (1, good[4] - 1, good[4]))
         else:
-            see(name, status == 1 and told[:-1] == good[1][: len(told) - 1], told)
+            check(name, status == 1 and told[:-1] == good[1][: len(told) - 1], told)
     ended_well = sum(it[0] == 0 for it in found)
-    see("some runs with a restart succeed, and some don't", 0 < ended_well < len(found), ended_well)
+    check("some runs with a restart succeed, and some don't", 0 < ended_well < len(found), ended_well)
     print(f"restarts: {ended_well} of {len(found)} runs succeeded", flush=True)
 
 
@@ -316,7 +316,7 @@ def as_many_succeed():
         if name not in SUCCEEDED:
             runs_over(name, kind)
         least, most = kind.good
-        see(f"{name}: from {least} to {most} runs", least <= SUCCEEDED[name] <= most, SUCCEEDED)
+        check(f"{name}: from {least} to {most} runs", least <= SUCCEEDED[name] <= most, SUCCEEDED)
 
 
 SUCCEEDED = {}

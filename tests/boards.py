@@ -28,7 +28,7 @@ from functools import lru_cache
 from pathlib import Path
 
 import serial
-from cases import PATIENCE, leave_out, named, put_program, run_cases, same, sampled, see
+from cases import PATIENCE, check, check_equal, leave_out, named, put_program, run_cases, sampled
 from line import frames_of
 from program import PROGRAM, TOP, Room, frame, has_avrdude, lines
 from records import hex_of, image_of
@@ -251,14 +251,16 @@ def clean():
         told = [it.format(what) for it in texts for what in ("written", "verified")]
         front = ["device signature = 1E 95 0F", *["chip erased"] * board.is_sketch]
         found = ended[1].decode().splitlines()
-        same(f"{kind}: its status and lines", (ended[0], found[:-2]), (0, lines(*front, *told).decode().splitlines()))
+        check_equal(
+            f"{kind}: its status and lines", (ended[0], found[:-2]), (0, lines(*front, *told).decode().splitlines())
+        )
         flash = board.flash()
         wanted = (image + b"\xff" * FLASH if board.is_sketch else image + b"\xff" * 120 + old[5_120:])[: len(flash)]
-        same(f"{kind}: its flash", flash, wanted)
-        same(f"{kind}: what was read", room.read("back.bin").ljust(len(flash), b"\xff")[: len(flash)], flash)
+        check_equal(f"{kind}: its flash", flash, wanted)
+        check_equal(f"{kind}: what was read", room.read("back.bin").ljust(len(flash), b"\xff")[: len(flash)], flash)
         if board.is_sketch:
-            same(f"{kind}: EEPROM and fuses", board.rest(), (image[:64] + b"\xff" * 960, b"\xe2\xd9\xff\xff"))
-            same(f"{kind}: instructions that came too early", board.lib.target_ignored(), 0)
+            check_equal(f"{kind}: EEPROM and fuses", board.rest(), (image[:64] + b"\xff" * 960, b"\xe2\xd9\xff\xff"))
+            check_equal(f"{kind}: instructions that came too early", board.lib.target_ignored(), 0)
 
 
 def refused():
@@ -268,10 +270,10 @@ def refused():
     for body in [*bodies, "19ACE00000", "1A0458000000", "1C0438000000"]:
         board = Board("optiboot")
         programmer = Version1(board, [0], True)
-        same("a reply to SIGN_ON", programmer.reply(b"\1"), b"\1\0\x08STK500_2")
+        check_equal("a reply to SIGN_ON", programmer.reply(b"\1"), b"\1\0\x08STK500_2")
         sent = board.sent
-        same(f"the reply to {body}", programmer.reply(bytes.fromhex(body)), bytes.fromhex(body)[:1] + b"\xc0")
-        same(f"bytes sent for {body}", board.sent - sent, 0)
+        check_equal(f"the reply to {body}", programmer.reply(bytes.fromhex(body)), bytes.fromhex(body)[:1] + b"\xc0")
+        check_equal(f"bytes sent for {body}", board.sent - sent, 0)
 
 
 def session(kind, size, words, fates, old=b""):
@@ -323,8 +325,8 @@ def sessions(what, kind, size, words, fates, old=b""):
     found = [apart(lambda it=it: session(kind, size, words, it, old)) for it in fates]
     totals = collections.Counter("none" if it is None else it[:2] for it in found)
     wrong = [at for at, it in enumerate(found) if it is None or it[0] == 0 and not it[1]]
-    see(f"{what}: status 0 has the image", not wrong, f"not in sessions {wrong[:20]}: {totals}")
-    see(f"{what}: faults struck", sum(it[3] for it in found if it) > len(found) // 6, str(totals))
+    check(f"{what}: status 0 has the image", not wrong, f"not in sessions {wrong[:20]}: {totals}")
+    check(f"{what}: faults struck", sum(it[3] for it in found if it) > len(found) // 6, str(totals))
     print(f"{what}: {len(found)} sessions, {sum(it[3] for it in found if it)} faults, {dict(totals)}", flush=True)
     return found
 
@@ -356,7 +358,7 @@ def damaged_erases():
     bits = [(at + place, bit) for place in range(1, 5) for bit in range(8)]
     fates = [(Fates({place: bit}), Fates()) for place, bit in share("damaged_erases", 4, 11, bits)]
     found = sessions("a damaged erase", "ArduinoISP-fast", 200, [], fates, random.Random(9).randbytes(2_048))
-    see("status 0: nothing is left beside the image", not any(it[0] == 0 and not it[2] for it in found), str(found))
+    check("status 0: nothing is left beside the image", not any(it[0] == 0 and not it[2] for it in found), str(found))
 
 
 def lost_end():
@@ -373,7 +375,7 @@ def lost_end():
     last = apart(received)
     drawn = share("lost_end", 4, 20, [(place, what) for place in (last - 1, last) for what in WHATS])
     found = sessions("a lost end", "optiboot-fast", size, words, [(Fates(), Fates(dict([it]))) for it in drawn], old)
-    see("a lost end: all end with status 0", all(it[:2] == (0, True) for it in found), str(found))
+    check("a lost end: all end with status 0", all(it[:2] == (0, True) for it in found), str(found))
 
 
 class Terminal:
@@ -459,14 +461,14 @@ def typed():
         at = Terminal(kind, random.Random(9).randbytes(FLASH))
         status, told = run_script(words.format(at.device).split())
         board = at.end()
-        same(f"{what}: status", (status, told.splitlines()[-1:]), (0, ["avrstk: done"]))
+        check_equal(f"{what}: status", (status, told.splitlines()[-1:]), (0, ["avrstk: done"]))
         note = "avrstk-serial: version 1 has no checksums: this run is tested, not proved"
-        same(f"{what}: is not called proved", told.splitlines().count(note), 1)
+        check_equal(f"{what}: is not called proved", told.splitlines().count(note), 1)
         if words == FUSES_TYPED:
-            same(f"{what}: fuses and lock", board.rest()[1], b"\xff\xde\xfd\xff")
-            same(f"{what}: flash", board.flash(), b"\xff" * FLASH)
+            check_equal(f"{what}: fuses and lock", board.rest()[1], b"\xff\xde\xfd\xff")
+            check_equal(f"{what}: flash", board.flash(), b"\xff" * FLASH)
         else:
-            same(f"{what}: the image", board.flash()[:700], image)
+            check_equal(f"{what}: the image", board.flash()[:700], image)
 
 
 def avrdude_beside():
@@ -482,22 +484,24 @@ def avrdude_beside():
         command = ["avrdude", *words.format(at.device).split()]
         ran = subprocess.run(command, cwd=room.folder, capture_output=True, timeout=PATIENCE)
         held, _ = at.end().rest()
-        same("avrdude, EEPROM over ArduinoISP: its status", ran.returncode, 0)
+        check_equal("avrdude, EEPROM over ArduinoISP: its status", ran.returncode, 0)
         wanted = data[:4] + b"\xff" * 4 + data[4:8] + b"\xff" * 4 + data[8:12]
-        same("avrdude, EEPROM over ArduinoISP: the bytes", held[:20], wanted)
+        check_equal("avrdude, EEPROM over ArduinoISP: the bytes", held[:20], wanted)
         at = Terminal("ArduinoISP", old)
         status, told = run_script(words.format(at.device).split())
         held, _ = at.end().rest()
-        same("avrstk-serial, EEPROM over ArduinoISP", (status, held[:64]), (0, data))
+        check_equal("avrstk-serial, EEPROM over ArduinoISP", (status, held[:64]), (0, data))
     at = Terminal("optiboot", old)
     words = "-p m328p -c arduino -P {} -b 115200 -D -q -q -U eeprom:w:data.bin:r"
     command = ["avrdude", *words.format(at.device).split()]
     ran = subprocess.run(command, cwd=room.folder, capture_output=True, timeout=PATIENCE)
     flash = at.end().flash()
-    see("avrdude, eeprom:w at an Uno: its firmware is another", flash[:128] != old[:128], (ran.returncode, ran.stderr))
+    check(
+        "avrdude, eeprom:w at an Uno: its firmware is another", flash[:128] != old[:128], (ran.returncode, ran.stderr)
+    )
     at = Terminal("optiboot", old)
     status, told = run_script(words.format(at.device).split())
-    same("avrstk-serial, eeprom:w at an Uno", (status, at.end().flash()), (1, old[: KINDS["optiboot"][0]]))
+    check_equal("avrstk-serial, eeprom:w at an Uno", (status, at.end().flash()), (1, old[: KINDS["optiboot"][0]]))
 
 
 # runs that docs/BOARDS gives the time of: a kind of board, AVRDUDE's name of it, and what is written
@@ -551,8 +555,8 @@ def measured():
             row = next((it[2:] for it in rows if it[:2] == [name, client]), ["", "", "0"])
             # (how often AVRDUDE asks for the board depends on the time)
             count = 1 if is_avrdude else 2
-            same(f"{name}, {client}", row[:count], list(found[:count]))
-            see(f"{name}, {client}: seconds", is_avrdude or abs(float(found[2]) - float(row[2])) < 0.5, (found, row))
+            check_equal(f"{name}, {client}", row[:count], list(found[:count]))
+            check(f"{name}, {client}: seconds", is_avrdude or abs(float(found[2]) - float(row[2])) < 0.5, (found, row))
 
 
 class LosesInPage:
@@ -585,8 +589,8 @@ def lost_byte_of_a_page():
         return status, board.up.has_lost, board.flash()[:700] == image, round(board.ended - board.begun)
 
     found = apart(ours)
-    same("a lost byte: avrstk-serial", found[:3], (0, True, True))
-    see("a lost byte: its seconds", found[3] in (5, 6, 7), found)
+    check_equal("a lost byte: avrstk-serial", found[:3], (0, True, True))
+    check("a lost byte: its seconds", found[3] in (5, 6, 7), found)
     if not has_avrdude():
         return leave_out("a lost byte: AVRDUDE", "AVRDUDE 7.1 is not installed")
     at = Terminal("optiboot", old)
@@ -598,7 +602,9 @@ def lost_byte_of_a_page():
         except subprocess.TimeoutExpired:
             has_ended = tool.kill()
     board = at.end()
-    same("a lost byte: AVRDUDE", (has_ended, board.up.has_lost, board.flash()[:700] == image), (None, True, False))
+    check_equal(
+        "a lost byte: AVRDUDE", (has_ended, board.up.has_lost, board.flash()[:700] == image), (None, True, False)
+    )
 
 
 class Leaving(serial.Bootloader):
@@ -628,8 +634,8 @@ def lost_end_of_wiring():
     words = ["-p", "m328p", "-c", "wiring", "-D", "-U", "flash:w:image.hex", "-P", at.device]
     status, told = run_script(words)
     at.end()
-    same("a lost end over -c wiring", (status, told.splitlines()[-1]), (0, "avrstk: done"))
-    same("LEAVE was repeated, and the image is there", (board.count, board.flash[:256]), (2, bytes(256)))
+    check_equal("a lost end over -c wiring", (status, told.splitlines()[-1]), (0, "avrstk: done"))
+    check_equal("LEAVE was repeated, and the image is there", (board.count, board.flash[:256]), (2, bytes(256)))
 
 
 def run_script(words):
@@ -666,8 +672,8 @@ def leaves_to_another():
         how = {"env": os.environ | environment, "program": [sys.executable, room.folder / "avrdude"]}
         with room.start(words.split(), **how) as it:
             output, told = it.communicate(timeout=PATIENCE)
-        same(f"{words}: another program runs", output.decode(), f"other: {words}\n" if is_left else "")
-        see(f"{words}: a line says so", (b"runs in place of avrstk" in told) == is_left, told)
+        check_equal(f"{words}: another program runs", output.decode(), f"other: {words}\n" if is_left else "")
+        check(f"{words}: a line says so", (b"runs in place of avrstk" in told) == is_left, told)
     (room.folder / "avrdude").unlink()
     shutil.rmtree(folder)
 

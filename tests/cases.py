@@ -38,7 +38,7 @@ PATIENCE = int(os.environ.get("PATIENCE", 600))
 SHOWN = 600
 
 
-def see(name, good, detail=""):
+def check(name, good, detail=""):
     """Counts a check and returns whether it holds. If not, prints its name and details."""
     global passed, failed
     if good:
@@ -51,9 +51,9 @@ def see(name, good, detail=""):
     return bool(good)
 
 
-def same(name, found, wanted):
+def check_equal(name, found, wanted):
     """Checks that `found` equals `wanted`."""
-    return see(name, found == wanted, f"found:  {shown(found)}\nwanted: {shown(wanted)}")
+    return check(name, found == wanted, f"found:  {shown(found)}\nwanted: {shown(wanted)}")
 
 
 def shown(what):
@@ -140,9 +140,9 @@ def run_cases(cases, doc, timed=()):
         try:
             cases[name]()
         except (Exception, SystemExit):
-            see(name, False, traceback.format_exc().strip())
+            check(name, False, traceback.format_exc().strip())
         if (passed, failed, left) == (before, failed_before, left_before):
-            see(name, False, "it has looked at nothing")
+            check(name, False, "it has looked at nothing")
         print(f"{passed - before:6} seen in {time.monotonic() - begun:.1f} s: {name}", flush=True)
         wrong |= {name} if failed > failed_before else set()
     is_late = wrong and wrong <= set(timed) and not lacks()

@@ -22,9 +22,10 @@ import subprocess
 import sys
 import tempfile
 import time
+from collections import Counter
 from pathlib import Path
 
-from cases import PATIENCE, leave_out, named, run_cases, same, sampled, see, wait_until
+from cases import PATIENCE, check, check_equal, leave_out, named, run_cases, sampled, wait_until
 from disk import calls_in, power_cuts
 from program import CHIP_FILE, EEPROM, EMULATED, FRAMES, LFUSE, PROGRAM, SIGNATURE, Room, Server
 from program import end_of, full_chip, lines, tracing
@@ -72,9 +73,9 @@ def beside():
 
 def is_good(what, found, chip=None):
     """Checks that a run succeeded, left no file beside the chip, and wrote this chip."""
-    see(f"{what}: the run", found[0] == 0, found)
-    same(f"{what}: no file is left beside the chip", beside(), [])
-    see(f"{what}: the chip is written", chip in (None, room.read("chip.bin")))
+    check(f"{what}: the run", found[0] == 0, found)
+    check_equal(f"{what}: no file is left beside the chip", beside(), [])
+    check(f"{what}: the chip is written", chip in (None, room.read("chip.bin")))
 
 
 def mode_of(path):
@@ -104,13 +105,15 @@ def is_safe(what, old, status, calls):
     """Checks what a power cut leaves during a run, and after it."""
     new, found = with_fuse(old, 0x62), room.read("chip.bin")
     seen, last, replayed = power_cuts(calls, old)
-    see(f"{what}: the chip is replayed right", replayed == found)
-    see(
+    check(f"{what}: the chip is replayed right", replayed == found)
+    check(
         f"{what}: each power cut leaves the old chip or the new one",
         seen <= {old, new},
         [len(it or b"") for it in seen],
     )
-    see(f"{what}: status 0 if the new chip is on the disk, else 1", status == 1 or (status, last) == (0, {new}), status)
+    check(
+        f"{what}: status 0 if the new chip is on the disk, else 1", status == 1 or (status, last) == (0, {new}), status
+    )
 
 
 def each_power_cut():
@@ -120,16 +123,16 @@ def each_power_cut():
     for prepare, old in STARTS:
         new, what = with_fuse(old, 0x62), f"chip {bool(old)}"
         status, _, calls = traced(prepare, writes_fuse(0x62))
-        same(f"{what}: the run", status, 0)
+        check_equal(f"{what}: the run", status, 0)
         synced = [it.words.split("<")[1].split(">")[0] for it in calls if it.name == "fsync"]
         new_or_chip = os.path.join(FOLDER, "chip.bin" if old else NEW_FILE.name)
-        same(f"{what}: what is synced", synced, [os.path.join(FOLDER, NEW_FILE.name), FOLDER, new_or_chip])
+        check_equal(f"{what}: what is synced", synced, [os.path.join(FOLDER, NEW_FILE.name), FOLDER, new_or_chip])
         is_safe(what, old, status, calls)
-        see(
+        check(
             "without the file's sync a chip may be torn",
             power_cuts(calls, old, os.path.join(FOLDER, NEW_FILE.name))[0] - {old, new},
         )
-        see("without the folder's sync the new chip may be lost", old in power_cuts(calls, old, FOLDER)[1])
+        check("without the folder's sync the new chip may be lost", old in power_cuts(calls, old, FOLDER)[1])
         # (the last three are those of a file system without hard links, which does without)
         errors = [it for it in itertools.product(calls, ["EIO", "ENOENT", "EMFILE"])]
         errors += [it for it in itertools.product(calls, ["EPERM", "EOPNOTSUPP", "EMLINK"]) if it[0].name == "link"]
@@ -139,8 +142,8 @@ def each_power_cut():
             status, _, failed = traced(prepare, writes_fuse(0x62), f"{call.name}:error={error}:when={call.number}")
             is_safe(f"{what}: {error} at {call.name} {call.words[:80]}", old, status, failed)
             stays = status == 1 and call.name in ["link", "rename"] and call.words.endswith('"chip.bin"')
-            see(f"{error} at {call.name}: the new file stays", room.read(NEW_FILE.name) == new) if stays else None
-            same(f"{error} at link: the run", status, 0) if error in ["EPERM", "EOPNOTSUPP", "EMLINK"] else None
+            check(f"{error} at {call.name}: the new file stays", room.read(NEW_FILE.name) == new) if stays else None
+            check_equal(f"{error} at link: the run", status, 0) if error in ["EPERM", "EOPNOTSUPP", "EMLINK"] else None
 
 
 def ended_anywhere():
@@ -150,15 +153,15 @@ def ended_anywhere():
         left = set()
         for call in traced(prepare, writes_fuse(0x62))[2]:
             what = f"chip {bool(old)}: ended at {call.name} {call.number}"
-            same(
+            check_equal(
                 what,
                 traced(prepare, writes_fuse(0x62), f"{call.name}:signal=KILL:when={call.number}")[0],
                 -signal.SIGKILL,
             )
             left.add(room.read("chip.bin"))
-            same(f"{what}: permissions", mode_of(CHIP), 0o640) if old else None
+            check_equal(f"{what}: permissions", mode_of(CHIP), 0o640) if old else None
             is_good(f"{what}: the next run", room.run(writes_fuse(0x63)), with_fuse(old, 0x63))
-        see(f"chip {bool(old)}: the old one and the new one are seen", left == {old, with_fuse(old, 0x62)}, len(left))
+        check(f"chip {bool(old)}: the old one and the new one are seen", left == {old, with_fuse(old, 0x62)}, len(left))
 
 
 def others_meanwhile():
@@ -184,10 +187,10 @@ def others_meanwhile():
         ("a chip where none was", room.clear, "link", lambda it: put(CHIP), b"mine", [NEW_FILE.name]),
     ]:
         status = traced(prepare, writes_fuse(0x11), call, act)[0]
-        same(f"{what}: the run and what is there", (status, room.read("chip.bin"), beside()), (1, chip, left))
+        check_equal(f"{what}: the run and what is there", (status, room.read("chip.bin"), beside()), (1, chip, left))
     opened = []
     traced(fresh_room, writes_fuse(0x11), "rename", look)
-    see("the old chip is not open at the rename", opened and f"{FOLDER}/chip.bin" not in opened, opened)
+    check("the old chip is not open at the rename", opened and f"{FOLDER}/chip.bin" not in opened, opened)
 
 
 def reads_on_the_disk():
@@ -198,12 +201,43 @@ def reads_on_the_disk():
     good = (0, lines(SIGNATURE, "eeprom: 1024 bytes read", "done"))
     for how, wanted in [("error=EIO:when=1", failed), ("error=EROFS:when=1", failed), ("error=EINVAL:when=1", good)]:
         found = traced(fresh_room, [*EMULATED, "-U", "eeprom:r:out.bin:r"], f"fsync:{how}")
-        same(f"{how}: the run", found[:2], wanted)
-        see(f"{how}: what was read is there", room.read("out.bin") == OLD[EEPROM:LFUSE])
-        see(
+        check_equal(f"{how}: the run", found[:2], wanted)
+        check(f"{how}: what was read is there", room.read("out.bin") == OLD[EEPROM:LFUSE])
+        check(
             f"{how}: the file is synced first",
             re.search(rb"^fsync\(\d+<([^>]*)>", room.read("calls"), re.M)[1].endswith(b"/out.bin"),
         )
+
+
+# errors of a disk that is full or failed, and the calls that may report them
+OF_DISKS = ["ENOSPC", "EDQUOT", "EROFS"]
+CHANGES = ["openat", "write", "fsync", "close", "rename", "link", "unlink"]
+
+
+def any_call_fails():
+    """A run writes a fuse and reads the EEPROM into a file. One of its calls on files fails, or this one and all later
+    ones of its name. With status 0 the new chip and the file are there. Else the chip is the old one or the new one.
+    After a sync that failed the status is 1."""
+    words, read = [*writes_fuse(0x62), "-U", "eeprom:r:out.bin:r"], re.compile(r"^(\w+)\((.*)\) += -?\d", re.M)
+    for prepare, old in STARTS:
+        new, counts, calls = with_fuse(old, 0x62), Counter(), []
+        check_equal("the run", traced(prepare, words)[0], 0)
+        for name, given in read.findall(room.read("calls").decode()):
+            counts[name] += 1
+            if (calls or '"chip.bin"' in given) and name not in ["execve", "mmap"]:
+                calls.append((name, counts[name], given[:80]))
+        tried = [(it, "EIO", later) for it in calls for later in ["", "+"]]
+        tried += itertools.product([it for it in calls if it[0] in CHANGES], OF_DISKS, ["", "+"])
+        for (name, number, given), error, later in sampled(f"chip {bool(old)}: calls that fail", 20, tried):
+            what = f"chip {bool(old)}: {error} at {name} {number}{later}, {given}"
+            status = traced(prepare, words, f"{name}:error={error}:when={number}{later}")[0]
+            chip, is_read = room.read("chip.bin"), room.read("out.bin") == new[EEPROM:LFUSE]
+            # (without a chip file the chip is a fresh one, if the run ends before the fuse is written)
+            is_whole = chip in [old, old or FRESH, new]
+            is_right = (status, is_whole) == (1, True) or (status, chip, is_read) == (0, new, True)
+            check(f"{what}: the chip and the file", is_right, (status, len(chip or b""), is_read))
+            check_equal(f"{what}: the status", status, 1) if name == "fsync" else None
+            is_good(f"{what}: the next run", room.run(writes_fuse(0x63)), with_fuse(chip, 0x63))
 
 
 def forgiven():
@@ -227,8 +261,8 @@ def forgiven():
     # (an opening or a sync that a signal interrupts is made again)
     for prepare, call, error, passes in sampled("errors of calls", 40, all_tried):
         status = traced(prepare, writes_fuse(0x62), f"{call.name}:error={error}:when={call.number}")[0]
-        same(f"{error} at {call.name} {call.words[:60]}: the run", status, 0 if passes else 1)
-        see(f"{error} at {call.name}: the chip", not passes or room.read("chip.bin")[LFUSE] == 0x62)
+        check_equal(f"{error} at {call.name} {call.words[:60]}: the run", status, 0 if passes else 1)
+        check(f"{error} at {call.name}: the chip", not passes or room.read("chip.bin")[LFUSE] == 0x62)
 
 
 def whose_lock():
@@ -252,7 +286,7 @@ def whose_lock():
         is_good("a run meanwhile", room.run(writes_fuse(0x22)), with_fuse(OLD, 0x22))
 
     def refused(_):
-        same("a run meanwhile", room.run(writes_fuse(0x22)), (1, b"", IN_USE))
+        check_equal("a run meanwhile", room.run(writes_fuse(0x22)), (1, b"", IN_USE))
 
     words, in_use, unwritable = writes_fuse(0x11), (1, IN_USE), (1, UNWRITABLE)
     opening = number_of(stale, words, "openat", "O_RDWR|O_NOCTTY|O_CLOEXEC")
@@ -264,9 +298,9 @@ def whose_lock():
     ]:
         status, messages, _ = traced(prepare, words, call, act, when)
         last = messages.splitlines(True)[-1] if wanted[1] else None
-        same(f"{what}: the run", (status, last), wanted)
-        same(f"{what}: what a link leads to", room.read("victim"), b"mine") if what == "a link" else None
-        see(f"{what}: the chip is whole", len(room.read("chip.bin")) == CHIP_FILE)
+        check_equal(f"{what}: the run", (status, last), wanted)
+        check_equal(f"{what}: what a link leads to", room.read("victim"), b"mine") if what == "a link" else None
+        check(f"{what}: the chip is whole", len(room.read("chip.bin")) == CHIP_FILE)
 
 
 @contextlib.contextmanager
@@ -275,11 +309,11 @@ def waiting(words, name="chip.bin", pipe="pipe", last=DONE, then=()):
     goes on with these words."""
     os.mkfifo(room.folder / pipe)
     started = room.start(["-p", "m328p", "-P", f"emu:{name}", *words, "-U", f"eeprom:r:{pipe}:r", *then])
-    see("a run that waits", SIGNATURE.encode() in started.stderr.readline())
+    check("a run that waits", SIGNATURE.encode() in started.stderr.readline())
     yield
     (room.folder / pipe).read_bytes()
     status, _, messages = end_of(started)
-    same(f"{name}: the run that waited", (status, messages.splitlines(True)[-1]), last)
+    check_equal(f"{name}: the run that waited", (status, messages.splitlines(True)[-1]), last)
 
 
 def held_by_a_run():
@@ -291,12 +325,12 @@ def held_by_a_run():
         (room.folder / "far.bin").symlink_to(room.folder / "link.bin")
         told = (1, b"", lines(f"error: {other}: in use by another run"))
         with Server(room, other) as server, waiting(["-U", "lfuse:w:0x11:m"], name):
-            same(f"{name}, {other}: a run", room.run(writes_fuse(0x22, other)), told)
-            same(f"{name}, {other}: a server", Server(room, other, waits=False).end(), told)
+            check_equal(f"{name}, {other}: a run", room.run(writes_fuse(0x22, other)), told)
+            check_equal(f"{name}, {other}: a server", Server(room, other, waits=False).end(), told)
             with server.call() as caller:
-                same(f"{name}, {other}: what a caller receives", caller.recv(1), b"")
-            same(f"{name}, {other}: the server that was there", server.end(), told)
-        see(f"{name}: it writes the chip", room.read("chip.bin") == with_fuse(OLD, 0x11))
+                check_equal(f"{name}, {other}: what a caller receives", caller.recv(1), b"")
+            check_equal(f"{name}, {other}: the server that was there", server.end(), told)
+        check(f"{name}: it writes the chip", room.read("chip.bin") == with_fuse(OLD, 0x11))
 
 
 def held_by_a_session():
@@ -306,11 +340,11 @@ def held_by_a_session():
         is_good("a run before a caller comes", room.run(writes_fuse(0x62)))
         with server.call() as caller:
             caller.sendall(FRAMES[0])
-            same("the session replies", caller.recv(1), FRAMES[0][:1])
-            same("a run beside the session", room.run(writes_fuse(0xE2)), (1, b"", IN_USE))
+            check_equal("the session replies", caller.recv(1), FRAMES[0][:1])
+            check_equal("a run beside the session", room.run(writes_fuse(0xE2)), (1, b"", IN_USE))
             caller.shutdown(1)
-        same("the session", server.end(), (0, b"", b""))
-    see("the chip has what was written before it", room.read("chip.bin") == with_fuse(OLD, 0x62))
+        check_equal("the session", server.end(), (0, b"", b""))
+    check("the chip has what was written before it", room.read("chip.bin") == with_fuse(OLD, 0x62))
 
 
 def without_a_lock():
@@ -322,7 +356,7 @@ def without_a_lock():
             LOCK_FILE.unlink()
             with waiting(["-U", "lfuse:w:0x22:m"], pipe="pipe2"):
                 pass
-        see("the chip is the second one's", room.read("chip.bin") == with_fuse(old, 0x22))
+        check("the chip is the second one's", room.read("chip.bin") == with_fuse(old, 0x22))
         is_good("a run after them", room.run(writes_fuse(0x62)))
 
 
@@ -345,9 +379,9 @@ def what_is_refused():
         make(room.folder / name)
         before = beside()
         told = (1, b"", lines(f"error: {name}: cannot be written"))
-        same(f"{name}: a run", room.run(writes_fuse(0x62, name)), told)
-        same(f"{name}: --serve", Server(room, name, waits=False).end(), told)
-        same(f"{name}: no file is made", (room.read("chip.bin"), beside()), (None, before))
+        check_equal(f"{name}: a run", room.run(writes_fuse(0x62, name)), told)
+        check_equal(f"{name}: --serve", Server(room, name, waits=False).end(), told)
+        check_equal(f"{name}: no file is made", (room.read("chip.bin"), beside()), (None, before))
 
 
 def read_into_the_chip():
@@ -364,8 +398,8 @@ def read_into_the_chip():
             (room.folder / "link.bin").symlink_to("chip.bin")
             (room.folder / "name.bin").hardlink_to(CHIP) if old else None
             found = room.run([*first, "-U", f"eeprom:r:{name}:r"])
-            same(f"{name}: the run", found, (1, b"", lines(f"error: {name}: cannot be created")))
-            see(f"{name}: the chip is as it was", (room.read("chip.bin"), beside()) == (old, []))
+            check_equal(f"{name}: the run", found, (1, b"", lines(f"error: {name}: cannot be created")))
+            check(f"{name}: the chip is as it was", (room.read("chip.bin"), beside()) == (old, []))
         for its in [LOCK_FILE.name, NEW_FILE.name]:
             for name in [its, f"./{its}", "link", "far", f"here/{its}"]:
                 prepare()
@@ -373,25 +407,25 @@ def read_into_the_chip():
                 (room.folder / "far").symlink_to(room.folder / "link")
                 (room.folder / "here").symlink_to(".")
                 found = room.run([*first, "-U", f"eeprom:r:{name}:r"])
-                same(f"{name} to {its}: the run", found, (1, b"", lines(f"error: {name}: cannot be created")))
-                see(f"{name} to {its}: the chip is as it was", (room.read("chip.bin"), beside()) == (old, []))
+                check_equal(f"{name} to {its}: the run", found, (1, b"", lines(f"error: {name}: cannot be created")))
+                check(f"{name} to {its}: the chip is as it was", (room.read("chip.bin"), beside()) == (old, []))
                 room.put(its, b"mine")
                 found = room.run(["-p", "m328p", "-P", "emu:chip.bin", "-U", f"eeprom:w:{name}:r"])
-                same(f"{name} to {its}: an image", found, (1, b"", lines(f"error: {name}: cannot be opened")))
-                see(f"{name} to {its}: it stays", room.read(its) == b"mine")
+                check_equal(f"{name} to {its}: an image", found, (1, b"", lines(f"error: {name}: cannot be opened")))
+                check(f"{name} to {its}: it stays", room.read(its) == b"mine")
     for its in ["chip.bin", LOCK_FILE.name, NEW_FILE.name]:
         fresh_room()
         told = (1, lines("error: late: cannot be created"))
         with waiting([], last=told, then=["-U", "lfuse:r:late:h"]):
             (room.folder / "late").symlink_to(its)
-        see(f"a link to {its}, made late: the chip is whole", (room.read("chip.bin"), beside()) == (OLD, []))
+        check(f"a link to {its}, made late: the chip is whole", (room.read("chip.bin"), beside()) == (OLD, []))
     with tempfile.TemporaryDirectory() as other:
         fresh_room()
         (room.folder / "odd.bin").symlink_to(f"{other}/caf\udce9.bin")
         is_good(
             "into other files", room.run([*EMULATED, "-U", f"eeprom:r:{other}/chip.bin:r", "-U", "eeprom:r:odd.bin:r"])
         )
-        same("what was read", [it.read_bytes() for it in Path(other).iterdir()], [OLD[EEPROM:LFUSE]] * 2)
+        check_equal("what was read", [it.read_bytes() for it in Path(other).iterdir()], [OLD[EEPROM:LFUSE]] * 2)
 
 
 def a_full_disk():
@@ -399,8 +433,8 @@ def a_full_disk():
     for limit, status in [('trap "" XFSZ; ulimit -f 16', 1), ("ulimit -f 16", -signal.SIGXFSZ)]:
         fresh_room()
         found = end_of(room.start(writes_fuse(0x62), front=["sh", "-c", f'{limit}; exec "$0" "$@"']))
-        same(f"{limit}: the run", (found[0], found[2].endswith(UNWRITABLE)), (status, status == 1))
-        see(f"{limit}: the chip is as it was", room.read("chip.bin") == OLD)
+        check_equal(f"{limit}: the run", (found[0], found[2].endswith(UNWRITABLE)), (status, status == 1))
+        check(f"{limit}: the chip is as it was", room.read("chip.bin") == OLD)
         is_good(f"{limit}: the next run", room.run(writes_fuse(0x62)))
 
 
@@ -415,17 +449,19 @@ def mounted():
         return leave_out("a chip that is mounted", "this may not mount")
     try:
         is_good("a run", room.run(writes_fuse(0x62)))
-        see("the file has the chip", room.read("real.bin") == with_fuse(OLD, 0x62))
+        check("the file has the chip", room.read("real.bin") == with_fuse(OLD, 0x62))
         if not shutil.which("strace"):
             return leave_out("calls on a chip that is mounted", "strace is not installed")
         status, _, calls = traced(lambda: None, writes_fuse(0x63))
         over = next(at for at, it in enumerate(calls) if it.name == "openat" and "O_TRUNC" in it.words)
         names = [it.name for it in calls[over:] if it.name in ["write", "fsync", "unlink"]]
-        same("what is done in place", (status, names), (0, ["write", "fsync", "unlink", "unlink"]))
+        check_equal("what is done in place", (status, names), (0, ["write", "fsync", "unlink", "unlink"]))
         write = next(it for it in calls[over:] if it.name == "write")
         status = traced(lambda: None, writes_fuse(0x64), f"write:error=EIO:when={write.number}")[0]
-        same("a write in place that fails: the run and the mounted file", (status, room.read("real.bin")), (1, b""))
-        see("the new file is the whole chip", room.read(NEW_FILE.name) == with_fuse(OLD, 0x64))
+        check_equal(
+            "a write in place that fails: the run and the mounted file", (status, room.read("real.bin")), (1, b"")
+        )
+        check("the new file is the whole chip", room.read(NEW_FILE.name) == with_fuse(OLD, 0x64))
     finally:
         subprocess.run(["umount", "chip.bin"], cwd=room.folder, check=True)
 
@@ -473,19 +509,19 @@ def what_stays():
             room.folder.chmod(0o755)
             what = f"chip {mode:o}, folder {folder:o}, group {group}"
             refused = (1, b"", lines("error: link.bin: cannot be written"))
-            see(f"{what}: the run", found[0] == 0 if kept else found == refused, found)
-            see(f"{what}: the chip", room.read("chip.bin") == (with_fuse(OLD, 0x62) if kept else OLD))
+            check(f"{what}: the run", found[0] == 0 if kept else found == refused, found)
+            check(f"{what}: the chip", room.read("chip.bin") == (with_fuse(OLD, 0x62) if kept else OLD))
             own = (CHIP.stat().st_uid, CHIP.stat().st_gid, mode_of(CHIP))
             wanted = (NOBODY, group or NOBODY, kept) if kept else (NOBODY, group, mode)
-            same(f"{what}: what stays", own, wanted if IS_ROOT else (*own[:2], kept or mode))
-            same(
+            check_equal(f"{what}: what stays", own, wanted if IS_ROOT else (*own[:2], kept or mode))
+            check_equal(
                 f"{what}: links",
                 (link.is_symlink(), room.read("victim"), beside() if kept else []),
                 (True, b"mine", []),
             )
     room.clear()
     is_good("a new chip of a long name", room.run(writes_fuse(0x62, "c" * 243)))
-    same("its mode", mode_of(room.folder / ("c" * 243)), 0o666 & ~UMASK)
+    check_equal("its mode", mode_of(room.folder / ("c" * 243)), 0o666 & ~UMASK)
     if not IS_ROOT:
         leave_out("whose a chip stays", "this isn't root")
 
@@ -510,15 +546,17 @@ def another_user():
         for value in range(20):
             is_good("a run", end_of(room.start(writes_fuse(value), umask=0, **how)))
         room.put("stop", b"")
-        same("what the other user opened", evil.communicate(timeout=PATIENCE)[0], "")
-        same("the mode of the chip", mode_of(CHIP), 0o600)
+        check_equal("what the other user opened", evil.communicate(timeout=PATIENCE)[0], "")
+        check_equal("the mode of the chip", mode_of(CHIP), 0o600)
         os.chown(room.folder, 0, 0)
         room.folder.chmod(0o1777)
         for his, status in [(LOCK_FILE, 0), (NEW_FILE, 1)]:
             his.touch()
             os.chown(his, 2, 2)
-            same(f"a run beside his {his.name}", end_of(room.start(writes_fuse(0x62 + status), **how))[0], status)
-            see("the chip", room.read("chip.bin") == with_fuse(OLD, 0x62))
+            check_equal(
+                f"a run beside his {his.name}", end_of(room.start(writes_fuse(0x62 + status), **how))[0], status
+            )
+            check("the chip", room.read("chip.bin") == with_fuse(OLD, 0x62))
             his.unlink()
 
 
@@ -544,12 +582,14 @@ def stormy():
             elif status != -signal.SIGKILL and (status, messages) != (1, IN_USE):
                 odd.add((status, messages))
     chip = room.read("chip.bin")
-    see("runs succeed", written)
-    same("lost", [it for it in sorted(written) if chip[EEPROM + it] != it % 255], [])
-    same("what runs shouldn't do", odd, set())
+    check("runs succeed", written)
+    check_equal("lost", [it for it in sorted(written) if chip[EEPROM + it] != it % 255], [])
+    check_equal("what runs shouldn't do", odd, set())
 
 
-TRACED = named(each_power_cut, ended_anywhere, others_meanwhile, reads_on_the_disk, forgiven, whose_lock)
+TRACED = named(
+    each_power_cut, ended_anywhere, others_meanwhile, reads_on_the_disk, any_call_fails, forgiven, whose_lock
+)
 if not shutil.which("strace"):
     TRACED = {name: lambda name=name: leave_out(name, "strace is not installed") for name in TRACED}
 

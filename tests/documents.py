@@ -12,7 +12,7 @@ import shutil
 import subprocess
 import sys
 
-from cases import TOP, leave_out, named, run_cases, same, see
+from cases import TOP, check, check_equal, leave_out, named, run_cases
 
 sys.path.append(str(TOP / "tools"))
 from evidence import trusted  # noqa: E402
@@ -34,16 +34,16 @@ def words(text):
 
 
 def what_check_quotes():
-    """docs/CHECK quotes a law, mutants, files and lines of code as they are, and its command has the mutant's crate."""
+    """docs/CHECK quotes a law, mutants, files and lines of code as they are. Its command names the mutant's crate."""
     page = text("docs/CHECK.md")
     module, law = re.search(r"^    \$ rt check --only (\w+)::(\w+)$", page, re.M).groups()
     source = text(f"crates/avr_laws/src/{module}.rt")
-    see("the law", re.search(rf"^pub fn {law}\b", source, re.M) and f"avr_laws::{module}::{law}: proved" in page, law)
+    check("the law", re.search(rf"^pub fn {law}\b", source, re.M) and f"avr_laws::{module}::{law}: proved" in page, law)
     files = {it.rstrip(".") for it in re.findall(r"\bcrates/\w+(?:/[\w.-]+)*", page)}
     for file in sorted(files):
-        see(f"there is {file}", (TOP / file).exists())
+        check(f"there is {file}", (TOP / file).exists())
     tried = re.search(r"^    \$ rt must-fail (\w+)$", page, re.M)[1]
-    see("the mutant is of that crate", f"crates/{tried}/must-fail/any_sequence.edit" in files, files)
+    check("the mutant is of that crate", f"crates/{tried}/must-fail/any_sequence.edit" in files, files)
     quoted = [it for it in page.splitlines() if it.startswith("    ") and not it.startswith(("    $", "    fn "))]
     # (the drawing quotes nothing)
     drawn = page[page.index("    the chip holds your images") : page.index("    your board")] + "    your board"
@@ -56,7 +56,7 @@ def what_check_quotes():
     ]
     known = {words(row) for it in crates for row in it.read_text().splitlines()} | {words(PROVED)}
     for row in quoted:
-        see(f"is in the sources: {row.strip()}", words(row) in known)
+        check(f"is in the sources: {row.strip()}", words(row) in known)
     # what the tables of the claim read out, but for what `..` stands for
     laws = [
         it
@@ -73,22 +73,21 @@ def what_check_quotes():
         if not it.endswith(":")
     ]
     for part in (part for it in cells for part in it.split("..")):
-        see(f"is in the sources: {part}", words(part) in stated)
-    see("quotes something", len(quoted) > 8 and len(cells) > 20, (quoted, cells))
+        check(f"is in the sources: {part}", words(part) in stated)
+    check("quotes something", len(quoted) > 8 and len(cells) > 20, (quoted, cells))
 
 
 def the_first_change():
     """CONTRIBUTING's first change can be made: the text is once in the script, and once in the test's table."""
     begun = re.search(r"replace `([^`]*)`\s+by", words(text("CONTRIBUTING.md")))[1]
     for file in ("lib/avrstk/avrstk_hints.py", "tests/tables/refused.txt"):
-        same(f"{file}: {begun}", text(file).count(begun), 1)
+        check_equal(f"{file}: {begun}", text(file).count(begun), 1)
 
 
 def the_hint():
-    """README's hint is in the source of avrstk-serial (tests/serial.py, case refused, prints it)."""
-    shown = re.search(r"^    avrstk-serial: (.*); (nothing was sent.*)$", text("README.md"), re.M)
-    for it in shown.groups():
-        see(f"is a hint: {it}", f'"{it}"' in text("lib/avrstk/avrstk_hints.py") + text("lib/avrstk/avrstk_words.py"))
+    """README's hint is a row of tests/tables/refused.txt (tests/serial.py, case refused, prints it)."""
+    words, hint = re.search(r"as after `(.*)`:\n\n.*\n    avrstk-serial: (.*)$", text("README.md"), re.M).groups()
+    check(f"is a row: {words} | {hint}", f"\n{words} | {hint}\n" in text("tests/tables/refused.txt"))
 
 
 # the conditions of the promise, as docs/PROOFS has them
@@ -110,7 +109,7 @@ def the_conditions():
             or page.name in ("PROOFS.md", "TROUBLESHOOTING.md", "WHY.md")
             or page == TOP / "README.md"
         ):
-            same(f"{page.name} has all conditions", [it for it in CONDITIONS if it.lower() not in held], [])
+            check_equal(f"{page.name} has all conditions", [it for it in CONDITIONS if it.lower() not in held], [])
 
 
 def files_of_recipes():
@@ -121,14 +120,14 @@ def files_of_recipes():
     for word in re.findall(r"[\w/.]*\w", rows):
         crate = word if word in crates else crate
         if word.startswith("src/"):
-            see(
+            check(
                 f"{crate}/{word}",
                 crate and (TOP / "crates" / crate / word).is_file() or word in ("src/messages.rt", "src/lib.rt"),
             )
         elif word.startswith("specs/") and word != "specs/Lines":
-            see(f"{crate}/{word}", crate and (TOP / "crates" / crate / f"{word}.antt").is_file())
+            check(f"{crate}/{word}", crate and (TOP / "crates" / crate / f"{word}.antt").is_file())
         elif word.startswith(("tests/", "tools/", "parts/")):
-            see(word, (TOP / word).exists())
+            check(word, (TOP / word).exists())
 
 
 def the_logic():
@@ -139,7 +138,7 @@ def the_logic():
     for page in ("README.md", *(f"docs/{it.name}" for it in sorted(TOP.glob("docs/*.md")))):
         sums = set(re.findall(r"logic\s+([0-9a-f]{16})", text(page)))
         if sums or page in ("README.md", "docs/CHECK.md"):
-            see(f"the logic that {page} names", sums and sums <= set(ran.stdout.split()), (sums, ran.stdout))
+            check(f"the logic that {page} names", sums and sums <= set(ran.stdout.split()), (sums, ran.stdout))
 
 
 # the worked rows that were set before the code
@@ -156,11 +155,11 @@ def bare(written):
 def worked_rows():
     """Each worked row that was set before the code has a test, and the test's file has the row's bytes and lines."""
     rows = [it.split(" | ", 3) for it in text("tests/tables/rows.txt").splitlines() if not it.startswith("#")]
-    same("worked rows", len({it[0] for it in rows}), ROWS)
+    check_equal("worked rows", len({it[0] for it in rows}), ROWS)
     for name, _, file, held in rows:
         known = bare(text(file))
         for part in held.split(" ; "):
-            see(f"{name}: {file} has {part}", len(bare(part)) > 3 and bare(part) in known)
+            check(f"{name}: {file} has {part}", len(bare(part)) > 3 and bare(part) in known)
 
 
 # crates of the kit that CHECK calls Rattle's standard library
@@ -172,8 +171,8 @@ def what_is_trusted():
     functions, as a gate's log has them (docs/EVIDENCE). Each kind of function is named in docs/EVIDENCE."""
     statements, axioms = trusted()
     section = text("docs/CHECK.md").split("\n## What is trusted\n")[1]
-    same("the crates", set(re.findall(r"`(\w+)`", section.split("A check lists")[0])), statements - STANDARD)
-    same(
+    check_equal("the crates", set(re.findall(r"`(\w+)`", section.split("A check lists")[0])), statements - STANDARD)
+    check_equal(
         "the axioms", re.search(r"takes (\d+): (\d+)\s+of crate `(\w+)` and (\d+) of `(\w+)`", section).groups(), axioms
     )
 
@@ -186,7 +185,7 @@ def python():
             leave_out(" ".join(command), f"{command[0]} is not installed")
             continue
         ran = subprocess.run(command, cwd=TOP, capture_output=True, text=True)
-        see(" ".join(command), ran.returncode == 0, ran.stdout + ran.stderr)
+        check(" ".join(command), ran.returncode == 0, ran.stdout + ran.stderr)
 
 
 CASES = named(

@@ -18,7 +18,7 @@ import sys
 import traceback
 from concurrent.futures import ThreadPoolExecutor
 
-from cases import named, run_cases, see
+from cases import check, named, run_cases
 from line import Peer, frames_of
 from model import BUILT_IN, MEMORIES, READ_ONLY, Ended, Part, Programmer, Run, size_of
 from program import Room, frame, lines
@@ -338,9 +338,9 @@ def compared(seed, count, kinds):
     with ThreadPoolExecutor(AT_ONCE) as pool:
         done = list(pool.map(lambda it: difference(it, kinds), seeds))
     for told, _ in done:
-        see("a run that the model makes otherwise", not told, told)
+        check("a run that the model makes otherwise", not told, told)
     good = sum(status == 0 for _, status in done)
-    see("a quarter of the runs or more ends with status 0", good * 4 >= len(seeds) or len(seeds) < 50, good)
+    check("a quarter of the runs or more ends with status 0", good * 4 >= len(seeds) or len(seeds) < 50, good)
 
 
 def over_emulator_and_streams():

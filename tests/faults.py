@@ -27,7 +27,7 @@ from collections import Counter
 from functools import partial
 from pathlib import Path
 
-from cases import leave_out, run_cases, same, see
+from cases import check, check_equal, leave_out, run_cases
 from line import BadLine
 from program import REPLIES, CHIP_FILE, EMULATED, ENDS, FRAMES, STDIO, TOP, Room, Server, full_chip
 
@@ -114,10 +114,10 @@ class Sweep:
             done = self.done(f"{kind} {number} {how}")
             fault = f"{self.label}: {kind} {number}, {how}"
             if self.room.read("refused") is None:
-                same(f"{fault}, which is not met", done, self.sound)
+                check_equal(f"{fault}, which is not met", done, self.sound)
                 return counts
             is_sound = done == self.sound
-            if not see(fault, is_sound or (kind, how) in FAULTS and self.is_told(kind, how, *done), done):
+            if not check(fault, is_sound or (kind, how) in FAULTS and self.is_told(kind, how, *done), done):
                 return counts
             counts["unneeded" if is_sound else "told"] += 1
 
@@ -223,6 +223,8 @@ def is_on_its_way(old, chip, end):
 
 
 ALL = [*FAULTS, *HARMLESS]
+# its runs wait a second for a reply
+LATE_LINE = "the whole EEPROM over a line with a late answer"
 
 
 def swept(sweep, ways):
@@ -249,7 +251,7 @@ def over_late_line(room, shim, label):
 
 def while_serving(room, shim, label):
     served = Serving(room, shim, label, [], b"")
-    same("the replies of an undisturbed session", served.sound[1], REPLIES)
+    check_equal("the replies of an undisturbed session", served.sound[1], REPLIES)
     swept(served, ALL)
 
 
@@ -257,7 +259,7 @@ def cases_of(room, shim):
     """Returns the cases by their names."""
     cases = {label: lambda label=label, it=it: swept(Sweep(room, shim, label, *it), ALL) for label, it in RUNS.items()}
     for label, look in [
-        ("the whole EEPROM over a line with a late answer", over_late_line),
+        (LATE_LINE, over_late_line),
         ("a session served at a port", while_serving),
     ]:
         cases[label] = lambda label=label, look=look: look(room, shim, label)
@@ -268,7 +270,7 @@ def main():
     if not shutil.which("cc"):
         cases = {name: partial(leave_out, name, "there is no C compiler") for name in cases_of(None, None)}
         return run_cases(cases, __doc__)
-    return run_cases(cases_of(*prepared()), __doc__)
+    return run_cases(cases_of(*prepared()), __doc__, timed=[LATE_LINE])
 
 
 if __name__ == "__main__":

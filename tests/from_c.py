@@ -23,7 +23,7 @@ import tempfile
 import time
 from pathlib import Path
 
-from cases import NUMBER, TOP, VERSION, bytes_of, leave_out, named, run_cases, same, see, table
+from cases import NUMBER, TOP, VERSION, bytes_of, check, check_equal, leave_out, named, run_cases, table
 from records import drawn, hex_of, image_of, runs_of
 from vendor import lend
 
@@ -115,11 +115,11 @@ class Library:
 def comes_back(library, file, image, size):
     for kind in ("ihex", "srec"):
         text = library.written(file, size, kind)
-        same(f"{file} as {kind}", image_of(text), image)
-        same(f"{file} as {kind} by Python", library.by_python(file, str(size), kind, check=True).stdout, text)
+        check_equal(f"{file} as {kind}", image_of(text), image)
+        check_equal(f"{file} as {kind} by Python", library.by_python(file, str(size), kind, check=True).stdout, text)
         again = library.folder / "again"
         again.write_bytes(text)
-        same(f"{file} as {kind}, again", library.written(again, size, kind), text)
+        check_equal(f"{file} as {kind}, again", library.written(again, size, kind), text)
 
 
 def files_come_back(library):
@@ -128,28 +128,28 @@ def files_come_back(library):
         file = TOP / "examples" / name
         image = image_of(file.read_bytes())
         comes_back(library, file, image, 32_768)
-        same(f"{name} printed", library.printed(file, 32_768), shown(image))
+        check_equal(f"{name} printed", library.printed(file, 32_768), shown(image))
     file = library.folder / "empty"
     file.write_bytes(hex_of([]))
     comes_back(library, file, {}, 8)
 
 
 def typed_as_shown(library):
-    """The commands of docs/LIBRARY that use the library for C work, over the library in another folder."""
+    """Types the commands of docs/LIBRARY that use the library for C, with the library in another folder."""
     section = (TOP / "docs/LIBRARY.md").read_text().split("## From C and Python\n")[1].split("\n## ")[0]
     first, *commands = re.findall(r"^    \$ (.*)$", section, re.M)
-    same("the first one", first, "examples/c/build.sh out/c")
+    check_equal("the first one", first, "examples/c/build.sh out/c")
     commands = [it.replace("out/c", shlex.quote(str(library.folder))) for it in commands]
     printed = [subprocess.run(["sh", "-c", it], cwd=TOP, capture_output=True, check=True).stdout for it in commands]
     image = image_of((TOP / "examples/blink.hex").read_bytes())
-    same("C's", (printed[0], image_of(printed[1])), (b"", image))
-    same("Python's", printed[2].decode().splitlines(), shown(image))
+    check_equal("C's", (printed[0], image_of(printed[1])), (b"", image))
+    check_equal("Python's", printed[2].decode().splitlines(), shown(image))
     without = os.environ | {"AVR_RECORDS_LIBRARY": "/nowhere"}
     ran = subprocess.run(
         ["sh", "-c", commands[2].partition(" ")[2]], cwd=TOP, capture_output=True, text=True, env=without
     )
     told = ran.stderr.endswith(": examples/c/build.sh builds the library, and ./install.sh --with-c installs it\n")
-    same("without a library", (ran.returncode, ran.stderr.count("\n"), told), (1, 1, True))
+    check_equal("without a library", (ran.returncode, ran.stderr.count("\n"), told), (1, 1, True))
 
 
 def images_come_back(library):
@@ -160,7 +160,7 @@ def images_come_back(library):
         file.write_bytes(text)
         comes_back(library, file, image, size)
         if size <= 4096:
-            same(f"seed {seed} printed", library.printed(file, size), shown(image))
+            check_equal(f"seed {seed} printed", library.printed(file, size), shown(image))
 
 
 def pieces_join(library):
@@ -171,7 +171,7 @@ def pieces_join(library):
         for kind in ("ihex", "srec"):
             text = library.written(file, size, kind, 1 << 20)
             for room in (1, 7, 80, len(text), len(text) + 1):
-                same(f"seed {seed} as {kind} by {room}", library.written(file, size, kind, room), text)
+                check_equal(f"seed {seed} as {kind} by {room}", library.written(file, size, kind, room), text)
 
 
 def lengths_are_told(library):
@@ -185,7 +185,7 @@ def lengths_are_told(library):
         for kind in (1, 2):
             told = loaded.avr_records_length(kind, *records.lent(data), *records.lent(present))
             text = b"".join(records.pieces(loaded, kind, data, present, 80))
-            same(f"seed {seed}, the length of {kind}", (told.length, told.fault), (len(text), 0))
+            check_equal(f"seed {seed}, the length of {kind}", (told.length, told.fault), (len(text), 0))
 
 
 def time_is_linear(library):
@@ -196,10 +196,10 @@ def time_is_linear(library):
     for kind in ("ihex", "srec"):
         text = library.written(file, size, kind, 16 << 20)
         begun = time.monotonic()
-        same(f"{kind} by 4096", library.written(file, size, kind, 4096) == text, True)
-        same(f"{kind} by 80", library.written(file, size, kind, 80) == text, True)
+        check_equal(f"{kind} by 4096", library.written(file, size, kind, 4096) == text, True)
+        check_equal(f"{kind} by 80", library.written(file, size, kind, 80) == text, True)
         taken = time.monotonic() - begun
-        same(f"{kind} took {taken:.1f} of {SECONDS} s", taken < SECONDS, True)
+        check_equal(f"{kind} took {taken:.1f} of {SECONDS} s", taken < SECONDS, True)
 
 
 def cursors_are_judged(library):
@@ -209,8 +209,8 @@ def cursors_are_judged(library):
         lent = [it for held in (b"\x0a", b"\x01") for it in records.lent(bytearray(held))]
         cursor, room = records.Cursor(0, 0, 0, size, ended), bytearray(80)
         piece = loaded.avr_records_write(kind, *lent, cursor, *records.lent(room))
-        same(f"format {kind}, addresses of {size}, ended {ended}", piece.fault, fault)
-        same("and then", (cursor.address_size, cursor.ended), (size, ended)) if fault else None
+        check_equal(f"format {kind}, addresses of {size}, ended {ended}", piece.fault, fault)
+        check_equal("and then", (cursor.address_size, cursor.ended), (size, ended)) if fault else None
 
 
 def faults_are_told(library):
@@ -219,17 +219,19 @@ def faults_are_told(library):
     for text, size, told in table("damaged"):
         told = told.replace("FILE", str(file))
         file.write_bytes(bytes_of(text))
-        same(f"{text} in {size} bytes", library.fault(file, size), told)
+        check_equal(f"{text} in {size} bytes", library.fault(file, size), told)
         told = told.removeprefix(f"{file}: ")
         by_python = library.by_python(file, size)
-        same(f"{text} in {size} bytes by Python", (by_python.returncode, by_python.stderr.decode().strip()), (1, told))
+        check_equal(
+            f"{text} in {size} bytes by Python", (by_python.returncode, by_python.stderr.decode().strip()), (1, told)
+        )
 
 
 def sizes_are_judged(library):
     """The C program refuses sizes that are no numbers or too large."""
     file = TOP / "examples/blink.hex"
     for size in ("", "-1", " 5", "5x", "4294967296", "18446744073709551616"):
-        same(f"size '{size}'", library.refused(file, size, "ihex"), (2, "", f"usage: {USAGE}\n"))
+        check_equal(f"size '{size}'", library.refused(file, size, "ihex"), (2, "", f"usage: {USAGE}\n"))
 
 
 def texts_are_put(library):
@@ -237,15 +239,15 @@ def texts_are_put(library):
     records, loaded = library.in_python()
     unknown = records.fault_text(loaded, 255)
     known = {records.fault_text(loaded, fault) for fault in FAULTS}
-    same("each fault has a text of its own", (len(known), unknown in known), (len(FAULTS), False))
+    check_equal("each fault has a text of its own", (len(known), unknown in known), (len(FAULTS), False))
     for fault in range(256):
         text = records.fault_text(loaded, fault).split(":")[0].encode()
-        same(f"{fault} is a fault", text.decode() != unknown, fault in FAULTS)
+        check_equal(f"{fault} is a fault", text.decode() != unknown, fault in FAULTS)
         for size in (0, 1, 5, len(text), len(text) + 1, 40):
             room = bytearray(b"\xa5" * size)
             put = (text[: size - 1] + b"\0" if size else b"") + b"\xa5" * max(0, size - len(text) - 1)
             told = loaded.avr_records_fault_text(fault, *records.lent(room))
-            same(f"the text of {fault} in {size}", (told, room), (len(text), put))
+            check_equal(f"the text of {fault} in {size}", (told, room), (len(text), put))
 
 
 def versions_agree(library):
@@ -255,34 +257,34 @@ def versions_agree(library):
     told = subprocess.run(
         [library.compiled(TOP / "tests/versions.c")], capture_output=True, check=True, text=True
     ).stdout
-    same("the header and the archive", told, f"{VERSION} {VERSION} {number} {number}\n")
+    check_equal("the header and the archive", told, f"{VERSION} {VERSION} {number} {number}\n")
     records, loaded = library.in_python()
-    same("Python and the shared library", (records.VERSION, loaded.avr_records_version()), (number, number))
+    check_equal("Python and the shared library", (records.VERSION, loaded.avr_records_version()), (number, number))
     config = (library.folder / "avr_records.pc").read_text()
-    same("pkg-config's file", f"\nVersion: {VERSION}\n" in config, True)
+    check_equal("pkg-config's file", f"\nVersion: {VERSION}\n" in config, True)
     name = f"libavr_records.so.{NUMBER}"
     shared = library.folder / "libavr_records.so"
-    same("what the link leads to", os.readlink(shared), name)
-    same("the name that Python looks for", records.SONAME, name)
+    check_equal("what the link leads to", os.readlink(shared), name)
+    check_equal("the name that Python looks for", records.SONAME, name)
     listed = subprocess.run(["readelf", "-d", shared], capture_output=True, check=True, text=True).stdout
-    same("the name in it", f"soname: [{name}]" in listed, True)
+    check_equal("the name in it", f"soname: [{name}]" in listed, True)
 
 
 def other_names_are_free(library):
     """A program's own functions may have the names of functions that the archive doesn't export."""
     program = library.compiled(TOP / "tests/own_names.c")
-    same("the fault of a good file", subprocess.run([program]).returncode, 0)
+    check_equal("the fault of a good file", subprocess.run([program]).returncode, 0)
 
 
 def only_its_calls_are_seen(library):
     """The archive and the shared library export exactly the functions that the header declares."""
     header = (TOP / "include/avr_records.h").read_text()
-    same("what is declared", sorted(re.findall(r"^[a-z].* \**(avr_records_\w+)\(", header, re.MULTILINE)), CALLS)
+    check_equal("what is declared", sorted(re.findall(r"^[a-z].* \**(avr_records_\w+)\(", header, re.MULTILINE)), CALLS)
     for words in (["-g", "libavr_records.a"], ["-D", "libavr_records.so"]):
         words = ["nm", "--defined-only", *words]
         listed = subprocess.run(words, cwd=library.folder, capture_output=True, check=True, text=True).stdout
         exported = [it.split()[-1] for it in listed.splitlines() if len(it.split()) == 3]
-        same(f"what {words[-1]} exports", exported, CALLS)
+        check_equal(f"what {words[-1]} exports", exported, CALLS)
 
 
 def by_srec_cat(given, kind, to, made):
@@ -322,8 +324,8 @@ def other_programs(library):
             given.write_bytes(text)
             given.write_bytes(library.written(given, size, kind))
             convert(given, kind, to, made)
-            see(f"seed {seed}: {kind} read by {name}", image_of(made.read_bytes()) == image)
-            see(f"seed {seed}: {to} of {name} read here", image_of(library.written(made, size, "ihex")) == image)
+            check(f"seed {seed}: {kind} read by {name}", image_of(made.read_bytes()) == image)
+            check(f"seed {seed}: {to} of {name} read here", image_of(library.written(made, size, "ihex")) == image)
 
 
 LOOKS = named(

@@ -19,7 +19,7 @@ import sys
 import time
 from concurrent.futures import ThreadPoolExecutor
 
-from cases import PATIENCE, bytes_of, named, run_cases, same, see, table
+from cases import PATIENCE, bytes_of, check, check_equal, named, run_cases, table
 from line import FrontOfReplies, Peer, frames_of
 from program import REPLIES, CHIP_FILE, EMULATED, ENDS, FRAMES, LFUSE, PROGRAM, SIGNATURE, STDIO, Room, Server
 from program import end_of, frame, lines, lines_of
@@ -38,8 +38,8 @@ def output_fails():
         unwritten = lines(SIGNATURE, "error: -: cannot be written")
         for words, told in [(STDIO, lines("error: link cannot be written")), (read_fuse, unwritten)]:
             room.clear()
-            same(f"output {name}: {words}", with_output(words, target), (1, told))
-        same("the chip file after it", len(room.read("chip.bin") or b""), CHIP_FILE)
+            check_equal(f"output {name}: {words}", with_output(words, target), (1, told))
+        check_equal("the chip file after it", len(room.read("chip.bin") or b""), CHIP_FILE)
 
 
 def with_output(words, target):
@@ -61,14 +61,14 @@ def with_output(words, target):
 def input_fails():
     """Tests a standard input that is empty, or a folder."""
     room.clear()
-    same("no replies", room.run(STDIO), (1, FRAMES[0], lines("error: link ended")))
+    check_equal("no replies", room.run(STDIO), (1, FRAMES[0], lines("error: link ended")))
     folder = os.open(room.folder, os.O_RDONLY)
     found = end_of(room.start(STDIO, folder))
-    same("a folder for a line", found, (1, FRAMES[0], lines("error: link cannot be read")))
+    check_equal("a folder for a line", found, (1, FRAMES[0], lines("error: link cannot be read")))
     found = end_of(room.start([*EMULATED, "-U", "flash:w:-"], folder))
-    same("a folder for an image", found, (1, b"", lines("error: -: cannot be read")))
+    check_equal("a folder for an image", found, (1, b"", lines("error: -: cannot be read")))
     os.close(folder)
-    same("no file was made", room.read("chip.bin"), None)
+    check_equal("no file was made", room.read("chip.bin"), None)
 
 
 def meets(kind, run=lambda words, redirected: room.run(words, closed=redirected)):
@@ -77,7 +77,7 @@ def meets(kind, run=lambda words, redirected: room.run(words, closed=redirected)
         if of == kind:
             room.clear()
             wanted = int(status), bytes_of(output), lines_of(told)
-            same(f"{words} {redirected}", run(shlex.split(words), redirected), wanted)
+            check_equal(f"{words} {redirected}", run(shlex.split(words), redirected), wanted)
 
 
 def descriptors_are_closed():
@@ -91,8 +91,8 @@ def closed_streams_stay_closed():
         peer = FrontOfReplies(REPLIES, resets=False)
         found = room.run(["-p", "m328p", "-P", f"net:127.0.0.1:{peer.port}"], closed=closed)
         frames = peer.end()
-        see(f"{closed}: frames alone", frames and frames == FRAMES[: len(frames)], frames)
-        see(f"{closed}: status", found[:2] == (status, b"") and len(frames) >= 5, found)
+        check(f"{closed}: frames alone", frames and frames == FRAMES[: len(frames)], frames)
+        check(f"{closed}: status", found[:2] == (status, b"") and len(frames) >= 5, found)
 
 
 def files_fail():
@@ -119,9 +119,9 @@ def files_are_full():
         # (a log that is write-only)
         (room.folder / "out").chmod(0o200)
         found = with_limit(36, [*EMULATED, "-U", update], redirected)
-        same(f"{update} {redirected}", found, (int(status), b"", lines_of(told)))
-        same(f"{update} {redirected}: its length", (room.folder / "out").stat().st_size, int(after))
-        see(f"{update} {redirected}: the chip is as it was", room.read("chip.bin") == chip)
+        check_equal(f"{update} {redirected}", found, (int(status), b"", lines_of(told)))
+        check_equal(f"{update} {redirected}: its length", (room.folder / "out").stat().st_size, int(after))
+        check(f"{update} {redirected}: the chip is as it was", room.read("chip.bin") == chip)
 
 
 def no_file_may_grow():
@@ -138,13 +138,13 @@ def replies_are_cut():
         peer = FrontOfReplies(REPLIES[:count], resets=False)
         found = room.run(["-p", "m328p", "-P", f"net:127.0.0.1:{peer.port}"])
         told = lines(*said, "error: link ended")
-        same(f"{count} bytes and the end", (*found, peer.end()), (1, b"", told, FRAMES[: whole + 1]))
+        check_equal(f"{count} bytes and the end", (*found, peer.end()), (1, b"", told, FRAMES[: whole + 1]))
         peer = FrontOfReplies(REPLIES[:count], resets=True)
         status, _, messages = room.run(["-p", "m328p", "-P", f"net:127.0.0.1:{peer.port}"])
         peer.end()
         faults = [lines(*it, f"error: link cannot be {verb}") for it in ([], said) for verb in ("read", "written")]
         faults.append(lines(f"error: port net:127.0.0.1:{peer.port} cannot be opened"))
-        see(f"{count} bytes and a reset", status == 1 and messages in faults, f"{status}, {messages}")
+        check(f"{count} bytes and a reset", status == 1 and messages in faults, f"{status}, {messages}")
 
 
 def callers_are_odd():
@@ -157,13 +157,13 @@ def callers_are_odd():
         ("a frame that is spoiled and one of an unknown command", command, bytes.fromhex("1B0900020E05C9D2")),
     ]:
         found, answered = served(lambda caller: exchanged(caller, sent))
-        same(f"a caller with {name}", found, (0, b"", b""))
+        check_equal(f"a caller with {name}", found, (0, b"", b""))
         if wanted is not None:
-            same(f"the reply to {name}", answered, wanted)
+            check_equal(f"the reply to {name}", answered, wanted)
     for name, count, verbs in [("at once", 0, ["read", "written"]), ("after a reply", ENDS[0], ["read"])]:
         found, _ = served(lambda caller: resets(caller, count))
         wanted = [(1, b"", lines(f"error: link cannot be {it}")) for it in verbs]
-        see(f"a caller that resets {name}", found in wanted, found)
+        check(f"a caller that resets {name}", found in wanted, found)
 
 
 def a_second_caller():
@@ -171,17 +171,17 @@ def a_second_caller():
     room.clear()
     with Server(room) as server, server.call() as first:
         first.sendall(FRAMES[0])
-        see("the first caller gets a reply", first.recv(1) == b"\x1b")
+        check("the first caller gets a reply", first.recv(1) == b"\x1b")
         try:
             with server.call():
-                see("a second caller is refused", False, "a connection")
+                check("a second caller is refused", False, "a connection")
         except ConnectionRefusedError:
-            see("a second caller is refused", True)
+            check("a second caller is refused", True)
         first.sendall(FRAMES[-1])
         first.shutdown(socket.SHUT_WR)
         answered = b"".join(iter(lambda: first.recv(4096), b""))
-        see("the first one is served on", answered[-8:-6] == bytes.fromhex("1B06"), answered.hex(" "))
-        same("how serving ends", server.end(), (0, b"", b""))
+        check("the first one is served on", answered[-8:-6] == bytes.fromhex("1B06"), answered.hex(" "))
+        check_equal("how serving ends", server.end(), (0, b"", b""))
 
 
 def nothing_is_read():
@@ -205,7 +205,7 @@ def nothing_is_read():
             except OSError:
                 pass
             messages = started.communicate(timeout=PATIENCE)[1]
-    same("how the run ends", (started.returncode, messages), (1, lines("error: link cannot be written")))
+    check_equal("how the run ends", (started.returncode, messages), (1, lines("error: link cannot be written")))
 
 
 def served(exchange):
@@ -215,14 +215,14 @@ def served(exchange):
         with server.call() as caller:
             answered = exchange(caller)
         found = server.end()
-    same("the chip after it", room.read("served.bin"), NEW)
+    check_equal("the chip after it", room.read("served.bin"), NEW)
     return found, answered
 
 
 def resets(caller, count):
     """Sends SIGN_ON, waits for so many bytes of the reply, and resets the connection."""
     caller.sendall(FRAMES[0])
-    same("the reply so far", caller.recv(count, socket.MSG_WAITALL) if count else b"", REPLIES[:count])
+    check_equal("the reply so far", caller.recv(count, socket.MSG_WAITALL) if count else b"", REPLIES[:count])
     caller.setsockopt(socket.SOL_SOCKET, socket.SO_LINGER, struct.pack("ii", 1, 0))
 
 
@@ -256,7 +256,7 @@ def a_silence_is_a_second_without_a_byte():
     started = room.start(["-p", "m328p", "-P", f"net:127.0.0.1:{peer.port}"])
     started.communicate(timeout=PATIENCE)
     heard = [it for it in peer.end() if it]
-    see("one frame in three seconds", heard[:1] == [frame(1, 1)] and len(heard) == 1, heard)
+    check("one frame in three seconds", heard[:1] == [frame(1, 1)] and len(heard) == 1, heard)
 
 
 def standard_streams_that_do_not_block():
@@ -272,9 +272,9 @@ def standard_streams_that_do_not_block():
     wanted = b"".join(frame(number, 1) for number in range(1, 5))
     wanted += b"".join(frame(number, LEAVE, 1, 1) for number in range(5, 9))
     found = ran.returncode, ran.stderr
-    see("input that doesn't block: `no answer`", found == (1, lines("error: no answer")), found)
+    check("input that doesn't block: `no answer`", found == (1, lines("error: no answer")), found)
     # with a timeout of a second for each it would take eight
-    see("eight frames, at once", (ran.stdout, taken < 4) == (wanted, True), (len(ran.stdout), taken))
+    check("eight frames, at once", (ran.stdout, taken < 4) == (wanted, True), (len(ran.stdout), taken))
 
 
 def standard_streams_that_block():
@@ -287,15 +287,15 @@ def standard_streams_that_block():
         waits = False
     except subprocess.TimeoutExpired:
         waits = True
-    see("input that blocks: it waits", first == frame(1, 1) and waits, first)
+    check("input that blocks: it waits", first == frame(1, 1) and waits, first)
     started.stdin.write(frame(1, 0xB0, 0xC1))
     started.stdin.flush()
-    see("`B0 C1`: sent again, by the next number", started.stdout.read(7) == frame(2, 1))
+    check("`B0 C1`: sent again, by the next number", started.stdout.read(7) == frame(2, 1))
     started.stdin.write(bytes(4_096))
     started.stdin.flush()
-    see("4,096 other bytes: sent again", started.stdout.read(7) == frame(3, 1))
+    check("4,096 other bytes: sent again", started.stdout.read(7) == frame(3, 1))
     started.send_signal(signal.SIGINT)
-    same("Ctrl-C: no line, nothing more is sent", end_of(started), (-signal.SIGINT, b"", b""))
+    check_equal("Ctrl-C: no line, nothing more is sent", end_of(started), (-signal.SIGINT, b"", b""))
 
 
 def replies_to(caller, *bodies):
@@ -304,7 +304,7 @@ def replies_to(caller, *bodies):
     for number, body in enumerate(bodies, 1):
         caller.sendall(frame(number, body))
         reply = next(answers)
-        same(f"the number of reply {number}", reply[1], number)
+        check_equal(f"the number of reply {number}", reply[1], number)
         yield reply[5:-1]
 
 
@@ -312,18 +312,20 @@ def ended_from_outside():
     """Ends a served run by SIGTERM and one over `emu:` by SIGINT: no chip is saved."""
     room.clear()
     with Server(room, "chip.bin") as server, server.call() as caller:
-        same("a fuse is written", [*replies_to(caller, ENTER, bytes.fromhex("17ACA000E2"))], [b"\x10\0", b"\x17\0\0"])
+        check_equal(
+            "a fuse is written", [*replies_to(caller, ENTER, bytes.fromhex("17ACA000E2"))], [b"\x10\0", b"\x17\0\0"]
+        )
         server.started.send_signal(signal.SIGTERM)
         server.end()
-    see("--serve that is ended saves nothing", room.read("chip.bin") is None)
+    check("--serve that is ended saves nothing", room.read("chip.bin") is None)
     room.clear()
     os.mkfifo(room.folder / "pipe")
     started = room.start([*EMULATED, "-U", "lfuse:w:0xE2:m", "-U", "lfuse:r:pipe:h"])
     # the run blocks at the second update, because no process reads the pipe
-    see("the first update is done", any(b"verified" in it for it in started.stderr))
+    check("the first update is done", any(b"verified" in it for it in started.stderr))
     started.send_signal(signal.SIGINT)
     started.communicate(timeout=PATIENCE)
-    see("emu: that is ended saves nothing", (started.returncode, room.read("chip.bin")) == (-signal.SIGINT, None))
+    check("emu: that is ended saves nothing", (started.returncode, room.read("chip.bin")) == (-signal.SIGINT, None))
 
 
 def loaded_for_its_caller():
@@ -332,20 +334,22 @@ def loaded_for_its_caller():
     room.clear()
     with Server(room, "chip.bin") as server:
         told = [SIGNATURE, "lfuse: 1 bytes written", "lfuse: 1 bytes verified", "done"]
-        same("a run before a caller comes", room.run([*EMULATED, "-U", "lfuse:w:0xE2:m"]), (0, b"", lines(*told)))
+        check_equal(
+            "a run before a caller comes", room.run([*EMULATED, "-U", "lfuse:w:0xE2:m"]), (0, b"", lines(*told))
+        )
         with server.call() as caller:
             found = [*replies_to(caller, ENTER, bytes.fromhex("180450000000"))]
-            same("its fuse is served", found, [b"\x10\0", b"\x18\0\xe2\0"])
-        same("the caller has gone", server.end(), (0, b"", b""))
-    see("and the fuse is kept", room.read("chip.bin") == NEW[:LFUSE] + b"\xe2" + NEW[LFUSE + 1 :])
+            check_equal("its fuse is served", found, [b"\x10\0", b"\x18\0\xe2\0"])
+        check_equal("the caller has gone", server.end(), (0, b"", b""))
+    check("and the fuse is kept", room.read("chip.bin") == NEW[:LFUSE] + b"\xe2" + NEW[LFUSE + 1 :])
     room.clear()
     with Server(room, "chip.bin") as server:
         room.put("chip.bin", b"abc")
         with server.call() as caller:
-            see("a bad chip by then: the connection is closed", caller.recv(1) == b"")
+            check("a bad chip by then: the connection is closed", caller.recv(1) == b"")
         wanted = f"error: chip.bin: 3 bytes, {CHIP_FILE} expected"
-        same("and it is reported", server.end(), (1, b"", lines(wanted)))
-    see("the file is left as it is", room.read("chip.bin") == b"abc")
+        check_equal("and it is reported", server.end(), (1, b"", lines(wanted)))
+    check("the file is left as it is", room.read("chip.bin") == b"abc")
 
 
 TIMED = named(nothing_is_read, a_silence_is_a_second_without_a_byte)

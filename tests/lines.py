@@ -15,7 +15,7 @@ import socket
 import subprocess
 import sys
 
-from cases import PATIENCE, bytes_of, chosen, leave_out, named, run_cases, same, see, table
+from cases import PATIENCE, bytes_of, check, check_equal, chosen, leave_out, named, run_cases, table
 from line import FrontOfReplies, frames_in
 from program import REPLIES, CHIP_FILE, EMULATED, ENDS, FRAMES, SIGNATURE, STDIO, TOP, Room, Server
 from program import frame, full_chip, kept_port, lines, lines_of, port_of, tracing
@@ -46,14 +46,14 @@ def run(what, words, told, status=1, output=b"", given=b"", chip=None):
     room.clear()
     if chip is not None:
         room.put("chip.bin", chip)
-    same(what, room.run(words, given), (status, output, lines(*told)))
+    check_equal(what, room.run(words, given), (status, output, lines(*told)))
     met.update(told)
 
 
 def refused(what, words, told, **more):
     """Checks that a run is refused before anything is sent: it prints one line, and creates no chip file."""
     run(what, words, [f"error: {told}"], **more)
-    same(f"{what}: no chip file", room.read("chip.bin"), more.get("chip"))
+    check_equal(f"{what}: no chip file", room.read("chip.bin"), more.get("chip"))
 
 
 def settings_are_refused():
@@ -69,21 +69,23 @@ def help_is_printed():
     texts = [it for it in re.findall(r'"([^"]*)"', source) if " " in it]
     for word in ["-h", "--help"]:
         status, output, messages = room.run([word])
-        same(f"{word}: status and messages", (status, messages), (0, b""))
+        check_equal(f"{word}: status and messages", (status, messages), (0, b""))
         text = output.decode()
-        see(f"{word}: begins with what it is for", text.startswith(texts[0] + "\n"), text)
-        same(f"{word}: its options", re.findall(r"^ +(--?\w+)", text, re.M), [option for option, _ in table("help")])
+        check(f"{word}: begins with what it is for", text.startswith(texts[0] + "\n"), text)
+        check_equal(
+            f"{word}: its options", re.findall(r"^ +(--?\w+)", text, re.M), [option for option, _ in table("help")]
+        )
         for option, told in table("help"):
-            see(f"{word}: {option}", re.search(rf"^ +{option}\b.*  {re.escape(told)}$", text, re.M), text)
-        same(f"{word}: texts that are cut", [it for it in texts if it not in text], [])
+            check(f"{word}: {option}", re.search(rf"^ +{option}\b.*  {re.escape(told)}$", text, re.M), text)
+        check_equal(f"{word}: texts that are cut", [it for it in texts if it not in text], [])
 
 
 def words_are_refused():
     """If `clap` refuses an argument, its message goes to standard error, with status 1."""
     for words, told in table("words"):
         status, output, messages = room.run(words.split())
-        same(f"{words}", (status, output), (1, b""))
-        see(f"{words}: its line", messages.decode().startswith(told), messages[:80])
+        check_equal(f"{words}", (status, output), (1, b""))
+        check(f"{words}: its line", messages.decode().startswith(told), messages[:80])
     run("a word that is not UTF-8", [b"-p", b"\xff"], ["error: invalid data"])
 
 
@@ -105,7 +107,7 @@ def no_update_is_begun():
     # (over standard streams frames would be the output)
     for (words, told), port in itertools.product(rows, [STDIO, EMULATED]):
         refused(f"{port[3]} {words}", [*port, *words.split()], told)
-        same(f"{port[3]} {words}: the file of the read", room.read("out.h"), None)
+        check_equal(f"{port[3]} {words}: the file of the read", room.read("out.h"), None)
 
 
 def images_are_taken():
@@ -162,7 +164,7 @@ def nothing_is_written():
     words = [*EMULATED, *"-n -e -U lfuse:w:0xE2:m -U lfuse:v:0xFF:m -U lfuse:r:-:h -U flash:w:empty.bin".split()]
     told = [*(f"lfuse: 1 bytes {it}" for it in ["not written", "verified", "read"]), "flash: 0 bytes not written"]
     run("-n", words, [SIGNATURE, "warning: chip not erased because of -n", *told, DONE], 0, b"0xff\n")
-    same("-n: the chip is as it was", room.read("chip.bin"), b"\xff" * CHIP_FILE)
+    check_equal("-n: the chip is as it was", room.read("chip.bin"), b"\xff" * CHIP_FILE)
     told = [SIGNATURE, "error: lfuse: address 00000000: E2 expected, FF found"]
     run("-n and a comparison that differs", [*EMULATED, "-n", "-U", "lfuse:v:0xE2:m"], told)
 
@@ -177,7 +179,7 @@ def replies_are_bad():
     for name, words, replies, told, frames in cases:
         room.clear()
         status, output, messages = room.run([*STDIO, *words.split()], replies)
-        same(name, (status, messages, frames_in(output)), (int("error: " in told), lines_of(told), frames))
+        check_equal(name, (status, messages, frames_in(output)), (int("error: " in told), lines_of(told), frames))
         met.update(told.split("; "))
 
 
@@ -191,7 +193,7 @@ def the_named_host_is_called():
     """`net:` connects to the host that it names, and sends the frames there."""
     peer = Elsewhere(REPLIES, resets=False)
     run("another host", [*PART, "-P", f"net:127.0.0.2:{peer.port}"], [SIGNATURE, DONE], 0)
-    same("what it received", peer.end(), FRAMES)
+    check_equal("what it received", peer.end(), FRAMES)
 
 
 def traced(call):
@@ -210,20 +212,20 @@ def nobody_else_is_called():
     for words, given, wanted in [(STDIO, REPLIES, []), (EMULATED, b"", []), (over_net, b"", named)]:
         room.clear()
         started = room.start(words, subprocess.PIPE, **tracing("-e", f"trace={calls}"))
-        same(f"{words}", started.communicate(given, PATIENCE)[1], lines(SIGNATURE, DONE))
+        check_equal(f"{words}", started.communicate(given, PATIENCE)[1], lines(SIGNATURE, DONE))
         timed = traced(r'SO_(RCV|SND)TIMEO\w*, "\\(\w)\\0')
         seconds = [("RCV", "1"), ("SND", "n")] if wanted else []
-        same(f"{words}: a read times out after 1 second, a write after 10", timed, seconds)
+        check_equal(f"{words}: a read times out after 1 second, a write after 10", timed, seconds)
         found = [it for it in traced(r"^(\w+\(.*)") if "TIMEO" not in it]
-        see(f"{words}: its calls", len(found) == len(wanted), found)
+        check(f"{words}: its calls", len(found) == len(wanted), found)
         for it, (call, told) in zip(found, wanted):
-            see(f"{words}: {call}", it.startswith(f"{call}(") and told in it, it)
-    same("what the peer received", peer.end(), FRAMES)
+            check(f"{words}: {call}", it.startswith(f"{call}(") and told in it, it)
+    check_equal("what the peer received", peer.end(), FRAMES)
     room.clear()
     with Server(room, **tracing("-e", "trace=setsockopt")) as server:
         server.call().close()
-        same("a caller that says nothing", server.end()[0], 0)
-    same("replies are sent without delay, too", len(traced(r"TCP_NODELAY, \[1\], 4\) = 0")), 1)
+        check_equal("a caller that says nothing", server.end()[0], 0)
+    check_equal("replies are sent without delay, too", len(traced(r"TCP_NODELAY, \[1\], 4\) = 0")), 1)
 
 
 def ports_are_refused():
@@ -260,8 +262,8 @@ def a_line_is_one_write():
         started = room.start(words, **tracing("-e", "trace=write"))
         messages = started.communicate(timeout=PATIENCE)[1].splitlines(keepends=True)
         written = traced(r"^write\(2, .* = (\d+)$")
-        same(f"the writes of {words[4]}", [int(it) for it in written], [len(it) for it in messages])
-        same(f"the lines of {words[4]}", len(messages), count)
+        check_equal(f"the writes of {words[4]}", [int(it) for it in written], [len(it) for it in messages])
+        check_equal(f"the lines of {words[4]}", len(messages), count)
 
 
 def runs_share_a_log():
@@ -272,9 +274,9 @@ def runs_share_a_log():
         runs = [room.start([*PART, "-P", f"emu:chip{number}.bin", *words], stderr=log) for number in range(50)]
         for started in runs:
             started.communicate(timeout=PATIENCE)
-            same("a run", started.returncode, 0)
+            check_equal("a run", started.returncode, 0)
     told = [SIGNATURE, "lfuse: 1 bytes written", "lfuse: 1 bytes verified", "hfuse: 1 bytes verified", DONE]
-    same("the log", sorted((room.read("log") or b"").splitlines()), sorted(lines(*told).splitlines() * 50))
+    check_equal("the log", sorted((room.read("log") or b"").splitlines()), sorted(lines(*told).splitlines() * 50))
 
 
 def each_line_was_met():
@@ -289,9 +291,9 @@ def each_line_was_met():
                 file = next((it for it, ends in ELSEWHERE.items() if line.removeprefix("error: ") in ends), None)
                 if file:
                     end = line.split(": ")[-1]
-                    see(f"{file} has `{end}`", end in (TOP / "tests" / file).read_text())
+                    check(f"{file} has `{end}`", end in (TOP / "tests" / file).read_text())
                 else:
-                    see(f"the line `{line}` was met", any(re.fullmatch(pattern(line), it) for it in met))
+                    check(f"the line `{line}` was met", any(re.fullmatch(pattern(line), it) for it in met))
 
 
 def alternatives(texts):

@@ -14,7 +14,7 @@ Not proved: The promise says nothing about most of these runs.
 import sys
 import time
 
-from cases import named, run_cases, same, see
+from cases import check, check_equal, named, run_cases
 from line import Link, frames_of
 from program import Room, Server, frame, lines, xor
 from records import hex_of
@@ -116,11 +116,11 @@ def a_verified_run_is_wrong():
     ]:
         line = Line(chip_of(made_contents(first, read)), pauses=reply_to_read(read))
         found, chip = line.run(*words)
-        see(f"{name} over a pause: status 0", line.paused and found == (0, lines(SIGNATURE, *told, "done")), found)
-        see(f"{name}: the chip has another byte", chip[0] == first, chip[:1])
+        check(f"{name} over a pause: status 0", line.paused and found == (0, lines(SIGNATURE, *told, "done")), found)
+        check(f"{name}: the chip has another byte", chip[0] == first, chip[:1])
     file = room.read("out.bin")
     others = sum(one != other for one, other in zip(file, chip))
-    see("the file isn't the chip", len(file) == FLASH and 0 < others < 256, (len(file), others))
+    check("the file isn't the chip", len(file) == FLASH and 0 < others < 256, (len(file), others))
 
 
 def without_a_pause_all_is_seen():
@@ -128,12 +128,12 @@ def without_a_pause_all_is_seen():
     line = Line(chip_of(made_contents(0xAA, 7)))
     found, _ = line.run("-U", "flash:v:image.hex:i")
     told = lines(SIGNATURE, "error: flash: address 00000000: 55 expected, AA found")
-    same("without the pause the difference is reported", found, (1, told))
+    check_equal("without the pause the difference is reported", found, (1, told))
     line = Line(chip_of(bytes((place * 37 + 11) % 256 for place in range(256))), pauses=reply_to_read(7))
     found, chip = line.run("-A", "-U", "flash:r:out.bin:r")
     told = lines(SIGNATURE, f"flash: {FLASH} bytes read", "done")
-    see("other contents heal over the pause", line.paused and found == (0, told), found)
-    see("and the file is the chip", room.read("out.bin") == chip[:FLASH])
+    check("other contents heal over the pause", line.paused and found == (0, told), found)
+    check("and the file is the chip", room.read("out.bin") == chip[:FLASH])
 
 
 def a_spoiled_size_swallows_frames():
@@ -143,9 +143,9 @@ def a_spoiled_size_swallows_frames():
     line = Line(content + b"\xff" * REST, spoil=lambda number, it: it[:3] + b"\x20" + it[4:] if number == 8 else it)
     room.put("image.bin", content)
     found, chip = line.run("-U", "flash:v:image.bin:r")
-    same("a spoiled size: `no answer`, status 1", found, (1, lines(SIGNATURE, "error: no answer")))
-    see("the refusal of it came late", frame(8, b"\xb0\xc1") in line.came)
-    see("and the chip is as it was", chip[:FLASH] == content)
+    check_equal("a spoiled size: `no answer`, status 1", found, (1, lines(SIGNATURE, "error: no answer")))
+    check("the refusal of it came late", frame(8, b"\xb0\xc1") in line.came)
+    check("and the chip is as it was", chip[:FLASH] == content)
 
 
 # an ATtiny85 with twice its flash
@@ -191,9 +191,11 @@ def a_reply_of_an_earlier_run_is_taken():
     told = lines(SIGNATURE, "lfuse: 1 bytes verified", "done")
     first = Keeps(with_lfuse(0x62))
     found, chip = first.run("-U", "lfuse:v:0x62:m")
-    same("the first run reads the fuse again", (found, chip[LFUSE]), ((0, told), 0x62))
+    check_equal("the first run reads the fuse again", (found, chip[LFUSE]), ((0, told), 0x62))
     found, chip = Keeps(with_lfuse(0xE2), first.kept).run("-U", "lfuse:v:0x62:m")
-    same("the second one takes the old reply: status 0, and another fuse", (found, chip[LFUSE]), ((0, told), 0xE2))
+    check_equal(
+        "the second one takes the old reply: status 0, and another fuse", (found, chip[LFUSE]), ((0, told), 0xE2)
+    )
 
 
 def a_part_with_too_much_flash():
@@ -210,8 +212,8 @@ def a_part_with_too_much_flash():
     told = lines(
         SIGNATURE, "chip erased", f"flash: {2 * FLASH} bytes written", f"flash: {2 * FLASH} bytes verified", "done"
     )
-    see("twice the flash: status 0 and `verified`", (status, messages) == (0, told), (status, messages))
-    see("and the chip has half of the image", (room.read("chip.bin") or b"")[:FLASH] == flash)
+    check("twice the flash: status 0 and `verified`", (status, messages) == (0, told), (status, messages))
+    check("and the chip has half of the image", (room.read("chip.bin") or b"")[:FLASH] == flash)
 
 
 CASES = named(

@@ -18,7 +18,7 @@ import sys
 import tempfile
 from pathlib import Path
 
-from cases import VERSION, leave_out, named, run_cases, same, see, table as rows_of
+from cases import VERSION, check, check_equal, leave_out, named, run_cases, table as rows_of
 from program import PROGRAM, TOP
 
 sys.path.append(str(TOP / "tools"))
@@ -68,7 +68,7 @@ def shown_runs(file):
             # (tests/recipes.py runs the commands without shown output)
             if wanted:
                 failed = any(it.startswith("avrstk: error: ") for it in wanted)
-                see(f"{file}: {row}", ran.returncode == failed and wanted == printed, printed)
+                check(f"{file}: {row}", ran.returncode == failed and wanted == printed, printed)
 
 
 def differences_hold():
@@ -92,8 +92,10 @@ def differences_hold():
             ran = subprocess.run([PROGRAM, *words.split()], cwd=folder, capture_output=True, text=True)
             told = told.replace("LENGTH", str(len(files["noted.hex"])))
             is_told = told in ran.stderr if told else not ran.stderr
-            see(words, ran.returncode == int(status) and is_told, ran)
-        same("one byte of EEPROM", Path(folder, "read.bin").read_bytes(), b"\xff" * 100 + b"\x2a" + b"\xff" * 923)
+            check(words, ran.returncode == int(status) and is_told, ran)
+        check_equal(
+            "one byte of EEPROM", Path(folder, "read.bin").read_bytes(), b"\xff" * 100 + b"\x2a" + b"\xff" * 923
+        )
 
 
 # the headings of a page, in this order, with others between OPTIONS and ENVIRONMENT; those of a page that is no
@@ -113,14 +115,14 @@ def pages_are_whole():
         text = file.read_text()
         title = re.escape(escaped(name.upper()))
         head = rf'\.TH {title} {SECTIONS[name]} \d{{4}}-\d\d-\d\d "avrstk {re.escape(VERSION)}" '
-        see(f"{name} has its name, a date and the version", re.match(head, text), text.splitlines()[0])
+        check(f"{name} has its name, a date and the version", re.match(head, text), text.splitlines()[0])
         headings = [it for it in re.findall(r"^\.SH (.*)", text, re.M) if it in HEADINGS]
-        same(f"{name} has its headings", headings, HEADINGS if SECTIONS[name] == 1 else COMMON)
+        check_equal(f"{name} has its headings", headings, HEADINGS if SECTIONS[name] == 1 else COMMON)
         shown = re.sub(r'^\.\\".*|\\f.|\\(?=-)', "", text, flags=re.M)
-        same(f"{name} names what is installed", NOT_INSTALLED.findall(shown), [])
+        check_equal(f"{name} names what is installed", NOT_INSTALLED.findall(shown), [])
         others = {escaped(it) for it in PAGES if it != name}
         named = set(re.findall(r"^\.BR (\S+) \([17]\)", text.split("\n.SH SEE ALSO\n")[1], re.M))
-        see(f"{name} names the other pages", others <= named, named)
+        check(f"{name} names the other pages", others <= named, named)
 
 
 def pages_have_the_options():
@@ -133,8 +135,8 @@ def pages_have_the_options():
         wanted = {it for row in rows for it in re.findall(r"(?<![\w-])--?[\w?][\w-]*", row)}
         tags = re.findall(r"^\.T[PQ]\n(.*)", PAGES[name].read_text(), re.M)
         found = set(re.findall(r"(?<![\w-])--?[\w?][\w-]*", " ".join(tags).replace("\\-", "-").replace("\\fB", " ")))
-        see(f"{name} --help names options", not ran.returncode and wanted, ran)
-        same(f"{name} has the options of --help", wanted - found, set())
+        check(f"{name} --help names options", not ran.returncode and wanted, ran)
+        check_equal(f"{name} has the options of --help", wanted - found, set())
 
 
 def pages_are_clean():
@@ -142,17 +144,17 @@ def pages_are_clean():
     if shutil.which("mandoc"):
         for name, file in PAGES.items():
             ran = subprocess.run(["mandoc", "-T", "lint", file], capture_output=True, text=True)
-            same(f"mandoc's findings in {name}", (ran.returncode, ran.stdout), (0, ""))
+            check_equal(f"mandoc's findings in {name}", (ran.returncode, ran.stdout), (0, ""))
     else:
         leave_out("the man pages as mandoc takes them", "mandoc is not installed")
     if not shutil.which("groff"):
         return leave_out("the man pages as groff shows them", "groff is not installed")
     for name, file in PAGES.items():
         ran = subprocess.run(["groff", "-ww", "-man", "-Tutf8", "-rLL=100n", file], capture_output=True, text=True)
-        see(f"{name} is without warnings", not ran.returncode and not ran.stderr, ran.stderr[:300])
+        check(f"{name} is without warnings", not ran.returncode and not ran.stderr, ran.stderr[:300])
         plain = re.sub(r"\x1b\[[0-9;]*m|.\x08", "", ran.stdout)
-        see(f"{name} shows commands as they are typed", re.search(r"\n           avrstk\S* -", plain))
-        see(f"{name} shows no mark of the manual", "`" not in plain and "**" not in plain)
+        check(f"{name} shows commands as they are typed", re.search(r"\n           avrstk\S* -", plain))
+        check(f"{name} shows no mark of the manual", "`" not in plain and "**" not in plain)
 
 
 def examples_of(name):
@@ -172,7 +174,7 @@ def examples_run():
                 continue
             words = [str(TOP / "parts/classic.toml") if it.endswith("/classic.toml") else it for it in words]
             ran = subprocess.run([PROGRAM, *words[1:]], cwd=folder, capture_output=True, text=True)
-            see(" ".join(words), ran.returncode == 0 and ran.stderr.endswith("avrstk: done\n"), ran)
+            check(" ".join(words), ran.returncode == 0 and ran.stderr.endswith("avrstk: done\n"), ran)
 
 
 # where else each option's letter stands, and how
@@ -189,31 +191,31 @@ def names_agree():
     options, shown = of_help()
     completions = (TOP / "completions/avrstk.bash").read_text()
     completed = re.search(r'"(-p [^"]*)"', completions)[1].split()
-    same("the options of USAGE are those of --help", of_usage(), options)
-    same("the completions are those of --help", set(completed), {name for name, _ in options})
+    check_equal("the options of USAGE are those of --help", of_usage(), options)
+    check_equal("the completions are those of --help", set(completed), {name for name, _ in options})
     letters = {name[1] for name, _ in options if len(name) == 2}
     for file, form in LETTERS.items():
         found = {it for match in re.findall(form, (TOP / file).read_text()) for it in match}
-        same(f"{file} has the letters of --help", letters - found, set())
-    see("--help names the built-in parts", ", ".join(parts()[:-1]) in shown and parts()[-1] in shown, parts())
+        check_equal(f"{file} has the letters of --help", letters - found, set())
+    check("--help names the built-in parts", ", ".join(parts()[:-1]) in shown and parts()[-1] in shown, parts())
     in_clone, installed = re.findall(r"--parts (\S+\.toml)", shown)
-    see("--help names the part file of a clone", (TOP / in_clone).is_file(), in_clone)
-    see(
+    check("--help names the part file of a clone", (TOP / in_clone).is_file(), in_clone)
+    check(
         "--help names the package's part file as its man page does",
         f"\n.I {installed}\n" in PAGES["avrstk"].read_text(),
         installed,
     )
-    see("USAGE names the built-in parts", all(f"`{it}` (AT" in USAGE.read_text() for it in parts()), parts())
-    see("the completions have the built-in parts", f'"{" ".join(parts())}"' in completions, parts())
+    check("USAGE names the built-in parts", all(f"`{it}` (AT" in USAGE.read_text() for it in parts()), parts())
+    check("the completions have the built-in parts", f'"{" ".join(parts())}"' in completions, parts())
 
 
 def version_agrees():
     """The help and the newest entry of CHANGELOG have the version in VERSION. (tests/from_c.py has that of the header
     for C.)"""
     _, shown = of_help()
-    see("--help shows the version", f"This is avrstk {VERSION}." in " ".join(shown.split()), shown[-200:])
+    check("--help shows the version", f"This is avrstk {VERSION}." in " ".join(shown.split()), shown[-200:])
     newest = re.search(r"^## ([0-9.]+)|^No version .* will be ([0-9.]+\d)", (TOP / "CHANGELOG.md").read_text(), re.M)
-    same("the newest changes are its own", newest[1] or newest[2], VERSION)
+    check_equal("the newest changes are its own", newest[1] or newest[2], VERSION)
 
 
 def runs_of_readme():
@@ -253,20 +255,20 @@ def each_word_of_help():
         brief, whole = (
             subprocess.run([TOP / name, it], capture_output=True, text=True).stdout for it in ("-h", "--help")
         )
-        same(f"{name} --help has {COLUMNS} columns", [it for it in whole.splitlines() if len(it) > COLUMNS], [])
-        see(f"{name} -h fits a screen", 10 < len(brief.splitlines()) <= LINES, brief)
-        see(f"{name} --help begins with -h", whole.startswith(brief), brief)
+        check_equal(f"{name} --help has {COLUMNS} columns", [it for it in whole.splitlines() if len(it) > COLUMNS], [])
+        check(f"{name} -h fits a screen", 10 < len(brief.splitlines()) <= LINES, brief)
+        check(f"{name} --help begins with -h", whole.startswith(brief), brief)
         for it in needed:
-            see(f"{name} -h says that {it}is needed", re.search(rf"^  {it}.*required", brief, re.M), brief)
+            check(f"{name} -h says that {it}is needed", re.search(rf"^  {it}.*required", brief, re.M), brief)
         own = [it.removeprefix(f"{name} ") for it, _ in rows if it.startswith(f"{name} ")]
         for said in stated_by(whole):
-            see(f"{name} --help: a row has: {said}", any(said.startswith(it) for it in own))
+            check(f"{name} --help: a row has: {said}", any(said.startswith(it) for it in own))
         for it in own:
-            see(f"{name} --help has: {it}", any(said.startswith(it) for said in stated_by(whole)))
+            check(f"{name} --help has: {it}", any(said.startswith(it) for said in stated_by(whole)))
     for _, case in rows:
         script, function = case.split()
         text = (TOP / f"tests/{script}.py").read_text()
-        see(f"there is the case {case}", re.search(rf"^def {function}\(\):", text, re.M))
+        check(f"there is the case {case}", re.search(rf"^def {function}\(\):", text, re.M))
 
 
 # the program that the scripts run
@@ -283,8 +285,8 @@ def letters_of_avrdude():
     if shutil.which("avrdude"):
         shown = subprocess.run(["avrdude", "-?"], capture_output=True, text=True).stderr
         wanted = set(re.findall(r"^  (-\S) ", shown, re.M))
-        see("AVRDUDE has options", len(wanted) > 20, shown)
-        same("the options of AVRDUDE that the table lacks", wanted - set(told), set())
+        check("AVRDUDE has options", len(wanted) > 20, shown)
+        check_equal("the options of AVRDUDE that the table lacks", wanted - set(told), set())
     else:
         leave_out("the options of AVRDUDE", "it is not installed")
     with tempfile.TemporaryDirectory() as folder:
@@ -294,7 +296,7 @@ def letters_of_avrdude():
                 words = [program, *(it for pair in own.items() for it in pair), *([] if letter in own else [letter])]
                 ran = subprocess.run(words, cwd=folder, capture_output=True, text=True, env=os.environ | AVRSTK)
                 found = "refused" if ran.returncode else "ignored" if "ignored: " in ran.stderr else "accepted"
-                same(f"{program.name} {letter}", found, re.match(r"\w+", kind)[0])
+                check_equal(f"{program.name} {letter}", found, re.match(r"\w+", kind)[0])
 
 
 PAGES_HOLD = [pages_are_whole, pages_have_the_options, pages_are_clean, examples_run]

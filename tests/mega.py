@@ -22,7 +22,7 @@ import sys
 from pathlib import Path
 
 from avrdude import drawn, updates
-from cases import PATIENCE, leave_out, named, run_cases, same, see
+from cases import PATIENCE, check, check_equal, leave_out, named, run_cases
 from line import Link, frames_of
 from program import PROGRAM, TOP, Room, frame, lines
 from records import hex_of, image_of
@@ -71,8 +71,8 @@ class Board:
         flash = self.flash()
         wanted = application + b"\xff" * (BOOT - len(application))
         differ = [at for at in range(BOOT) if flash[at] != wanted[at]]
-        see(f"{what}: the chip's flash", not differ, f"{len(differ)} bytes differ, at {differ[:8]}")
-        same(f"{what}: the chip's boot section", flash[BOOT:], bootloader())
+        check(f"{what}: the chip's flash", not differ, f"{len(differ)} bytes differ, at {differ[:8]}")
+        check_equal(f"{what}: the chip's boot section", flash[BOOT:], bootloader())
 
 
 def bootloader():
@@ -109,12 +109,12 @@ def written_and_read():
         board.room.put("image.bin", image)
         ended = board.run(["-D", *updates("flash:w:image.bin:r")])
         texts = [SIGNATURE, "flash: 140000 bytes written", "flash: 140000 bytes verified", "done"]
-        same("written", ended, (0, lines(*texts)))
+        check_equal("written", ended, (0, lines(*texts)))
         board.holds("written", image)
         ended = board.run(updates("flash:r:back.bin:r"))
         wanted = board.flash().rstrip(b"\xff")
-        same("read", ended, (0, lines(SIGNATURE, f"flash: {len(wanted)} bytes read", "done")))
-        same("what was read", board.room.read("back.bin"), wanted)
+        check_equal("read", ended, (0, lines(SIGNATURE, f"flash: {len(wanted)} bytes read", "done")))
+        check_equal("what was read", board.room.read("back.bin"), wanted)
 
 
 def another_image():
@@ -124,7 +124,7 @@ def another_image():
         board.room.put("other.bin", image[:700] + bytes([image[700] ^ 1]) + image[701:])
         text = f"error: flash: address {700:08X}: {image[700] ^ 1:02X} expected, {image[700]:02X} found"
         ended = board.run(updates("flash:v:other.bin:r"))
-        same("another image", ended, (1, lines(SIGNATURE, text)))
+        check_equal("another image", ended, (1, lines(SIGNATURE, text)))
         board.holds("another image", image)
 
 
@@ -137,8 +137,8 @@ def lost_bytes():
             line = LosingLine(board, way, place)
             ended = board.run(["-D", "-V", *updates("flash:w:image.bin:r")], line.port)
             what = f"byte {place} {way} is lost"
-            same(what, ended, (0, lines(SIGNATURE, "flash: 1000 bytes written", "done")))
-            see(f"{what}: it was", line.lost is not None)
+            check_equal(what, ended, (0, lines(SIGNATURE, "flash: 1000 bytes written", "done")))
+            check(f"{what}: it was", line.lost is not None)
             board.holds(what, image)
 
 
@@ -149,7 +149,7 @@ def reset_by_the_connection():
             image = drawn(seed, 1_024)
             board.room.put("image.bin", image)
             ended = board.run(["-D", "-V", *updates("flash:w:image.bin:r")])
-            same(f"reset, {seed}", ended, (0, lines(SIGNATURE, "flash: 1024 bytes written", "done")))
+            check_equal(f"reset, {seed}", ended, (0, lines(SIGNATURE, "flash: 1024 bytes written", "done")))
             board.holds(f"reset, {seed}", image)
 
 
@@ -160,13 +160,13 @@ def erased_from_the_front():
     with Board(old) as board:
         board.room.put("further.hex", hex_of([(0x1000, image)]))
         ended = board.run(["-D", "-V", *updates("flash:w:further.hex:i")])
-        same("an image further on", ended, (0, lines(SIGNATURE, "flash: 1024 bytes written", "done")))
+        check_equal("an image further on", ended, (0, lines(SIGNATURE, "flash: 1024 bytes written", "done")))
         board.holds("an image further on", b"\xff" * 1_024 + old[1_024:0x1000] + image + old[0x1400:])
     with Board(old) as board:
         board.room.put("image.bin", image)
         line = LosingLine(board, "down", 80)
         ended = board.run(["-D", "-V", *updates("flash:w:image.bin:r")], line.port)
-        same("a page sent again", ended, (0, lines(SIGNATURE, "flash: 1024 bytes written", "done")))
+        check_equal("a page sent again", ended, (0, lines(SIGNATURE, "flash: 1024 bytes written", "done")))
         board.holds("a page sent again", image + b"\xff" * PAGE + old[1_024 + PAGE :])
 
 
@@ -177,11 +177,11 @@ def eeprom():
         board.room.put("short.bin", drawn("short", 256))
         ended = board.run(["-D", *updates("eeprom:w:short.bin:r")])
         texts = [SIGNATURE, "eeprom: 256 bytes written", "eeprom: 256 bytes verified", "done"]
-        same("EEPROM of 256 bytes", ended, (0, lines(*texts)))
+        check_equal("EEPROM of 256 bytes", ended, (0, lines(*texts)))
         board.room.put("long.bin", drawn("long", 600))
         status, messages = board.run(["-D", *updates("eeprom:w:long.bin:r")])
         front = lines(SIGNATURE, "eeprom: 600 bytes written") + b"avrstk: error: eeprom: address 00000100: "
-        same("EEPROM of 600 bytes", (status, messages[: len(front)]), (1, front))
+        check_equal("EEPROM of 600 bytes", (status, messages[: len(front)]), (1, front))
 
 
 def refused():
@@ -197,7 +197,7 @@ def refused():
         board.room.put("image.bin", drawn("another", 1_000))
         for what, (words, command) in asked.items():
             text = f"error: command {command} refused with status C0"
-            same(what, board.run(words), (1, lines(SIGNATURE, text)))
+            check_equal(what, board.run(words), (1, lines(SIGNATURE, text)))
             board.holds(what, image)
 
 
@@ -206,10 +206,10 @@ def lock():
     with Board() as board:
         texts = [SIGNATURE, "lock: 1 bytes written"]
         ended = board.run(["-D", "-V", *updates("lock:w:0xFC:m")])
-        same("the lock, not compared", ended, (0, lines(*texts, "done")))
+        check_equal("the lock, not compared", ended, (0, lines(*texts, "done")))
         status, messages = board.run(["-D", *updates("lock:w:0xFC:m")])
         front = lines(*texts) + b"avrstk: error: lock: address 00000000: FC expected, "
-        same("the lock", (status, messages[: len(front)]), (1, front))
+        check_equal("the lock", (status, messages[: len(front)]), (1, front))
 
 
 def bodies(draw):
@@ -263,7 +263,7 @@ def exchanged(link, number, body, noise=b""):
     """Sends a command, after other bytes, and returns the reply's body."""
     link.sendall(noise + frame(number, body))
     reply = next(frames_of(link))
-    same("the reply's number", reply[1], number % 256)
+    check_equal("the reply's number", reply[1], number % 256)
     return reply[5:-1]
 
 
@@ -282,13 +282,13 @@ def the_double():
                 for number, (body, compared) in enumerate(bodies(random.Random(1)), 1):
                     noise = [b"", b"noise", b"\x1b\7\0\1\x0f", spoiled][number % 4]
                     found, wanted = (exchanged(it, number, body, noise)[compared or slice(None)] for it in (ours, real))
-                    same(f"command {number}, {body[:6].hex(' ')}", found, wanted)
+                    check_equal(f"command {number}, {body[:6].hex(' ')}", found, wanted)
             board.started.stdout.readline()
             double.terminate()
-        same("the double's status", double.returncode, 0)
+        check_equal("the double's status", double.returncode, 0)
         differ = [at for at in range(BOOT) if board.flash()[at] != room.read("double.bin")[at]]
-        see("the flash", not differ, differ[:8])
-        see("something was written", board.flash()[:BOOT] != old[:BOOT])
+        check("the flash", not differ, differ[:8])
+        check("something was written", board.flash()[:BOOT] != old[:BOOT])
 
 
 def board_chip(flash):

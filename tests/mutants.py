@@ -18,7 +18,7 @@ import tempfile
 from concurrent.futures import ThreadPoolExecutor
 from pathlib import Path
 
-from cases import PATIENCE, TOP, ended, leave_out, own_environment, see, table
+from cases import PATIENCE, TOP, check, ended, leave_out, own_environment, table
 
 # the table that chooses an edit: as many marks as its number. It is long and not uniform, so that no compiler reads it
 # beforehand
@@ -77,7 +77,7 @@ def built(folder, rows):
     log = folder / "out/avrstk.log"
     detail = found.stderr + (log.read_text()[-2000:] if log.exists() else "")
     program = folder / "out/unproved/avrstk"
-    return program.read_bytes() if see("the program with all edits is built", found.returncode == 0, detail) else None
+    return program.read_bytes() if check("the program with all edits is built", found.returncode == 0, detail) else None
 
 
 def put_program(path, program, number):
@@ -104,7 +104,7 @@ def passes(path, case):
     if lacks:
         leave_out(f"the mutants of {case}", lacks[1])
         return False
-    return see(f"{case}: it passes without an edit", status == 0, output[-600:])
+    return check(f"{case}: it passes without an edit", status == 0, output[-600:])
 
 
 def is_refused(folder, program, number, row):
@@ -113,7 +113,7 @@ def is_refused(folder, program, number, row):
     put_program(path, program, number)
     status, output = end_of(path, row[4])
     in_vain = re.search("Timeout(?:Error|Expired)", output)
-    see(f"{row[4]} sees {row[1]}: {row[2]}", status == 1 and "FAILED: " in output and not in_vain, output[-600:])
+    check(f"{row[4]} sees {row[1]}: {row[2]}", status == 1 and "FAILED: " in output and not in_vain, output[-600:])
     path.unlink()
 
 
@@ -134,7 +134,7 @@ def main():
     rows = table("mutants")
     with tempfile.TemporaryDirectory() as held:
         program = built(Path(held), rows)
-        if program and see("it has the table of numbers once", program.count(CHOSEN.encode()) == 1):
+        if program and check("it has the table of numbers once", program.count(CHOSEN.encode()) == 1):
             try_all(Path(held), program, rows)
     return ended()
 

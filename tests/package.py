@@ -19,7 +19,19 @@ import tempfile
 import time
 from pathlib import Path
 
-from cases import NUMBER, PATIENCE, SOMEBODY, VERSION, leave_out, named, own_environment, run_cases, same, see, table
+from cases import (
+    NUMBER,
+    PATIENCE,
+    SOMEBODY,
+    VERSION,
+    check,
+    check_equal,
+    leave_out,
+    named,
+    own_environment,
+    run_cases,
+    table,
+)
 from program import PROGRAM, TOP
 from recipes import Clone, blocks
 
@@ -137,10 +149,10 @@ def packages_are_the_same():
     arch = field(package("avrstk"), "Architecture")
     debs = [("avrstk", f"{VERSION}~unproved"), (f"libavr-records{NUMBER}", VERSION), ("libavr-records-dev", VERSION)]
     wanted = [f"avrstk-{VERSION}~unproved-{os.uname().machine}.tar.xz", *(f"{it}_{of}_{arch}.deb" for it, of in debs)]
-    same("the packages", sorted(one), sorted(wanted))
-    same("those of the other clone", sorted(two), sorted(one))
+    check_equal("the packages", sorted(one), sorted(wanted))
+    check_equal("those of the other clone", sorted(two), sorted(one))
     for name, content in one.items():
-        see(f"{name} is the same in both", two.get(name) == content)
+        check(f"{name} is the same in both", two.get(name) == content)
 
 
 def packages_say_what_they_are():
@@ -150,17 +162,17 @@ def packages_say_what_they_are():
         told = field(package(name), "Description")
         flat = " ".join(told.split())
         mark, proof = (" (unproved build)", UNPROVED) if name == "avrstk" else ("", PROVED)
-        see(f"{name} is marked in its first line or not", told.splitlines()[0].endswith(mark), told)
-        same(f"{name} states once what is proved", flat.count(f"{proof}, by {KIT}. "), 1)
-        same(f"{name} states whether it is unproved", "unproved" in flat.lower(), bool(mark))
-        see(f"{name} has the commit", f"Commit {made()[0].commit()}" in flat, told)
+        check(f"{name} is marked in its first line or not", told.splitlines()[0].endswith(mark), told)
+        check_equal(f"{name} states once what is proved", flat.count(f"{proof}, by {KIT}. "), 1)
+        check_equal(f"{name} states whether it is unproved", "unproved" in flat.lower(), bool(mark))
+        check(f"{name} has the commit", f"Commit {made()[0].commit()}" in flat, told)
     depends = field(package("avrstk"), "Depends")
-    see(
+    check(
         "avrstk depends on libc6 and Python", re.match(r"libc6 \(>= 2\.\d+\).*, python3 \(>= 3\.8\)$", depends), depends
     )
-    see("the library depends on libc6", field(package(f"libavr-records{NUMBER}"), "Depends").startswith("libc6"))
+    check("the library depends on libc6", field(package(f"libavr-records{NUMBER}"), "Depends").startswith("libc6"))
     needed = f"libavr-records{NUMBER} (= {VERSION})"
-    same("who develops needs the library", field(package("libavr-records-dev"), "Depends"), needed)
+    check_equal("who develops needs the library", field(package("libavr-records-dev"), "Depends"), needed)
 
 
 def a_proved_program_is_not_marked():
@@ -177,19 +189,19 @@ def a_proved_program_is_not_marked():
     with open(clone.top / "README.md", "a") as readme:
         readme.write("changed\n")
     status, told = ended(clone.start())
-    same("two packages are made", (status, re.findall("^made", told, re.M)), (0, ["made"] * 2))
+    check_equal("two packages are made", (status, re.findall("^made", told, re.M)), (0, ["made"] * 2))
     found = package("avrstk")
     description = field(found, "Description")
-    same("its version", field(found, "Version"), VERSION)
-    see("it has no mark", "unproved" not in description.lower(), description)
+    check_equal("its version", field(found, "Version"), VERSION)
+    check("it has no mark", "unproved" not in description.lower(), description)
     flat = " ".join(description.split())
-    see("it states that it is proved", f"{PROGRAMS_PROVED} by {KIT}." in flat, description)
-    see("and of changes", f"Commit {made()[0].commit()}, with changes since." in flat, description)
+    check("it states that it is proved", f"{PROGRAMS_PROVED} by {KIT}." in flat, description)
+    check("and of changes", f"Commit {made()[0].commit()}, with changes since." in flat, description)
     shutil.copy(clone.top / "out/unproved/avrstk", program)
     status, told = ended(clone.start(AVRSTK=str(program)))
     (found,) = clone.made.glob("avrstk_*~unproved_*.deb")
     description = " ".join(field(found, "Description").split())
-    see(
+    check(
         "the unproved program in the proved one's place is marked",
         UNPROVED in description and PROGRAMS_PROVED not in description,
         told,
@@ -214,25 +226,25 @@ def packages_hold_what_is_installed():
         docs = ["built-from", "changelog.gz", "copyright"]
         own = [*docs, "examples/blink.hex", *(f"{it}.md" for it in DOCUMENTS)]
         found = unpacked("avrstk", Path(folder, "avrstk"))
-        same("avrstk", found, sorted([*wanted, *(f"usr/share/doc/avrstk/{it}" for it in own)]))
+        check_equal("avrstk", found, sorted([*wanted, *(f"usr/share/doc/avrstk/{it}" for it in own)]))
         name = f"libavr-records{NUMBER}"
         wanted = [f"usr/lib/libavr_records.so.{NUMBER}", *(f"usr/share/doc/{name}/{it}" for it in docs)]
-        same(name, unpacked(name, Path(folder, "shared")), wanted)
+        check_equal(name, unpacked(name, Path(folder, "shared")), wanted)
         wanted = [*DEVELOPMENT, *(f"usr/share/doc/libavr-records-dev/{it}" for it in docs)]
-        same("libavr-records-dev", unpacked("libavr-records-dev", Path(folder, "dev")), wanted)
+        check_equal("libavr-records-dev", unpacked("libavr-records-dev", Path(folder, "dev")), wanted)
         copyright = Path(folder, "avrstk/usr/share/doc/avrstk/copyright").read_text()
-        see("the package states that there is no licence", "There is no licence yet." in copyright, copyright)
+        check("the package states that there is no licence", "There is no licence yet." in copyright, copyright)
         told = Path(folder, "avrstk/usr/share/doc/avrstk/built-from").read_text()
-        see("and what it was built from", all(it in told for it in [KIT, made()[0].commit(), UNPROVED]), told)
+        check("and what it was built from", all(it in told for it in [KIT, made()[0].commit(), UNPROVED]), told)
         modes = {it: oct((Path(folder, "avrstk") / it).stat().st_mode & 0o777) for it in found}
         programs = {it for it, mode in modes.items() if mode == "0o755"}
         wanted = {it for it in found if it.startswith(("usr/bin/", "usr/lib/")) and not it.endswith((".py", ".stamp"))}
-        same("programs alone can be run", programs, wanted)
+        check_equal("programs alone can be run", programs, wanted)
         first = {
             (Path(folder, "avrstk/usr/bin") / it).read_text().split("\n")[0] for it in ["avrstk-serial", "avrstk-serve"]
         }
-        same("the scripts name Debian's Python", first, {"#!/usr/bin/python3"})
-        same("all others can be read by everybody", {modes[it] for it in found if it not in programs}, {"0o644"})
+        check_equal("the scripts name Debian's Python", first, {"#!/usr/bin/python3"})
+        check_equal("all others can be read by everybody", {modes[it] for it in found if it not in programs}, {"0o644"})
 
 
 def runs(prefix, folder):
@@ -240,12 +252,12 @@ def runs(prefix, folder):
     how = {"cwd": folder, "env": own_environment(), "capture_output": True, "text": True, "timeout": PATIENCE}
     words = ["-p", "m328p", "-P", "emu:chip.bin", "-U", f"flash:w:{TOP}/examples/blink.hex:i"]
     ran = subprocess.run([prefix / "bin/avrstk", *words], **how)
-    same("avrstk", (ran.returncode, ran.stderr.splitlines()[-1:]), (0, ["avrstk: done"]))
+    check_equal("avrstk", (ran.returncode, ran.stderr.splitlines()[-1:]), (0, ["avrstk: done"]))
     for script in sorted(it.name for it in (prefix / "bin").iterdir() if it.name != "avrstk"):
         ran = subprocess.run([prefix / "bin" / script, "--help"], **how)
-        see(f"{script} --help", ran.returncode == 0 and script in ran.stdout, ran)
+        check(f"{script} --help", ran.returncode == 0 and script in ran.stdout, ran)
     ran = subprocess.run([prefix / "bin/avrstk-serial", "-p", "?"], **how)
-    see("avrstk-serial finds the part file", "ATmega32U4" in ran.stdout, ran)
+    check("avrstk-serial finds the part file", "ATmega32U4" in ran.stdout, ran)
 
 
 def slug(heading):
@@ -265,10 +277,10 @@ def documents_are_the_packages_own():
             for target in re.findall(r"\]\(([^)]*)\)", (docs / name).read_text()):
                 file, _, heading = target.partition("#")
                 is_there = heading in headings.get(file or name, {}) if heading else file in headings
-                see(f"the link to {target} in {name}", is_there)
-        see("commands name no repository", "$ ./" not in "".join((docs / it).read_text() for it in headings))
+                check(f"the link to {target} in {name}", is_there)
+        check("commands name no repository", "$ ./" not in "".join((docs / it).read_text() for it in headings))
         readme = (docs / "README.md").read_text()
-        see("its README is short", 15 <= readme.count("\n") <= 35, readme.count("\n"))
+        check("its README is short", 15 <= readme.count("\n") <= 35, readme.count("\n"))
         # the place of /usr in PATH; a folder that is no clone, with the firmware of the board
         Path(folder, "home").mkdir()
         Path(folder, "root/usr").rename(Path(folder, "home/.local"))
@@ -292,15 +304,15 @@ def package_is_installed_and_removed():
         dpkg = ["dpkg", f"--root={root}", "--force-not-root", "--force-depends", "--log=/dev/null"]
         how = {"capture_output": True, "text": True}
         ran = subprocess.run([*dpkg, "-i", *(package(it) for it in ["avrstk", f"libavr-records{NUMBER}"])], **how)
-        same("the status of dpkg -i", ran.returncode, 0) or print(ran.stderr)
+        check_equal("the status of dpkg -i", ran.returncode, 0) or print(ran.stderr)
         listed = subprocess.run(
             ["dpkg-query", f"--admindir={root}/var/lib/dpkg", "-W", "-f", "${Status} ", "avrstk"], **how
         )
-        same("dpkg has it", listed.stdout, "install ok installed ")
+        check_equal("dpkg has it", listed.stdout, "install ok installed ")
         runs(root / "usr", folder)
         ran = subprocess.run([*dpkg, "-P", "avrstk", f"libavr-records{NUMBER}"], **how)
-        same("the status of dpkg -P", ran.returncode, 0) or print(ran.stderr)
-        same("what is left", files(root / "usr") if (root / "usr").exists() else [], [])
+        check_equal("the status of dpkg -P", ran.returncode, 0) or print(ran.stderr)
+        check_equal("what is left", files(root / "usr") if (root / "usr").exists() else [], [])
 
 
 def archive_runs_anywhere():
@@ -309,7 +321,7 @@ def archive_runs_anywhere():
         (archive,) = made()[0].made.glob("*.tar.xz")
         subprocess.run(["tar", "-xf", archive], cwd=folder, check=True)
         name = archive.name.removesuffix(".tar.xz")
-        same("it has one folder", os.listdir(folder), [name])
+        check_equal("it has one folder", os.listdir(folder), [name])
         runs(Path(folder, name), folder)
 
 
@@ -319,7 +331,7 @@ def lintian_finds_no_error():
         return leave_out("the packages as lintian judges them", "lintian is not installed")
     debs = sorted(made()[0].made.glob("*.deb"))
     ran = subprocess.run(["lintian", "--fail-on", "error", *debs], capture_output=True, text=True)
-    see("lintian finds no error", ran.returncode == 0, ran.stdout + ran.stderr)
+    check("lintian finds no error", ran.returncode == 0, ran.stdout + ran.stderr)
 
 
 def refusals():
@@ -327,12 +339,12 @@ def refusals():
     clone = made()[1]
     nothing = f"{clone.folder}/nothing"
     told = f"package.sh: error: {nothing} is not there\n"
-    same("a program that is not there", ended(clone.start(AVRSTK=nothing)), (1, told))
+    check_equal("a program that is not there", ended(clone.start(AVRSTK=nothing)), (1, told))
     told = "package.sh: error: usage: tools/package.sh [--with-c] FOLDER\n"
-    same("an option that is not known", ended(clone.start("--other")), (1, told))
+    check_equal("an option that is not known", ended(clone.start("--other")), (1, told))
     (clone.top / "out/unproved/avrstk").unlink()
     status, told = ended(clone.start())
-    same("no program", (status, "avrstk: error: not built yet" in told), (1, True))
+    check_equal("no program", (status, "avrstk: error: not built yet" in told), (1, True))
 
 
 FROM_BOTH = [

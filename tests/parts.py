@@ -22,7 +22,7 @@ import tomllib
 from pathlib import Path
 
 from avrdude import Beside, Part as Sizes, updates
-from cases import leave_out, named, run_cases, same, sampled, see, table
+from cases import check, check_equal, leave_out, named, run_cases, sampled, table
 from program import TOP, Room
 
 CLASSIC = TOP / "parts/classic.toml"
@@ -219,17 +219,17 @@ def made_unsupported():
 
 def files_of_parts():
     """The files of parts/ are what their sources give, and docs/PARTS lists each part, or why it is left out."""
-    same("unsupported.txt, of docs/PARTS", UNSUPPORTED.read_text(), made_unsupported())
+    check_equal("unsupported.txt, of docs/PARTS", UNSUPPORTED.read_text(), made_unsupported())
     if not has_sources():
         return
     parts, without = sources()
-    same("classic.toml", CLASSIC.read_text(), made(parts))
-    same("bits.txt", BITS.read_text(), made_bits(parts))
+    check_equal("classic.toml", CLASSIC.read_text(), made(parts))
+    check_equal("bits.txt", BITS.read_text(), made_bits(parts))
     listed, others = PAGE.read_text().split("## The others")
     names = [it[2][""]["desc"].split()[0] for it in parts.values()]
-    same("docs/PARTS has the parts", set(re.findall(r"\bAT\w+\d\w*", listed)), set(names))
+    check_equal("docs/PARTS has the parts", set(re.findall(r"\bAT\w+\d\w*", listed)), set(names))
     for name in [it.split()[0] for names in without.values() for it in names]:
-        see(f"docs/PARTS gives the reason why {name} is not in", re.search(rf"\b{name}\b", others))
+        check(f"docs/PARTS gives the reason why {name} is not in", re.search(rf"\b{name}\b", others))
 
 
 def loaded():
@@ -244,9 +244,9 @@ def loaded():
         words = ["--parts", given, "-p", name, "-P", "emu:chip.bin", "-q", "-U", "signature:r:-:h"]
         status, output, told = room.run(words)
         read = bytes(int(text, 0) for text in re.split(rb"[\s,]+", output.strip())).hex().upper() if output else ""
-        see(f"{name} is loaded", (status, read) == (0, it["signature"]), (status, output, told))
+        check(f"{name} is loaded", (status, read) == (0, it["signature"]), (status, output, told))
         length = len(room.read("chip.bin") or b"")
-        see(f"{name}: the chip", length == it["flash_size"] + it["eeprom_size"] + 4, length)
+        check(f"{name}: the chip", length == it["flash_size"] + it["eeprom_size"] + 4, length)
 
 
 def values_of(part, drawn, eesave_bit):

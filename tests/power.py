@@ -26,7 +26,7 @@ from dataclasses import dataclass
 from functools import partial
 from pathlib import Path
 
-from cases import TOP, leave_out, run_cases, same, see, wait_until
+from cases import TOP, check, check_equal, leave_out, run_cases, wait_until
 from program import CHIP_FILE, EEPROM, PROGRAM
 
 # the size of a disk in MB (mkfs.xfs makes no smaller one)
@@ -177,9 +177,9 @@ def is_kept(what, disk, marks, following):
         (done if kind == "done" else tried)[name] = int(value)
     for name, value in done.items():
         found = value_in(disk / name)
-        see(f"{what}: {name}", found is not None and value <= found <= tried[name], (found, value, tried[name]))
+        check(f"{what}: {name}", found is not None and value <= found <= tried[name], (found, value, tried[name]))
     if following:
-        see(f"{what}: the next run", save(disk, "chip.bin", following) and value_in(disk / "chip.bin") == following)
+        check(f"{what}: the next run", save(disk, "chip.bin", following) and value_in(disk / "chip.bin") == following)
 
 
 def until(ends):
@@ -201,7 +201,7 @@ def recorded(system):
         folder, base, image = Path(held), Path(held) / "base", Path(held) / "image"
         make_disk(base, system)
         with mounted(base, folder) as disk:
-            same("a first run", save(disk, "chip.bin", 0), True)
+            check_equal("a first run", save(disk, "chip.bin", 0), True)
         command("cp", "--sparse=always", base, image)
         made = recorded_runs(folder, image)
         first = next(at for at, it in enumerate(made) if it.content == b"begun")
@@ -244,7 +244,7 @@ def shut_down(system):
                 timer.join()
                 value += 1
                 marks.append(f"tried chip.bin {value}")
-                see(f"{system}, shut down {tried}: no run ends well then", not save(disk, "chip.bin", value))
+                check(f"{system}, shut down {tried}: no run ends well then", not save(disk, "chip.bin", value))
             with mounted(image, folder) as disk:
                 value += 1
                 is_kept(f"{system}, shut down {tried}", disk, marks, value)

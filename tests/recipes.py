@@ -20,7 +20,7 @@ import tempfile
 import textwrap
 from pathlib import Path
 
-from cases import PATIENCE, leave_out, named, own_environment, put_program, run_cases, same, see
+from cases import PATIENCE, check, check_equal, leave_out, named, own_environment, put_program, run_cases
 from program import PROGRAM, SESSION, TOP, has_avrdude, kept_port, port_of
 from serial import Board
 
@@ -104,8 +104,8 @@ class Clone:
         if device:
             board.end()
         for it in commands:
-            see(f"is right: {it}", "FAILED here" not in printed, printed)
-        see("nothing is built", not self.noted.exists(), self.noted.exists() and self.noted.read_text())
+            check(f"is right: {it}", "FAILED here" not in printed, printed)
+        check("nothing is built", not self.noted.exists(), self.noted.exists() and self.noted.read_text())
 
 
 def blocks(file):
@@ -122,7 +122,7 @@ def in_a_clone(case):
         with tempfile.TemporaryDirectory() as folder:
             clone = Clone(folder)
             case(clone)
-            same("git sees no new file", clone.status(), clone.was)
+            check_equal("git sees no new file", clone.status(), clone.was)
 
     run.__name__ = case.__name__
     return run
@@ -132,7 +132,7 @@ def readme(clone):
     """Runs the commands of README, without those that test or prove."""
     found = blocks("README.md")
     first = next(it for commands in found for it in commands if it.startswith("./"))
-    see("the first command in a clone needs no proof", first.startswith("./avrstk --unproved "), first)
+    check("the first command in a clone needs no proof", first.startswith("./avrstk --unproved "), first)
     clone.types(["./install.sh ~/.local"])
     for commands in found:
         clone.tries(commands)
@@ -143,7 +143,7 @@ def usage(clone):
     install.sh has installed."""
     clone.types(["./install.sh ~/.local"])
     of_examples = re.findall(r"\| `(\./avrstk .*?)`", (TOP / "examples/README.md").read_text())
-    see("examples/README has commands", len(of_examples) > 3, of_examples)
+    check("examples/README has commands", len(of_examples) > 3, of_examples)
     for commands in [*blocks("docs/USAGE.md"), *blocks("docs/EMULATOR.md"), *([it] for it in of_examples)]:
         clone.tries(commands)
 
@@ -193,8 +193,10 @@ def in_place_of_avrdude(clone):
         board = Board(part="m2560")
         printed = clone.types([it.replace("/dev/ttyACM0", board.device)])
         chip = board.end()
-        see(f"is right: {it}", "FAILED here" not in printed and "avrstk: flash: 228 bytes verified" in printed, printed)
-        same("the chip", chip[:4].hex(), "0c943400")
+        check(
+            f"is right: {it}", "FAILED here" not in printed and "avrstk: flash: 228 bytes verified" in printed, printed
+        )
+        check_equal("the chip", chip[:4].hex(), "0c943400")
 
 
 def jobs(clone):
@@ -210,16 +212,16 @@ def jobs(clone):
     typed, double = re.findall(r"run by `([^`]*)`", text)
     if shutil.which("pytest"):
         printed = clone.types([double])
-        see("the tests with a double pass", "3 passed" in printed, printed)
+        check("the tests with a double pass", "3 passed" in printed, printed)
     for name, commands in [("gitlab", steps[0]), ("github", steps[1]), ("pytest", [typed])]:
-        see(f"{name} has steps", len(commands) > (name != "pytest"), commands)
+        check(f"{name} has steps", len(commands) > (name != "pytest"), commands)
         if not has_avrdude() or name == "pytest" and not shutil.which("pytest"):
             leave_out(f"the recipe of {name}", "a tool is not installed")
             continue
         printed = clone.types(["cd ..", *commands])
-        see(f"{name} is right", printed and "FAILED here" not in printed, printed)
+        check(f"{name} is right", printed and "FAILED here" not in printed, printed)
         chip = (clone.folder / "chip.bin").read_bytes()
-        same(f"{name}: the chip has the firmware", chip[:4].hex(), "0c943400")
+        check_equal(f"{name}: the chip has the firmware", chip[:4].hex(), "0c943400")
         (clone.folder / "chip.bin").unlink()
 
 

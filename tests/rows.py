@@ -22,7 +22,7 @@ import threading
 import boards
 import mega
 import serial
-from cases import PATIENCE, leave_out, named, run_cases, same, see
+from cases import PATIENCE, check, check_equal, leave_out, named, run_cases
 from line import frames_of
 from program import SESSION, TOP, frame, xor
 from serial import room
@@ -48,10 +48,11 @@ CHIP = (
 
 
 class Plug:
-    """A pseudo terminal. Each opening of it gets a connection that `call` makes, as a board's reset does."""
+    """A pseudo terminal. Each opening of it gets a connection that `call` makes, as a board's reset does. Once `leaves`
+    is set, it goes away when it is closed."""
 
     def __init__(self, call):
-        self.call, self.ends, self.vanishes = call, threading.Event(), threading.Event()
+        self.call, self.ends, self.vanishes, self.leaves = call, *(threading.Event() for _ in range(3))
         self.line, self.device = serial.terminal()
         self.thread = threading.Thread(target=self.live, daemon=True)
         self.thread.start()
@@ -61,6 +62,8 @@ class Plug:
             if serial.is_open(self.line):
                 with self.call() as programmer, contextlib.suppress(OSError):
                     self.bring(programmer)
+                if self.leaves.is_set():
+                    break
         os.close(self.line)
 
     def bring(self, programmer):
@@ -96,7 +99,7 @@ class Wrong:
 
     def live(self, caller):
         inner, outer = serial.socket.socketpair()
-        words = [SESSION, *TINY, "-P", "emu:wrong.bin"]
+        words = [SESSION, "--serve", *TINY, "-P", "emu:wrong.bin"]
         with serial.forks:
             run = subprocess.Popen(words, stdin=inner, stdout=inner, stderr=subprocess.DEVNULL, cwd=room.folder)
         inner.close()
@@ -122,7 +125,7 @@ def rows_of(output):
     """Returns what was printed of each row: how it ended, and the rest."""
     found = {}
     for it in output.decode().splitlines():
-        see(f"{it}: is a row", it[:4] == "row " and it[24:33].strip() in ("meets", "FAILS", "not tried"), it)
+        check(f"{it}: is a row", it[:4] == "row " and it[24:33].strip() in ("meets", "FAILS", "not tried"), it)
         found[it[4:24].strip()] = it[24:33].strip(), it[34:]
     return found
 
@@ -138,10 +141,10 @@ def tried(what, words, failing=(), left=(), promise=None, status=None):
 def seen(what, found, own, found_status, failing, left, promise, status=None):
     """Checks what was printed."""
     for how, wanted in ("FAILS", failing), ("not tried", left):
-        same(f"{what}: rows with {how}", {name for name, (it, _) in found.items() if it == how}, set(wanted))
-    same(f"{what}: its status", found_status, int(bool(failing)) if status is None else status)
+        check_equal(f"{what}: rows with {how}", {name for name, (it, _) in found.items() if it == how}, set(wanted))
+    check_equal(f"{what}: its status", found_status, int(bool(failing)) if status is None else status)
     if promise:
-        see(f"{what}: the promise", f"what that leaves: {promise}" in own, str(own))
+        check(f"{what}: the promise", f"what that leaves: {promise}" in own, str(own))
 
 
 def served(words, options=(), chip=CHIP, part=TINY, failing=(), **more):
@@ -155,24 +158,24 @@ def served(words, options=(), chip=CHIP, part=TINY, failing=(), **more):
         server.terminate()
         _, told = server.communicate(timeout=PATIENCE)
     if "--locked" not in options:
-        same(f"{words} {options}: the chip", room.read("chip.bin"), chip)
+        check_equal(f"{words} {options}: the chip", room.read("chip.bin"), chip)
     return *found, told.decode()
 
 
 def emulated():
     """The emulated programmer meets each row, and the chip is as before. All memories were saved first."""
     found, own, _ = served(SAFE, left=WRITING, promise=COMPARED)
-    same("the rows", list(found), [*READING[:-1], *KEPT[:4], READING[-1], "writes EEPROM", "restart", *WRITING])
+    check_equal("the rows", list(found), [*READING[:-1], *KEPT[:4], READING[-1], "writes EEPROM", "restart", *WRITING])
     folder = room.folder / own[0].rpartition(" ")[2]
     files = {it.name: it.read_text() for it in folder.iterdir()}
-    same("what was saved", serial.image_of(files["flash.hex"].encode()), dict(enumerate(CHIP[:FLASH])))
-    same(
+    check_equal("what was saved", serial.image_of(files["flash.hex"].encode()), dict(enumerate(CHIP[:FLASH])))
+    check_equal(
         "the fuses",
         [files[f"{it}.txt"] for it in ("lfuse", "hfuse", "efuse", "lock")],
         ["0x62\n", "0xd9\n", "0xfd\n", "0xff\n"],
     )
     found, own, _ = served(ALL, promise=FIRMWARE)
-    see("all rows", not {it for it in found if it not in (*READING, *KEPT, *WRITING, "writes EEPROM")}, str(found))
+    check("all rows", not {it for it in found if it not in (*READING, *KEPT, *WRITING, "writes EEPROM")}, str(found))
     # (the erase keeps this EEPROM)
     served(ALL, chip=CHIP[:-3] + b"\xd1\xfd\xff", promise=FIRMWARE)
     served(SAFE, part=["-p", "m328p"], chip=serial.os.urandom(33_792) + b"\x62\xd9\xfd\xff", left=WRITING)
@@ -192,8 +195,8 @@ def faults_of_the_line():
     """With each fault of a frame all rows are met, and commands were repeated."""
     for options in LINE:
         _, own, told = served(SAFE, options.split(), left=WRITING, promise=COMPARED)
-        see(f"{options}: a command was repeated", not any("; 0 commands" in it for it in own), str(own))
-        see(f"{options}: it struck", "never struck" not in told, told)
+        check(f"{options}: a command was repeated", not any("; 0 commands" in it for it in own), str(own))
+        check(f"{options}: it struck", "never struck" not in told, told)
 
 
 def faults_of_a_chip():
@@ -206,7 +209,7 @@ def faults_of_a_chip():
         "the chip is locked (FC), so nothing is tried",
     ):
         found, own, _ = served(SAFE, [option], status=1)
-        same(f"{option}: the rows", (found, own[0]), ({}, f"no further row is tried: {why}"))
+        check_equal(f"{option}: the rows", (found, own[0]), ({}, f"no further row is tried: {why}"))
 
 
 def writes_eeprom(ask, at, byte):
@@ -215,7 +218,7 @@ def writes_eeprom(ask, at, byte):
 
 
 def changing(when):
-    """Returns what also writes a byte of EEPROM just before a command."""
+    """Returns a wrong programmer, which also writes a byte of EEPROM just before these commands."""
 
     def act(body, ask):
         if when(body):
@@ -226,7 +229,7 @@ def changing(when):
 
 
 def once(front, number, wrong):
-    """Returns what makes one reply to a command wrong."""
+    """Returns a wrong programmer: one of its replies to a command has a wrong byte."""
     count = 0
 
     def act(body, ask):
@@ -241,7 +244,7 @@ def once(front, number, wrong):
 
 
 def readdressed(code, change):
-    """Returns what reads at another address."""
+    """Returns a wrong programmer, which reads at another address."""
     at = 0
 
     def act(body, ask):
@@ -255,7 +258,7 @@ def readdressed(code, change):
 
 
 def before_enter(answers):
-    """Returns what replies so to a command outside programming mode, without doing it."""
+    """Returns a wrong programmer, which replies so to a command outside programming mode, without doing it."""
 
     def act(body, ask):
         reply = ask(body)
@@ -265,12 +268,12 @@ def before_enter(answers):
 
 
 def instead(front, other):
-    """Returns what does another command in place of one."""
+    """Returns a wrong programmer, which executes another command in place of one."""
     return lambda body, ask: ask(other(body) if body.startswith(front) else body)
 
 
 def pretends(front, reply):
-    """Returns what replies OK to a command without doing it."""
+    """Returns a wrong programmer, which replies OK to a command without doing it."""
     return lambda body, ask: reply if body.startswith(front) else ask(body)
 
 
@@ -303,12 +306,12 @@ def wrong():
         unread = f" (not {row[6:]})" if row in READING else ""
         promise = "none" if set(rows) & set(KEPT) else COMPARED + unread
         found, _ = tried(what, words, rows, left + WRITING * (row not in WRITING), promise)
-        see(f"{what}: the frames are shown", " was answered " in found[rows[0]][1], found[rows[0]])
+        check(f"{what}: the frames are shown", " was answered " in found[rows[0]][1], found[rows[0]])
         plug.end()
     plug = Plug(Wrong(lambda body, ask: ask(body), obeys_all=True).call)
     tried("damaged frames are obeyed", [*TINY, "-P", plug.device, *SAFE], ["damaged frame"], WRITING, "none")
     plug.end()
-    same("damaged frames are obeyed: the chip", room.read("wrong.bin"), CHIP)
+    check_equal("damaged frames are obeyed: the chip", room.read("wrong.bin"), CHIP)
 
 
 def unseen():
@@ -325,6 +328,7 @@ def ends_early():
         ("gone", b"\x15", SAFE),
         ("silent", b"\x15", SAFE),
         ("gone", b"\x13", ALL),
+        ("gone at a restart", b"\x13", ALL),
         ("Ctrl-C", b"\x15", SAFE),
     ):
         pids, done = [], []
@@ -337,22 +341,24 @@ def ends_early():
                     os.kill(pids[0], serial.signal.SIGINT)
                 elif what == "gone":
                     plug.vanishes.set()
+                elif what == "gone at a restart":
+                    plug.leaves.set()
             return reply
 
         plug = Plug(Wrong(act).call)
         status, _, _, own = serial.run([*TINY, "-P", plug.device, *words], begun=lambda it: pids.append(it.pid))
-        same(f"{what} at {row}: the status", status, 1)
+        check_equal(f"{what} at {row}: the status", status, 1)
         plug.end()
         if what == "Ctrl-C":
-            see("Ctrl-C: nothing is to be restored", "What restores it" not in own[-1], str(own))
+            check("Ctrl-C: nothing is to be restored", "What restores it" not in own[-1], str(own))
         else:
             command = serial.shlex.split(own[-1].partition("What restores it: ")[2])
-            see(f"{what} at {row}: a command restores it", command[:1] == ["avrstk-serial"], str(own))
+            check(f"{what} at {row}: a command restores it", command[:1] == ["avrstk-serial"], str(own))
             again = Plug(Wrong(lambda body, ask: ask(body), chip=room.read("wrong.bin")).call)
             command[command.index("-P") + 1] = again.device
-            same(f"{what} at {row}: what that command does", serial.run(command[1:])[0], 0)
+            check_equal(f"{what} at {row}: what that command does", serial.run(command[1:])[0], 0)
             again.end()
-        same(f"{what} at {row}: the chip", room.read("wrong.bin"), CHIP)
+        check_equal(f"{what} at {row}: the chip", room.read("wrong.bin"), CHIP)
 
 
 def refused():
@@ -370,7 +376,7 @@ def refused():
     }
     for words, why in cases.items():
         status, output, _, own = serial.run(words.split())
-        same(words, (status, output, own[0][: len(why)]), (1, b"", why))
+        check_equal(words, (status, output, own[0][: len(why)]), (1, b"", why))
 
 
 MEGA = """[parts.m2560]
@@ -397,7 +403,7 @@ def mega_2560():
         wrong, promise = ["reads EEPROM", "writes flash", "writes lock"], f"{COMPARED} (not EEPROM)"
         found, _ = tried("a Mega, all", [*words, "-P", plug.device, *ALL], wrong, ["writes EEPROM"], promise)
         for name, code in ("erases", "12"), ("writes fuses", "17"), ("reads calibration", "1C"):
-            see(f"a Mega, {name}: refused", f"{code} C0" in found[name][1], found[name])
+            check(f"a Mega, {name}: refused", f"{code} C0" in found[name][1], found[name])
         plug.end()
         board.started.stdout.readline()
         board.holds("a Mega", content)
@@ -446,9 +452,9 @@ def version1():
         boards.prepare(kind, 0)
         output, own, status, is_kept, rest = boards.apart(lambda: over_version1(kind, programmer, words))
         seen(kind, rows_of(output), own, status, wrong, left, COMPARED + BY_A_GOOD_LINE)
-        see(f"{kind}: the flash is as before", is_kept)
+        check(f"{kind}: the flash is as before", is_kept)
         if kind.startswith("ArduinoISP"):
-            same(f"{kind}: EEPROM, fuses and lock", rest, b"\xff" * EEPROM + b"\x62\xd9\xff\xff")
+            check_equal(f"{kind}: EEPROM, fuses and lock", rest, b"\xff" * EEPROM + b"\x62\xd9\xff\xff")
 
 
 CASES = named(

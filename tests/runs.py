@@ -13,7 +13,7 @@ import shlex
 import sys
 from collections import namedtuple
 
-from cases import bytes_of, named, run_cases, same, see, table
+from cases import bytes_of, check, check_equal, named, run_cases, table
 from line import BadLine
 from program import CHIP_FILE, FRAMES, SIGNATURE, Room, frame, lines
 
@@ -61,10 +61,12 @@ def look(label, run, found, chip_file):
     files = {name: bytes_of(content) for name, content in (it.split("=") for it in run.written.split())}
     status = int("error: " in run.said)
     told = [SIGNATURE, *filter(None, run.said.split("; ")), *["done"] * (not status)]
-    same(label, found, (status, files.pop("-", b""), lines(*(told if run.said != "-" else []))))
-    see(f"{label}: the chip", room.read(chip_file) == chip_of(run.after), f"{chip_file} is not the chip that is wanted")
+    check_equal(label, found, (status, files.pop("-", b""), lines(*(told if run.said != "-" else []))))
+    check(
+        f"{label}: the chip", room.read(chip_file) == chip_of(run.after), f"{chip_file} is not the chip that is wanted"
+    )
     for name, content in files.items():
-        same(f"{label}: {name}", room.read(name), content)
+        check_equal(f"{label}: {name}", room.read(name), content)
 
 
 def over_emulator(label, run):
@@ -80,8 +82,8 @@ def over_line(label, run, fates=()):
     sent = peer.end()
     look(f"{label}, over a line", run, found, "served.bin")
     if run.frames != "-":
-        same(f"{label}: the number of frames", len(sent), len(sent_by(run)))
-        same(f"{label}: frames", sent, sent_by(run))
+        check_equal(f"{label}: the number of frames", len(sent), len(sent_by(run)))
+        check_equal(f"{label}: frames", sent, sent_by(run))
 
 
 def over_both(label, run):
@@ -117,15 +119,15 @@ def a_large_flash():
     peer = BadLine(room, {}, part="m2560")
     words = ["-p", "m2560", "-P", f"net:127.0.0.1:{peer.port}", "-V", "-U", "flash:w:high.hex"]
     told = ["device signature = 1E 98 01", "chip erased", "flash: 1 bytes written", "done"]
-    same("a large flash", room.run(words), (0, b"", lines(*told)))
+    check_equal("a large flash", room.run(words), (0, b"", lines(*told)))
     sent = peer.end()
-    same("the number of frames", len(sent), 9)
+    check_equal("the number of frames", len(sent), 9)
     page = frame(8, bytes.fromhex("130100C10A404C20FFFF 55") + b"\xff" * 255)
     wanted = [bytes.fromhex("1B 07 00 05 0E 06 80 01 00 00 90"), page, bytes.fromhex("1B 09 00 03 0E 11 01 01 0E")]
-    same("frames 7 to 9", sent[6:], wanted)
+    check_equal("frames 7 to 9", sent[6:], wanted)
     chip = room.read("served.bin") or b""
-    same("the chip's bytes other than FF", {at: it for at, it in enumerate(chip) if it != 0xFF}, {0x20000: 0x55})
-    same("the chip's length", len(chip), 266_244)
+    check_equal("the chip's bytes other than FF", {at: it for at, it in enumerate(chip) if it != 0xFF}, {0x20000: 0x55})
+    check_equal("the chip's length", len(chip), 266_244)
 
 
 CASES = {label: lambda it=(label, Run(*cells)): over_both(*it) for label, *cells in table("runs")}
@@ -133,4 +135,5 @@ CASES |= {label: lambda it=(label, run, fates): over_line(*it) for label, (run, 
 CASES |= named(a_large_flash)
 
 if __name__ == "__main__":
-    sys.exit(run_cases(CASES, __doc__, timed=BAD_LINES))
+    # (each case has a run over a port, which waits a second for a reply)
+    sys.exit(run_cases(CASES, __doc__, timed=CASES))

@@ -45,7 +45,7 @@ from functools import lru_cache
 from pathlib import Path
 
 from cases import PATIENCE, bytes_of, leave_out, named, own_environment, put_program
-from cases import run_cases, same, sampled, see, table, wait_until
+from cases import check, check_equal, run_cases, sampled, table, wait_until
 from line import frames_in, frames_of
 from program import CHIP_FILE, PROGRAM, SESSION, SIGNATURE, TOP, Room, Server, forks, frame
 from program import end_of, has_avrdude, kept_port, lines, listens_at, port_of, read_whole
@@ -222,7 +222,7 @@ def over(words, board=None, **more):
     it, name = Board(**(board or {})), f"report{next(boards)}.json"
     found = *run([*words, "-P", it.device, "--json", name], **more), it.end()
     if it.opened:
-        same(f"{words}: the status in its report", report_of(name)["status"], found[0])
+        check_equal(f"{words}: the status in its report", report_of(name)["status"], found[0])
     return found
 
 
@@ -236,7 +236,7 @@ def report_of(name):
     try:
         jsonschema.validate(report, json.loads((TOP / "docs/report.schema.json").read_text()))
     except jsonschema.ValidationError as fault:
-        see(f"{name}: its fields", False, fault.message)
+        check(f"{name}: its fields", False, fault.message)
     return report
 
 
@@ -304,16 +304,16 @@ def words_of_avrdude():
     cases = [(words.split(), list(filter(None, [own]))) for words, own in table("accepted")]
     for (words, own), found in zip(cases, side_by_side(lambda it: flashes(it[0]), cases)):
         texts = [it for it in FIRMWARE if it != "chip erased" or "-D" not in words]
-        same(" ".join(words), found, (0, lines(*texts), True, own))
+        check_equal(" ".join(words), found, (0, lines(*texts), True, own))
 
 
 def reads():
     """For the file `-` a read goes to standard output, and a write takes standard input."""
     status, output, _, own, _ = over(["-p", "m328p", "-U", "lfuse:r:-:h"])
-    same("a fuse is read", (status, output, own), (0, b"0xff\n", []))
+    check_equal("a fuse is read", (status, output, own), (0, b"0xff\n", []))
     with open(TOP / "examples/blink.hex", "rb") as given:
         status, _, _, own, chip = over(["-p", "m328p", "-U", "flash:w:-:i"], stdin=given)
-    see("flash of standard input", (status, own, chip == flashed()) == (0, [], True), (status, own))
+    check("flash of standard input", (status, own, chip == flashed()) == (0, [], True), (status, own))
 
 
 def boards_that_reset():
@@ -322,32 +322,32 @@ def boards_that_reset():
     longer = ["--wait", "1.5", *FLASH, "-P", "DEVICE"]
     for words, deaf, gone in [([*FLASH, "-P", "DEVICE"], 0.25, 1.2), (longer, 1.4, 3.5)]:
         found = flashes(words, deaf=deaf, gone=gone)
-        same(f"deaf for {deaf} s", found, (0, lines(*FIRMWARE), True, []))
+        check_equal(f"deaf for {deaf} s", found, (0, lines(*FIRMWARE), True, []))
 
 
 def parts():
     """Tests the part file that comes with avrstk-serial."""
     wanted = emulated("-e", part="t85")
     status, _, _, own, chip = over(["-p", "attiny85", "-e"], {"part": "t85"})
-    see("attiny85", (status, own, chip == wanted) == (0, [], True), own)
-    same("m32u4", over(["-p", "m32u4", "-e"], board_of("part m32u4"))[::3][:2], (0, []))
+    check("attiny85", (status, own, chip == wanted) == (0, [], True), own)
+    check_equal("m32u4", over(["-p", "m32u4", "-e"], board_of("part m32u4"))[::3][:2], (0, []))
     status, _, told, own, _ = over(["--parts", "parts.toml", "-p", "atmega32u4", "-e"])
-    see(
+    check(
         "a given part file counts alone",
         (status, b"no part atmega32u4" in told, own[0][-len(UNOPENED) :]) == (1, True, UNOPENED),
         told,
     )
     status, output, told, own = run(["-p", "?"])
     rows = output.decode().splitlines()
-    see("-p ? lists the parts", (status, told, own, len(rows)) == (0, b"", [], 74), (status, rows))
-    see("in the order of their names", rows == sorted(rows), rows)
-    see("each with its names and signature", "  t85      = ATtiny85      1E 93 0B" in rows, rows)
+    check("-p ? lists the parts", (status, told, own, len(rows)) == (0, b"", [], 74), (status, rows))
+    check("in the order of their names", rows == sorted(rows), rows)
+    check("each with its names and signature", "  t85      = ATtiny85      1E 93 0B" in rows, rows)
     if not has_avrdude():
         return leave_out("the names of AVRDUDE's parts", "AVRDUDE 7.1 is not installed")
     theirs = subprocess.run(["avrdude", "-c", "stk500v2", "-p", "?"], capture_output=True, text=True).stderr
     theirs = {tuple(row.split()[:3]) for row in theirs.splitlines()}
     others = [row for row in rows if tuple(row.split()[:3]) not in theirs]
-    same("AVRDUDE has each under the same names", others, [])
+    check_equal("AVRDUDE has each under the same names", others, [])
 
 
 UNOPENED = "nothing was sent, and the device was not opened"
@@ -419,7 +419,7 @@ def refused():
         return (status, output, len(own), opened), own
 
     for (words, wanted), (found, own) in zip(cases, side_by_side(lambda it: ran(it[0]), cases)):
-        see(" ".join(words), found == (1, b"", 1, 0) and own[0].startswith(wanted), (found, own))
+        check(" ".join(words), found == (1, b"", 1, 0) and own[0].startswith(wanted), (found, own))
 
 
 def piped(words, content, **more):
@@ -437,7 +437,7 @@ def no_firmware():
     """A text without records, an archive, a page and an image without a byte are refused, also from a pipe; a text as
     raw bytes (:r) is not."""
     why = {
-        **dict.fromkeys(TEXTS, "is text without records: name its format"),
+        **dict.fromkeys(TEXTS, "is text without records: name the format only if its characters are meant"),
         **dict.fromkeys(EMPTY, "is empty (did its build fail?)"),
     }
     why.update({name: f"is {what}, not firmware" for name, (_, what) in PACKED.items()})
@@ -458,18 +458,28 @@ def no_firmware():
     for (words, given, shown, name), found in zip(
         cases, side_by_side(lambda it: piped([*NO_CHIP, *it[0]], it[1]), cases)
     ):
-        same(f"{words} {name}", found, (1, b"", b"", [f"{shown} {why[name]}: {UNOPENED}"]))
+        check_equal(f"{words} {name}", found, (1, b"", b"", [f"{shown} {why[name]}: {UNOPENED}"]))
+    # (a log whose end or beginning was never written; EEPROM may hold a text that a NUL ends)
+    for raw in [b"make: all is made\n" + bytes(4000), bytes(500) + b"make: all is made\n", b"SN00042\0"]:
+        found = piped([*NO_CHIP, "-U", "flash:w:-"], raw)
+        check_equal(
+            f"{raw[:20]}: flash",
+            found,
+            (1, b"", b"", [f"- is text without records: name the format only if its characters are meant: {UNOPENED}"]),
+        )
+    found = piped([*NO_CHIP, "-U", "eeprom:w:-"], raw)
+    check_equal("a text in EEPROM", (found[0], room.read("no.bin")[32_768:][: len(raw)]), (0, raw))
     status, *_ = run([*NO_CHIP, "-U", "eeprom:w:m.c:r"])
-    same("a text as raw bytes", (status, room.read("no.bin")[32_768:][: len(TEXTS["m.c"])]), (0, TEXTS["m.c"]))
+    check_equal("a text as raw bytes", (status, room.read("no.bin")[32_768:][: len(TEXTS["m.c"])]), (0, TEXTS["m.c"]))
     # (vectors, and strings right behind them)
     tiny = (
         bytes.fromhex("0EC028C027C026C025C024C023C022C021C020C01FC01EC01DC01CC01BC0") + b"Temperature too high\r\n" * 60
     )
     for name, raw in [("tiny.bin", tiny), ("jumps.bin", bytes.fromhex("0C945C00") * 26 + tiny[30:])]:
         found = piped([*NO_CHIP, "-U", "flash:w:-"], raw)
-        see(f"{name} is firmware", (found[0], room.read("no.bin")[: len(raw)]) == (0, raw), found)
+        check(f"{name} is firmware", (found[0], room.read("no.bin")[: len(raw)]) == (0, raw), found)
     wanted = [f"/dev/zero has more than 67,108,864 bytes: {UNOPENED}"]
-    same("what never ends", run([*NO_CHIP, "-U", "flash:w:/dev/zero:r"]), (1, b"", b"", wanted))
+    check_equal("what never ends", run([*NO_CHIP, "-U", "flash:w:/dev/zero:r"]), (1, b"", b"", wanted))
 
 
 def ports_of_avrstk():
@@ -479,19 +489,19 @@ def ports_of_avrstk():
     words = ["-C", "x.conf", "-c", "stk500", "-b", "9600", "-p", "atmega328p", "-U", "blink.hex"]
     notes = ["ignored: -C x.conf", "blink.hex is read as Intel HEX (:i)"]
     status, _, told, own = run([*words, "-P", "emu:chip.bin"])
-    same("emu:", (status, told, own, room.read("chip.bin") == wanted), (0, lines(*FIRMWARE), notes, True))
+    check_equal("emu:", (status, told, own, room.read("chip.bin") == wanted), (0, lines(*FIRMWARE), notes, True))
     with Server(room) as server:
         status, _, told, own = run([*words, "-P", f"net:127.0.0.1:{server.port}"])
         server.end()
-    same("net:", (status, told, own, room.read("served.bin") == wanted), (0, lines(*FIRMWARE), notes, True))
+    check_equal("net:", (status, told, own, room.read("served.bin") == wanted), (0, lines(*FIRMWARE), notes, True))
     started = start(["-p", "m328p", "-P", "stdio:"], stdin=subprocess.PIPE)
-    see("its first frame", started.stdout.read(7))
+    check("its first frame", started.stdout.read(7))
     started.send_signal(signal.SIGTERM)
     # (avrstk has ended, too: else its output stays open)
-    same("a signal", (started.stdout.read(), started.wait(PATIENCE)), (b"", 1))
+    check_equal("a signal", (started.stdout.read(), started.wait(PATIENCE)), (b"", 1))
     status, output, told, own = run(["-c", "?"])
     names = b"avrispv2 stk500 stk500v2 wiring arduino arduino_as_isp stk500v1 avrisp".split()
-    same("-c ?", (status, told, own, output.split()), (0, b"", [], names))
+    check_equal("-c ?", (status, told, own, output.split()), (0, b"", [], names))
 
 
 def devices():
@@ -506,7 +516,7 @@ def devices():
         ([], "no device given (-P); "),
     ]:
         status, _, _, own = run([*FLASH, *words])
-        see(f"device {words}", (status, len(own)) == (1, 1) and own[0].startswith(wanted), own)
+        check(f"device {words}", (status, len(own)) == (1, 1) and own[0].startswith(wanted), own)
     os.chmod(device, 0)
     # (group 5 is `tty`, the owner of terminals, in every Linux)
     cure, belongs = "(often: sudo usermod -aG ", "(its owner is "
@@ -516,7 +526,7 @@ def devices():
         os.chmod(device, mode if os.geteuid() == 0 else 0)
         ran = run_as_anyone([*FLASH, "-P", device], shutil.which("true"))
         wanted = f"{device}: you may not read and write it {wanted if os.geteuid() == 0 else belongs}"
-        see(f"no right to it, of group {group}, mode {mode:o}", wanted.encode() in ran.stderr, ran.stderr)
+        check(f"no right to it, of group {group}, mode {mode:o}", wanted.encode() in ran.stderr, ran.stderr)
     os.chmod(device, 0o666)
     with tempfile.TemporaryDirectory(dir="/tmp") as folder:
         os.chmod(folder, 0o755)
@@ -526,7 +536,7 @@ def devices():
         error = f"sys.stderr.write('avrstk: error: {closed}: cannot be opened\\n')\nsys.exit(1)\n"
         program = stand_in(error, Path(folder))["AVRSTK"]
         ran = run_as_anyone(["-p", "m328p", "-P", device, "-U", f"flash:w:{closed}:i"], program)
-        see("no right to a file", b"avrstk-serial: you may not read it; nothing was sent" in ran.stderr, ran.stderr)
+        check("no right to a file", b"avrstk-serial: you may not read it; nothing was sent" in ran.stderr, ran.stderr)
     os.close(line)
 
 
@@ -535,7 +545,9 @@ def what_is_missing():
     runs the one beside it. (tests/build.py has that of a clone.)"""
     needed = "is not there, or can't be run: avrstk is needed beside this script, or named by AVRSTK"
     line, device = terminal()
-    same("no avrstk", run([*FLASH, "-P", device], env={"AVRSTK": "/nowhere/it"})[::3], (1, [f"/nowhere/it {needed}"]))
+    check_equal(
+        "no avrstk", run([*FLASH, "-P", device], env={"AVRSTK": "/nowhere/it"})[::3], (1, [f"/nowhere/it {needed}"])
+    )
     os.close(line)
     with tempfile.TemporaryDirectory() as folder:
         front, link = Path(folder, "bin/avrstk"), Path(folder, "a link")
@@ -550,20 +562,20 @@ def what_is_missing():
             return it.returncode, it.stdout, it.stderr
 
         modules = "avrstk_serial is not there: its modules are in lib/avrstk, here or beside this folder"
-        same("no modules", ran(), (1, "", f"avrstk-serial: {modules}\n"))
+        check_equal("no modules", ran(), (1, "", f"avrstk-serial: {modules}\n"))
         shutil.copytree(SHARED, Path(folder, "lib"))
-        same("no program", ran(), (1, "", f"avrstk-serial: {front} {needed}\n"))
+        check_equal("no program", ran(), (1, "", f"avrstk-serial: {front} {needed}\n"))
         put_program(front, "#!/bin/sh\necho $0 $1\n")
-        same("the one beside it", ran(), (0, f"{front} -P\n", ""))
-        same("--unproved", ran("--unproved"), (0, f"{front} --unproved\n", ""))
+        check_equal("the one beside it", ran(), (0, f"{front} -P\n", ""))
+        check_equal("--unproved", ran("--unproved"), (0, f"{front} --unproved\n", ""))
         no_file = "the part file classic.toml is not there (install.sh puts it under share/avrstk)"
-        same("no part file", ran(part="atmega328p"), (1, "", f"avrstk-serial: atmega328p: {no_file}\n"))
-        same("no file is written", [*Path(folder).rglob("*.pyc")], [])
+        check_equal("no part file", ran(part="atmega328p"), (1, "", f"avrstk-serial: atmega328p: {no_file}\n"))
+        check_equal("no file is written", [*Path(folder).rglob("*.pyc")], [])
     # (2: Python keeps no docstrings)
     for words, level in [([], "0"), (["--help"], "0"), (["-h"], "0"), (["-?"], "0"), (["--help"], "2")]:
         status, output, told, own = run(words, env={"PYTHONOPTIMIZE": level})
         begins = output.startswith(b"Runs avrstk with a programmer")
-        same(f"{words}, {level}", (status, told, own, begins), (0, b"", [], True))
+        check_equal(f"{words}, {level}", (status, told, own, begins), (0, b"", [], True))
 
 
 def patched(text, words):
@@ -586,7 +598,7 @@ def speeds_that_a_device_has_not():
     ]:
         it = Board()
         found = patched(slow, ["-p", "m328p", "-P", it.device, "-b", baud])
-        same(f"{baud} at 9600", found, (int(baud != "9500"), "", end.format(it.device)))
+        check_equal(f"{baud} at 9600", found, (int(baud != "9500"), "", end.format(it.device)))
         it.end()
 
 
@@ -606,9 +618,11 @@ def lines_of_a_board():
         status, output, _ = patched(noted.format(fault=fault), ["-p", "m328p", "-P", it.device, *words])
         it.end()
         pulses = [row.split() for row in output.splitlines()]
-        same(f"{words}: the status", status, 0)
-        same(f"{words}: the lines", [row[:2] for row in pulses], [["False", f"{both}"], ["True", f"{both}"]][:wanted])
-        see(f"{words}: 50 ms", wanted < 2 or float(pulses[1][2]) - float(pulses[0][2]) >= 0.05, pulses)
+        check_equal(f"{words}: the status", status, 0)
+        check_equal(
+            f"{words}: the lines", [row[:2] for row in pulses], [["False", f"{both}"], ["True", f"{both}"]][:wanted]
+        )
+        check(f"{words}: 50 ms", wanted < 2 or float(pulses[1][2]) - float(pulses[0][2]) >= 0.05, pulses)
 
 
 def bits_that_do_not_exist():
@@ -617,22 +631,24 @@ def bits_that_do_not_exist():
     recipe = ["-e", "-Ulock:w:0x3F:m", "-Uefuse:w: 0X05,:m", "-Uhfuse:w:0xDE:m", "-Ulfuse:w:255:m"]
     shown = [f"lock {note} 6, 7; given as 1: lock:w:0xFF:m", f"efuse {note} 3, 4, 5, 6, 7; given as 1: efuse:w:0xFD:m"]
     status, _, _, own, chip = over(["-patmega328p", *recipe])
-    same("a recipe of the Arduino IDE", (status, own, chip[-4:].hex()), (0, shown, "ffdefdff"))
+    check_equal("a recipe of the Arduino IDE", (status, own, chip[-4:].hex()), (0, shown, "ffdefdff"))
     status, _, _, own = run(["-patmega328p", "-P", "emu:chip.bin", *recipe, "-Uefuse:v:0B101:m"])
     shown.append(f"efuse {note} 3, 4, 5, 6, 7; given as 1: efuse:v:0xFD:m")
-    same("the same over emu:", (status, own, room.read("chip.bin")[-4:].hex()), (0, shown, "ffdefdff"))
+    check_equal("the same over emu:", (status, own, room.read("chip.bin")[-4:].hex()), (0, shown, "ffdefdff"))
     room.put("mine.toml", (TOP / "parts/classic.toml").read_bytes())
     status, _, _, own = run(["--parts", "mine.toml", "-pm328p", "-P", "emu:own.bin", *recipe])
-    same("a part file of one's own", (status, own, room.read("own.bin")[-4:].hex()), (0, [], "ffde053f"))
+    check_equal("a part file of one's own", (status, own, room.read("own.bin")[-4:].hex()), (0, [], "ffde053f"))
     words = ["-p", "atmega16u4", "-P", "emu:u4.bin", "-U", "lock:w:0x3F:m", "-U", "lfuse:w:0x1FF:m"]
-    same("bits that are read as 0", run(words)[3], [])
+    check_equal("bits that are read as 0", run(words)[3], [])
 
 
 def lists():
     """Tests the list of devices that -P ? prints. (tests/serve.py has --version.)"""
     here = sorted(str(it) for kind in ("ACM", "USB") for it in Path("/dev").glob(f"tty{kind}*"))
     status, output, *told = run(["-P", "?"])
-    same("-P ?", (status, [it.split()[0] for it in output.decode().splitlines()], told), (0, here or ["no"], [b"", []]))
+    check_equal(
+        "-P ?", (status, [it.split()[0] for it in output.decode().splitlines()], told), (0, here or ["no"], [b"", []])
+    )
 
 
 class Boards:
@@ -697,8 +713,8 @@ def retries():
         again = [f"{error}: the same command again, {it} of 2" for it in range(1, int(count) + 1)]
         # (whichever byte differs first)
         found = (status, [re.sub(r"address .*? expected", "address 00000000: 0C expected", it) for it in own])
-        same(f"{each}: {hint}", found, (int(hint != ""), again + [hint] * (hint != "")))
-        see(f"{each}: the chip", is_flashed == (hint == ""), own)
+        check_equal(f"{each}: {hint}", found, (int(hint != ""), again + [hint] * (hint != "")))
+        check(f"{each}: the chip", is_flashed == (hint == ""), own)
 
 
 def retries_that_are_refused():
@@ -712,15 +728,15 @@ def retries_that_are_refused():
         return status, own[0].partition("may not repair this one: ")[2]
 
     two = ["-U", "flash:w:blink.hex:i", "-U", "flash:w:late.hex:i"]
-    same("--retry without avrstk_session", ran(*two), (1, "it writes a page of flash twice"))
+    check_equal("--retry without avrstk_session", ran(*two), (1, "it writes a page of flash twice"))
     # (what prints the pages of a plan is beside avrstk)
     (room.folder / "avrstk_session").symlink_to(SESSION)
     for words, why in table("retries"):
         words = shlex.split(words)
-        same(f"--retry {words}", ran(*words), (1, why))
+        check_equal(f"--retry {words}", ran(*words), (1, why))
     for text in ["-1", "x", "100", "\u0663"]:
         status, _, _, own = run([*FLASH, "-P", device, f"--retry={text}"])
-        same(f"--retry {text}", (status, own), (1, [f"--retry {text}: not a number from 0 to 99"]))
+        check_equal(f"--retry {text}", (status, own), (1, [f"--retry {text}: not a number from 0 to 99"]))
     os.close(line)
 
 
@@ -734,19 +750,21 @@ def the_part_of_the_chip():
         "lock of m328p has no bits 6, 7; given as 1: lock:w:0xFF:m",
         "no answer: the same command again, 1 of 1",
     )
-    same("its lines", (status, own), (0, [again, "the chip is m328p (1E 95 0F)", note]))
-    see("the run's own lines alone", told.startswith(lines(SIGNATURE, "chip erased")), told)
-    same("the chip", it.end(), wanted)
+    check_equal("its lines", (status, own), (0, [again, "the chip is m328p (1E 95 0F)", note]))
+    check("the run's own lines alone", told.startswith(lines(SIGNATURE, "chip erased")), told)
+    check_equal("the chip", it.end(), wanted)
     _, _, _, own, _ = over(["-p", "auto", "-U", "flash:w:gone.hex:i"], {})
     sent = "the chip is unchanged, and may be held in reset: power-cycle the board"
-    same("what its session sent is known", own, ["the chip is m328p (1E 95 0F)", f"there is no such file; {sent}"])
+    check_equal(
+        "what its session sent is known", own, ["the chip is m328p (1E 95 0F)", f"there is no such file; {sent}"]
+    )
     for board, hint in table("auto"):
         status, _, told, own, chip = over(words, board_of(board))
-        see(hint, (status, len(own)) == (1, 1) and own[0].startswith(hint), (status, told, own))
-        see(f"{hint}: the chip", set(chip) == {0xFF}, chip[-4:])
+        check(hint, (status, len(own)) == (1, 1) and own[0].startswith(hint), (status, told, own))
+        check(f"{hint}: the chip", set(chip) == {0xFF}, chip[-4:])
     for more in [["-P", "emu:chip.bin"], [*CLASSIC, "-P", os.devnull]]:
         status, _, told, own = run([*words, *more])
-        see(f"{more}", (status, told) == (1, b"") and own[-1].startswith("-p auto is for a device"), own)
+        check(f"{more}", (status, told) == (1, b"") and own[-1].startswith("-p auto is for a device"), own)
 
 
 def screen(text):
@@ -788,23 +806,23 @@ def progress():
     read = itertools.count()
     got, status, heard = on_a_terminal([*FLASH, "--wait", "0"], slow)
     count = frames_in(heard)
-    same("the lines that stay", (status, screen(got)), (0, [*rows, ""]))
+    check_equal("the lines that stay", (status, screen(got)), (0, [*rows, ""]))
     # (six frames come before the first page, and two are for each)
     for text, sent in [
         ("writing flash: 128 bytes", 8),
         ("writing flash: 256 bytes", 10),
         ("reading flash: 256 bytes", 12),
     ]:
-        see(text, f"\ravrstk-serial: {text}, {100 * sent // count} %" in got, (count, got))
+        check(text, f"\ravrstk-serial: {text}, {100 * sent // count} %" in got, (count, got))
     left = re.search(r"\ravrstk-serial: reading flash: 1,\d+ bytes, \d+ %, (\d+) s left", got)
-    see("the time that is left", left and int(left[1]) > 5, got)
+    check("the time that is left", left and int(left[1]) > 5, got)
     updates = ["flash:r:back.hex:i", "eeprom:w:whole.bin:r", "flash:w:blink.hex", "eeprom:r:back.bin"]
     got, status, _ = on_a_terminal(["-p", "m328p", *(word for it in updates for word in ("-U", it))])
     wanted = ["reading flash", "writing eeprom", "reading eeprom", "reading flash", "writing flash"]
     names = set(re.findall(r"\ravrstk-serial: (\w+ \w+)", got))
-    same("each has its name", (status, names), (0, set(wanted)))
+    check_equal("each has its name", (status, names), (0, set(wanted)))
     got, status, _ = on_a_terminal([*FLASH, "-q"])
-    same("-q", (status, got), (0, ""))
+    check_equal("-q", (status, got), (0, ""))
 
 
 def few_lines():
@@ -832,13 +850,13 @@ def few_lines():
     shown.append(
         "warning: lfuse:w:0:m selects an external clock: the chip only works while a clock drives its pin XTAL1"
     )
-    same("-q twice", (status, own), (0, shown))
-    see("the chip", it.end()[:228] == flashed()[:228])
+    check_equal("-q twice", (status, own), (0, shown))
+    check("the chip", it.end()[:228] == flashed()[:228])
     it = Board()
     for port in [it.device, "emu:logged.bin"]:
         status, _, told, own = run([*FLASH, "-l", "x.log", "-C", "x.conf", "-P", port])
         own = b"".join(b"avrstk-serial: " + row.encode() + b"\n" for row in own)
-        same(f"-l, {port}", (status, told, room.read("x.log")), (0, lines(*FIRMWARE), own + told))
+        check_equal(f"-l, {port}", (status, told, room.read("x.log")), (0, lines(*FIRMWARE), own + told))
     it.end()
 
 
@@ -856,8 +874,8 @@ def backups():
         room.put("old.bin", old + bytes.fromhex(fuses))
         status, output, _, own, _ = over(["-p", "m328p", "--wait", "0.4", "--backup", name], {"chip": "old.bin"})
         words = shlex.split(output.decode())
-        see(f"{name}: its command", words[:5] == ["avrstk-serial", "--wait", "0.4", "-p", "m328p"], output)
-        same(
+        check(f"{name}: its command", words[:5] == ["avrstk-serial", "--wait", "0.4", "-p", "m328p"], output)
+        check_equal(
             f"{name}: there is none yet",
             told(["--backup", name], {}),
             (1, [f"--backup {name}: File exists: {UNOPENED}"]),
@@ -867,14 +885,17 @@ def backups():
             room.put("new.bin", bytes(33_792) + chip)
             it = Boards({}, {}, chip="new.bin")
             found = run([str(it.device) if word.startswith("/dev/") else word for word in words[1:]])
-            same(f"{name}: restored", (found[0], it.end() == old + bytes.fromhex(fuses)), (0, True))
+            check_equal(f"{name}: restored", (found[0], it.end() == old + bytes.fromhex(fuses)), (0, True))
+        it = Boards({}, silent(0x15), {}, chip="new.bin")
+        found = run([*(str(it.device) if word.startswith("/dev/") else word for word in words[1:]), "--retry", "1"])
+        check_equal(f"{name}: restored again", (found[0], it.end() == old + bytes.fromhex(fuses)), (0, True))
     room.put("old.bin", b"\xff" * 33_796)
     for words in [["--backup", "none"], ["--restore", "none"]]:
-        same("an erased chip", run(["-p", "m328p", "-P", "emu:old.bin", *words])[0], 0)
+        check_equal("an erased chip", run(["-p", "m328p", "-P", "emu:old.bin", *words])[0], 0)
     loader = "a bootloader can't write fuses and the lock, or read the calibration: use a programmer"
 
     def written(answer):
-        see("no write", answer[5] not in (0x12, 0x13, 0x15, 0x17, 0x19))
+        check("no write", answer[5] not in (0x12, 0x13, 0x15, 0x17, 0x19))
         return answer
 
     def refused(answer):
@@ -896,18 +917,18 @@ def backups():
     odd = ["--parts", "odd.toml", "-p", "odd", "--restore", "a backup"]
     fails.append(({"part": "t85", "answer": written}, odd, "signature holds something else than 0x1E,0x95,0x0F"))
     room.put("locked.bin", b"\xff" * 33_795 + b"\xfc")
-    no_backup = "the chip is locked, so flash and EEPROM can't be read: this is no backup of them"
-    fails.append(({"chip": "locked.bin"}, ["--backup", "gone"], no_backup))
+    locked = "locked, so its flash and EEPROM can't be read"
+    fails.append(({"chip": "locked.bin"}, ["--backup", "gone"], f"the chip is {locked}: no backup is kept"))
     for board, words, why in fails:
         status, own = told(words, board)
-        see(f"{words}: {why}", status == 1 and own[-1].startswith(why) and not (room.folder / "gone").exists(), own)
+        check(f"{words}: {why}", status == 1 and own[-1].startswith(why) and not (room.folder / "gone").exists(), own)
     for file, text, why in [
-        ("lock.txt", b"0xfc", no_backup),
+        ("lock.txt", b"0xfc", f"none is of a chip that was {locked}"),
         ("eeprom.hex", hex_of([(0, b"1")]), "none/eeprom.hex is not the whole EEPROM"),
     ]:
         kept = room.read(f"none/{file}")
         room.put(f"none/{file}", text)
-        same(why, told(["--restore", "none"], {"talk": b"x"}), (1, [f"{why}: {UNOPENED}"]))
+        check_equal(why, told(["--restore", "none"], {"talk": b"x"}), (1, [f"{why}: {UNOPENED}"]))
         room.put(f"none/{file}", kept)
     for it in ["a backup", "none", "-x"]:
         shutil.rmtree(room.folder / it)
@@ -931,7 +952,7 @@ def warnings():
         room.put("late.hex", hex_of([(0x4000, b"late")]))
         own = run(["-p", part, "-P", "emu:no.bin", *words.split()])[3]
         room.clear()
-        see(f"{part} {words}", bool(own) == bool(wanted) and all(it.startswith(wanted) for it in own), own)
+        check(f"{part} {words}", bool(own) == bool(wanted) and all(it.startswith(wanted) for it in own), own)
 
 
 def images_that_are_read_once():
@@ -942,8 +963,8 @@ def images_that_are_read_once():
     writer.start()
     got, status, _ = on_a_terminal(["-p", "m328p", "--wait", "0", "-U", "flash:w:pipe:i"])
     rows = [it.decode() for it in lines(*FIRMWARE).splitlines()]
-    same("a named pipe", (status, screen(got)), (0, [*rows, ""]))
-    see("its progress", "\ravrstk-serial: writing flash: 128 bytes, " in got, got)
+    check_equal("a named pipe", (status, screen(got)), (0, [*rows, ""]))
+    check("its progress", "\ravrstk-serial: writing flash: 128 bytes, " in got, got)
     reader, writer = os.pipe()
     os.write(writer, text)
     os.close(writer)
@@ -952,24 +973,24 @@ def images_that_are_read_once():
     status, _, told, own = run([*words, "-U", f"flash:v:/dev/fd/{reader}:i"], pass_fds=[reader])
     os.close(reader)
     again = ["no answer: the same command again, 1 of 1"]
-    same("a shell's pipe, twice", (status, own, it.end() == wanted), (0, again, True))
+    check_equal("a shell's pipe, twice", (status, own, it.end() == wanted), (0, again, True))
     status, _, told, own = piped([*NO_CHIP, "-U", "flash:w:-:i", "-U", "eeprom:w:-:i"], hex_of([(0, bytes(600))]))
-    same("two memories", (status, set(room.read("no.bin")[:600] + room.read("no.bin")[32_768:][:600])), (0, {0}))
+    check_equal("two memories", (status, set(room.read("no.bin")[:600] + room.read("no.bin")[32_768:][:600])), (0, {0}))
     for content, wanted in [
         (text[:100], "error: -: line 3: bad length"),
         (text[: text.rindex(b":")], "warning: -: no end record"),
     ]:
-        same(wanted, piped([*NO_CHIP, "-U", "flash:w:-"], content)[2].splitlines(True)[0], lines(wanted))
-    same(
+        check_equal(wanted, piped([*NO_CHIP, "-U", "flash:w:-"], content)[2].splitlines(True)[0], lines(wanted))
+    check_equal(
         "no such file", run([*NO_CHIP, "-U", "flash:w:no.hex:i"])[1:3], (b"", lines("error: no.hex: cannot be opened"))
     )
     why = f"-P stdio: needs standard input, so no image comes from it: {UNOPENED}"
-    same("no image from frames", run(["-p", "m328p", "-P", "stdio:", "-U", "flash:w:-"])[3], [why])
+    check_equal("no image from frames", run(["-p", "m328p", "-P", "stdio:", "-U", "flash:w:-"])[3], [why])
     # (a file that grows no further: what is judged isn't passed on in part)
     limit = {"preexec_fn": lambda: resource.setrlimit(resource.RLIMIT_FSIZE, (2048, 2048))}
     room.put("long.hex", hex_of([(0, bytes(6_000))]))
     status, _, told, own = run(["-p", "m328p", "-P", "net:127.0.0.1:1", "-U", "flash:w:long.hex:i"], **limit)
-    same(
+    check_equal(
         "a limit of files",
         (status, told, own),
         (1, b"", [f"long.hex can't be given to avrstk: File too large: {UNOPENED}"]),
@@ -981,10 +1002,10 @@ def images_that_are_read_once():
     )
     _, _, told, _ = run(["-p", "m328p", "-P", device, "-U", "net:"], env=stand_in(told))
     os.close(line)
-    same("net: elsewhere", told.split()[2:], b"-P net:127.0.0.1:PORT -c stk500v2 -p m328p -U net:".split())
+    check_equal("net: elsewhere", told.split()[2:], b"-P net:127.0.0.1:PORT -c stk500v2 -p m328p -U net:".split())
     for word in ["--wait=\u0663", "-b\u0661\u0662\u0660\u0660"]:
         status, _, told, own = run([*FLASH, "-P", device, word])
-        see(f"{word}: other digits", (status, told) == (1, b"") and ": not a " in own[0], (told, own))
+        check(f"{word}: other digits", (status, told) == (1, b"") and ": not a " in own[0], (told, own))
 
 
 def over_a_bootloader():
@@ -1002,7 +1023,7 @@ def over_a_bootloader():
         words = ["-c", "wiring", *shlex.split(words)]
         it = Board(talk=b".")
         status, _, told, own = run(["-p", "m328p", "-P", it.device, *words])
-        see(f"{words}", (status, it.opened, told, own[-1][: len(wanted)]) == (1, 0, b"", wanted), (status, own))
+        check(f"{words}", (status, it.opened, told, own[-1][: len(wanted)]) == (1, 0, b"", wanted), (status, own))
         it.end()
         line = re.search(r"Type (.*), and give joined.hex", own[-1])
         if not line or not shutil.which("srec_cat"):
@@ -1013,7 +1034,7 @@ def over_a_bootloader():
         image = {at: byte for name in names for at, byte in held[name].items()}
         chip = bytes(image.get(at, 0xFF) for at in range(32_768))
         status, _, told, own = run([*NO_CHIP, "-c", "wiring", "-D", "-U", "flash:w:joined.hex"])
-        see(f"{line[1]}: joined", (status, room.read("no.bin")[:32_768] == chip) == (0, True), (status, told, own))
+        check(f"{line[1]}: joined", (status, room.read("no.bin")[:32_768] == chip) == (0, True), (status, told, own))
         (room.folder / "no.bin").unlink()
 
 
@@ -1031,15 +1052,17 @@ def files_of_one_command():
 
     for words, wanted in table("files"):
         status, _, told, own = run(["-p", "m328p", *shlex.split(meant(words))])
-        same(words, (status, told, own), (1, b"", [f"{meant(wanted)}: {UNOPENED}"]))
-        same(f"{words}: the files", {it.name: it.read_bytes() for it in room.folder.iterdir() if it.is_file()}, kept)
+        check_equal(words, (status, told, own), (1, b"", [f"{meant(wanted)}: {UNOPENED}"]))
+        check_equal(
+            f"{words}: the files", {it.name: it.read_bytes() for it in room.folder.iterdir() if it.is_file()}, kept
+        )
     os.close(line)
     room.put("old.log", b"old")
     run([*NO_CHIP, "-l", "old.log", "-U", "flash:w:no.hex:s", "-B", "1"])
-    same("a refused command leaves its log", room.read("old.log"), b"old")
+    check_equal("a refused command leaves its log", room.read("old.log"), b"old")
     updates = ["lfuse:r:-:h", "hfuse:r:-:h", "efuse:r:/dev/null:h", "lock:r:/dev/null:h"]
     found = run([*NO_CHIP, "-q", "-q", *(word for it in updates for word in ("-U", it))])
-    same("streams take several", found, (0, b"0xff\n0xff\n", b"", []))
+    check_equal("streams take several", found, (0, b"0xff\n0xff\n", b"", []))
 
 
 def changes(command, body):
@@ -1076,14 +1099,14 @@ def hints():
 
     cases = table("failures")
     for (name, _, wanted, told, _), (status, others, own, chip, seconds) in zip(cases, side_by_side(ran, cases)):
-        see(f"{name}: it ends by itself soon", seconds < 40, seconds)
+        check(f"{name}: it ends by itself soon", seconds < 40, seconds)
         is_right = (status, len(own)) == (1, 1) and wanted in own[0] and told.encode() in others
-        see(f"{name}: {wanted}: {told}", is_right, (status, others, own))
-        same(f"{name}: the chip", chip, b"\xff" * CHIP_FILE) if name == "silent" else None
+        check(f"{name}: {wanted}: {told}", is_right, (status, others, own))
+        check_equal(f"{name}: the chip", chip, b"\xff" * CHIP_FILE) if name == "silent" else None
     status, _, told, own, _ = over(["-p", "m328p", "-U", "lfuse:r:-:h"], closed=">&-")
     stays = "everything reported above was done. The chip stays in programming mode: power-cycle the board"
     wanted = [f"standard output is closed or full; {stays}"]
-    same("a closed output", (status, b"-: cannot be written" in told, own), (1, True, wanted))
+    check_equal("a closed output", (status, b"-: cannot be written" in told, own), (1, True, wanted))
 
 
 def without(words, left_out):
@@ -1098,7 +1121,7 @@ def other_part(words, part, made):
 
 
 def renamed(words, given):
-    """Replaces the update that names the same file."""
+    """Puts this update in place of the one that names the same file."""
     file = given.split(":")[2]
     return [given if file in it.split(":") else it for it in words]
 
@@ -1181,22 +1204,22 @@ def elf_files():
     take(*others, "main.elf", "flash.bin")
     take("-j", ".eeprom", "main.elf", "eeprom.bin")
     flash, eeprom = room.read("flash.bin"), room.read("eeprom.bin")
-    see("what avr-objcopy takes", (len(flash) >= 703, eeprom) == (True, b"\4\xff\5"), (flash, eeprom))
+    check("what avr-objcopy takes", (len(flash) >= 703, eeprom) == (True, b"\4\xff\5"), (flash, eeprom))
     wanted = flash.ljust(32_768, b"\xff") + eeprom.ljust(1024, b"\xff") + bytes.fromhex("E2D1FDFC")
     memories = ["flash", "eeprom", "lfuse", "hfuse", "efuse", "lock"]
     words = ["-p", "m328p", "--retry", "1", "-q", *(word for it in memories for word in ("-U", f"{it}:w:main.elf"))]
     it = Boards(silent(0x15), {})
     status, _, told, own = run([*words, "-P", str(it.device)])
     again = ["no answer: the same command again, 1 of 1"]
-    same("all, by a second attempt", (status, own, it.end()), (0, again, wanted))
+    check_equal("all, by a second attempt", (status, own, it.end()), (0, again, wanted))
     words = [word for it in memories for word in ("-U", f"{it}:v:main.elf:e")]
     room.put("wanted.bin", wanted)
     status, _, told, own = run(["-p", "m328p", "-P", "emu:wanted.bin", *words])
-    same("each is compared", (status, told.count(b" verified")), (0, 6))
-    same("its line", own, ["main.elf is read as ELF (:e)"] * 6)
+    check_equal("each is compared", (status, told.count(b" verified")), (0, 6))
+    check_equal("its line", own, ["main.elf is read as ELF (:e)"] * 6)
     linked("high.elf", '.text\n.byte 7\n.section .high, "ax"\n.byte 8, 9\n', "-Wl,--section-start=.high=0x1FFFF")
     status, *_ = run(["-p", "m2560", "-P", "emu:high.bin", "-qq", "-U", "flash:w:high.elf"])
-    same("over 64 kB", (status, room.read("high.bin")[0x1FFFE:0x20002]), (0, b"\xff\x08\x09\xff"))
+    check_equal("over 64 kB", (status, room.read("high.bin")[0x1FFFE:0x20002]), (0, b"\xff\x08\x09\xff"))
     linked("odd.elf", ELF + '.section .odd, "a"\n.byte 1, 2\n', "-Wl,--section-start=.odd=0x850000")
     linked("none.elf", ".text\n.byte 1\n")
     mine = '.section .mine, "a"\n.byte 1\n'
@@ -1220,16 +1243,20 @@ def elf_files():
         _, status, used = os.wait4(started.pid, 0)
         started.returncode = os.waitstatus_to_exitcode(status)
         end = ";" if " is made for " in why else ":"
-        same(text, (started.returncode, told), (1, f"avrstk-serial: {why}{end} {UNOPENED}\n"))
-        see(f"{text}: a second, 100 MB", used.ru_utime < 1 and used.ru_maxrss < 100_000, used)
+        check_equal(text, (started.returncode, told), (1, f"avrstk-serial: {why}{end} {UNOPENED}\n"))
+        check(f"{text}: a second, 100 MB", used.ru_utime < 1 and used.ru_maxrss < 100_000, used)
     for text in ["flash:w:tiny.elf", "eeprom:w:mega.elf"]:
         status, _, _, own = run([*NO_CHIP, "-F", "-U", text])
-        see(f"{text} -F", (status, own[0].startswith("warning: ")) == (0, True), own)
+        check(f"{text} -F", (status, own[0].startswith("warning: ")) == (0, True), own)
     status, _, _, own, chip = over(["-p", "auto", "-U", "flash:w:tiny.elf"])
-    see("-p auto", (status, set(chip), own[-1][-30:]) == (1, {0xFF}, "if it fits both; nothing was written"[-30:]), own)
-    same("its own chip", run(["-p", "attiny85", "-P", "emu:tiny.bin", "-U", "flash:w:tiny.elf"])[0], 0)
+    check(
+        "-p auto",
+        (status, set(chip), own[-1][-30:]) == (1, {0xFF}, "both (-F takes any chip); nothing was written"[-30:]),
+        own,
+    )
+    check_equal("its own chip", run(["-p", "attiny85", "-P", "emu:tiny.bin", "-U", "flash:w:tiny.elf"])[0], 0)
     high = run(["-p", "t85", "-P", "emu:tiny.bin", "-U", "flash:w:high.elf"])
-    same("too high", high[2], lines("error: high.elf: address 0001FFFF out of range"))
+    check_equal("too high", high[2], lines("error: high.elf: address 0001FFFF out of range"))
     room.put("both.hex", b"".join(room.read("blink.hex").splitlines(True)[:-1]) + hex_of([(0x810000, b"eeprom")]))
     for memory, at, held in [("flash", 0, flash), ("eeprom", 32_768, eeprom)]:
         words = ["-p", "m328p", "-U", f"{memory}:w:both.hex"]
@@ -1299,9 +1326,9 @@ def elf_files_with_faults():
             if not subprocess.run(command, cwd=room.folder, capture_output=True).stderr:
                 compared += 1
                 wanted = image_of(room.read("mutated.hex"))
-                see(f"mutant {number}", found == wanted, sorted(set(found) ^ set(wanted))[:9])
+                check(f"mutant {number}", found == wanted, sorted(set(found) ^ set(wanted))[:9])
     told = f"{count} mutants, {read} are read, {compared} compared, the slowest in {slowest:.3f} s"
-    see(told, slowest < 1 and 0 < compared <= read < count)
+    check(told, slowest < 1 and 0 < compared <= read < count)
     print(told, flush=True)
 
 
@@ -1326,7 +1353,7 @@ FOLLOWED = [
         lambda words, _, found: [*words[:3], f"{found[1]}main.elf", *words[4:]],
     ),
     (
-        r"leave out -D, which erases all of flash, and EEPROM unless",
+        r"leave out -D: the erase clears all of flash \(a bootloader, too\), and EEPROM unless",
         lambda words, case, _: on_a_bootloader(words, case) if "loads" in case else without(words, "-D"),
     ),
     (
@@ -1353,7 +1380,7 @@ FOLLOWED = [
     (r": give (\S+:[ise]);", lambda words, _, found: renamed(words, found[1])),
     (r"the memories are flash, eeprom, lfuse", changed("^fuse", "lfuse")),
     (
-        r"the operations are w \(write\)|the formats are i, s, r, e, a and m to write|a file comes last, as flash:w:",
+        r"the operations are w \(write\)|the formats are i, s, r, e, a and m to write|a file comes last, as MEMORY:",
         changed("^flash:.*", "flash:w:blink.hex:i"),
     ),
     (
@@ -1364,22 +1391,22 @@ FOLLOWED = [
     (r"a format is one letter: give -U (\S+);", changed("^flash:.*", r"\1")),
     (r"a value is written as 0xE2", changed(":E2:", ":0xE2:")),
     (
-        r"has no option before it: a file is given as (-U) (\S+)$",
+        r"has no option before it: to write it into flash give (-U) (\S+)$",
         lambda words, _, found: [*words[:-1], found[1], found[2]],
     ),
     (r"a value needs :m after it: give (\S+) if it is hexadecimal", changed("^lfuse.*", r"\1")),
     (r"a value needs :m after it, as lfuse:w:0xE2:m", changed("^lfuse:.*", "lfuse:w:0xE2:m")),
-    (r"has 1 byte: give its value, as lfuse:w:0xE2:m", changed("^lfuse:.*", "lfuse:w:0xE2:m")),
+    (r"has 1 byte: give its value, as lfuse:w:0xNN:m", changed("^lfuse:.*", "lfuse:w:0xE2:m")),
     (r"without the package: -p (\w+)|give -p (\w+);", changed("^(m328p-pu|mega328p)$", r"\1\2")),
     (
         r"-p takes the chip's name, not the board's: (m328p) for Uno|^-p \? lists the parts",
         changed("^(uno|m9)$", "m328p"),
     ),
-    (r"differ that the part doesn't have: give (\S+)", lambda words, _, found: valued(words, found[1])),
+    (r"only bits that the part doesn't have differ: give (\S+)", lambda words, _, found: valued(words, found[1])),
     (r"bits ([\d, ]+) stay 1. If the part has none of them, give (\S+)\. If it has any of them, (.*)", stays),
-    (r"removes a lock: -e, which|only an erase \(-e\) removes it, which", lambda words, *_: [*words, "-e"]),
+    (r"only an erase \(-e\) removes (a|the) lock, and clears all of", lambda words, *_: [*words, "-e"]),
     (r"^-U lock was given before: give it last", lock_last),
-    (r"give one value$|two images overlap: give one$", lambda words, *_: words[:-2]),
+    (r"give one value$|two images overlap \(give one of them\)", lambda words, *_: words[:-2]),
     (r"^ended by SIG|^no reply; the chip is unchanged. Check: |^the device sends data, but no valid reply", mended),
     (
         r"^the programmer (finds no chip|can't reach the chip|stopped replying)|^the device is gone"
@@ -1390,11 +1417,11 @@ FOLLOWED = [
     (r"^check the folder and free space|^standard output is closed", changed(":(/dev/full|-):h", ":read.txt:h")),
     (r"run the same command again$", lambda words, *_: words),
     (
-        r"holds something else than [^;]*$|: use a programmer$|: power-cycle the board$|is worn$|is worn, or a lock"
-        r"|damaged$",
+        r"holds something else than [^;]*$|: use a programmer(, whose erase also clears the bootloader)?$"
+        r"|: power-cycle the board$|is worn$|is worn, or a lock|damaged$",
         lambda *_: None,
     ),
-    (r"use another one$|which is not known here|is not supported: .* Use avrdude", lambda *_: None),
+    (r"use another (one|programmer)$|which is not known here|is not supported: .* Use avrdude", lambda *_: None),
 ]
 
 # Runs avrstk-serial, and notes each row of its hints that is chosen: the function or table, the row's line or number,
@@ -1459,7 +1486,7 @@ def followed(name, words, **case):
         it.end()
         if status == 0:
             break
-        see(f"{name}: no other format", not re.search(r":[ar](?![\w:])|(?<!with) -V", own[-1]), own)
+        check(f"{name}: no other format", not re.search(r":[ar](?![\w:])|(?<!with) -V", own[-1]), own)
         rows = [json.loads(row) for row in trace.read_text().splitlines()] if trace.exists() else []
         chosen |= {tuple(row[:2]) for row in rows if row[2] and row[2] in own[-1] and row[1] is not None}
         # (what it says of a second time is followed then)
@@ -1469,13 +1496,13 @@ def followed(name, words, **case):
         text = [hint, later, ""][hints.count(own[-1])]
         hints.append(own[-1])
         rules = [(begin, act) for begin, act in FOLLOWED if re.search(begin, text)] if text else []
-        if not see(f"{name}: the hint can be followed, and is no circle", rules, (words, own, told, hints)):
+        if not check(f"{name}: the hint can be followed, and is no circle", rules, (words, own, told, hints)):
             break
         words = rules[0][1](words, case, re.search(rules[0][0], text)) or None
         if words is None:
             break
     else:
-        see(f"{name}: it comes to an end", False, hints)
+        check(f"{name}: it comes to an end", False, hints)
     seen.update(chosen)
     # (a bootloader's chip has a lock that is open)
     found = bytes(server.flash) + b"\xff" if server else room.read(chip) or b""
@@ -1485,9 +1512,9 @@ def followed(name, words, **case):
 def walk(name, words, end, **case):
     """Follows hints until a run ends well or a hint gives no command. The chip must be as `end` has it."""
     status, hints, found = followed(name, words, **case)
-    see(f"{name}: it ends well", not status, hints)
+    check(f"{name}: it ends well", not status, hints)
     wanted = end(found)
-    see(
+    check(
         f"{name}: the chip",
         found == wanted,
         [at for at, (one, other) in enumerate(zip(found, wanted)) if one != other][:9],
@@ -1607,7 +1634,7 @@ def hints_over_each_memory():
     cases = [(update, kind, it) for update, kind in itertools.product(updates, kinds) for it in words[update]]
     cases = sampled("hints over each memory", 30, cases)
     for it, (is_right, found) in zip(cases, side_by_side(right, cases)):
-        see(f"{it}: the chip", is_right, found)
+        check(f"{it}: the chip", is_right, found)
 
 
 def each_hint():
@@ -1657,14 +1684,16 @@ def each_hint():
 
     cases = sampled("walks by hints", 25, table("walks"))
     for row, (status, hints, is_right) in zip(cases, side_by_side(ran, cases)):
-        see(f"{row[:2]}: its end", hints and (hints[-1].startswith(row[3]) if row[3] else status == 0), (status, hints))
-        see(f"{row[:2]}: the chip", is_right, hints)
+        check(
+            f"{row[:2]}: its end", hints and (hints[-1].startswith(row[3]) if row[3] else status == 0), (status, hints)
+        )
+        check(f"{row[:2]}: the chip", is_right, hints)
     for it, line in rows_of_hints().items() if cases == table("walks") else []:
-        see(f"a walk follows {it}: {line}", it in seen)
+        check(f"a walk follows {it}: {line}", it in seen)
 
 
 def hints_that_are_followed():
-    """Follows hints of damaged files, and of a bootloader's images, until a run ends well with the wanted chip."""
+    """Follows the hints for damaged files, and for a bootloader's images, until a run leaves the wanted chip."""
     firmware, good = flashed(), room.read("blink.hex")
     image = bytes(it % 251 for it in range(700))
     old = bytes(it % 241 for it in range(32_768))
@@ -1711,7 +1740,7 @@ def hints_that_are_followed():
         )
     follows("-D", flash("late.hex", "-D"), with_flash(image, 0x1000), "late.hex", late, chip=old + b"\xff" * 1028)
     for (name, *_), hints in zip(walks, side_by_side(lambda it: walk(*it[:3], **it[3]), walks)):
-        same(f"{name}: one hint", len(hints), 1) if name in bad else None
+        check_equal(f"{name}: one hint", len(hints), 1) if name in bad else None
 
 
 def signals():
@@ -1727,14 +1756,14 @@ def signals():
 
         it = Board(answer=held)
         started = start([*FLASH, "-P", it.device], start_new_session=True)
-        see("it is reached", reached.wait(PATIENCE))
+        check("it is reached", reached.wait(PATIENCE))
         begun = time.monotonic()
         os.killpg(started.pid, number) if number == signal.SIGINT else started.send_signal(number)
         _, told = started.communicate(timeout=PATIENCE)
         own = [row for row in told.decode().splitlines() if row.startswith("avrstk-serial: ")]
-        see(wanted, started.returncode == 1 and len(own) == 1 and wanted in own[0], told)
+        check(wanted, started.returncode == 1 and len(own) == 1 and wanted in own[0], told)
         took = time.monotonic() - begun
-        see("it ends at once", took < 5, took)
+        check("it ends at once", took < 5, took)
         it.end()
 
 
@@ -1751,13 +1780,13 @@ def reports():
         status, *_, own = run(words)
         it.end()
         found, what = report_of("report.json"), f"{board}, {words}"
-        same(what, (found["status"], found["kind"] or "-", found["chip"]), (status, kind, chip))
-        see(
+        check_equal(what, (found["status"], found["kind"] or "-", found["chip"]), (status, kind, chip))
+        check(
             f"{what}: its error",
             (found["error"] or "").startswith(error) and bool(error) == bool(found["error"]),
             found["error"],
         )
-        see(f"{what}: its hint", found["hint"] is None or found["hint"] in own, (found["hint"], own))
+        check(f"{what}: its hint", found["hint"] is None or found["hint"] in own, (found["hint"], own))
     held = room.read("blink.hex")
     it = Board(answer=lambda reply, lost=iter([b""]): next(lost, reply) if reply[5] == 0x13 else reply)
     output = run(
@@ -1765,21 +1794,51 @@ def reports():
     )[1]
     it.end()
     found, (wrote, read) = json.loads(output), json.loads(output)["updates"]
-    same("an image", (wrote["bytes"], wrote["written"], wrote["verified"]), (len(held), 228, 228))
-    same("its digest", wrote["sha256"], hashlib.sha256(held).hexdigest())
-    same("a file", (read["read"], read["sha256"]), (228, hashlib.sha256(room.read("back.hex")).hexdigest()))
-    same("one lost reply", (found["repeated"], found["retries"], found["signature"]), (1, 0, "1E 95 0F"))
-    same("all commands", found["commands"], frames_in(it.heard))
+    check_equal("an image", (wrote["bytes"], wrote["written"], wrote["verified"]), (len(held), 228, 228))
+    check_equal("its digest", wrote["sha256"], hashlib.sha256(held).hexdigest())
+    check_equal("a file", (read["read"], read["sha256"]), (228, hashlib.sha256(room.read("back.hex")).hexdigest()))
+    check_equal("one lost reply", (found["repeated"], found["retries"], found["signature"]), (1, 0, "1E 95 0F"))
+    check_equal("all commands", found["commands"], frames_in(it.heard))
     reached = threading.Event()
     it = Board(answer=lambda reply: reached.set() or b"" if reply[5] == 0x13 else reply)
     started = start([*FLASH, "-P", it.device, "--json", "report.json"])
-    see("it is reached", reached.wait(PATIENCE))
+    check("it is reached", reached.wait(PATIENCE))
     started.send_signal(signal.SIGTERM)
     started.communicate(timeout=PATIENCE)
     it.end()
     found = report_of("report.json")
-    same("after a signal", (found["kind"], found["chip"]), ("interrupted", "erased or partly written"))
-    same("a folder that isn't there", run([*FLASH, "-P", "emu:c.bin", "--json", "no/report.json"])[0], 1)
+    check_equal("after a signal", (found["kind"], found["chip"]), ("interrupted", "erased or partly written"))
+
+
+def places_of_reports():
+    """A report goes to a file, also by a link, or into a pipe. If it can't be written, the run's own error is still
+    reported, and the status is 1; if that is known before, nothing is sent."""
+    absent = f"cannot be created, since {room.folder}/no is no folder"
+    for name, why in [("no/report.json", absent), (".", "is a folder")]:
+        found = run([*FLASH, "-P", "emu:c.bin", "--json", name])
+        check_equal(f"--json {name}", found, (1, b"", b"", [f"--json {name} {why}: {UNOPENED}"]))
+    check("nothing was done", room.read("c.bin") is None)
+    os.symlink("kept.json", room.folder / "link.json")
+    os.mkfifo(room.folder / "pipe")
+    pipe = os.open(room.folder / "pipe", os.O_RDONLY | os.O_NONBLOCK)
+    for name in ["link.json", "pipe"]:
+        check_equal(f"--json {name}", run([*FLASH, "-P", "emu:c.bin", "--json", name])[0], 0)
+    check_equal("the pipe gets it", json.loads(os.read(pipe, 65_536))["status"], 0)
+    os.close(pipe)
+    check_equal(
+        "the link stays", (os.readlink(room.folder / "link.json"), report_of("kept.json")["status"]), ("kept.json", 0)
+    )
+    full, differs = "--json /dev/full: No space left on device", "flash holds something else than whole.bin"
+    for words, own in [([], [full]), (["-U", "flash:v:whole.bin"], [full, differs])]:
+        it = Board()
+        found = run([*FLASH, *words, "-P", it.device, "--json", "/dev/full"])
+        it.end()
+        check_equal(f"{words}: a full disk", (found[0], found[3][:1], len(found[3])), (1, own[:1], len(own)))
+        check(f"{words}: the hint", own[-1] in found[3][-1], found[3])
+    unread = run([*FLASH, "-P", "emu:c.bin", "--json", "pipe"])
+    check_equal("a pipe that nobody reads", (unread[0], unread[3]), (1, ["--json pipe: No such device or address"]))
+    closed = run([*FLASH, "-P", "emu:c.bin", "--json", "-"], preexec_fn=lambda: os.close(1))
+    check_equal("a closed output", (closed[0], len(closed[3])), (1, 1))
 
 
 def cut_lines():
@@ -1792,7 +1851,7 @@ def cut_lines():
     started.send_signal(signal.SIGHUP)
     _, told = started.communicate(timeout=PATIENCE)
     wanted = ["avrstk: error: ", "avrstk-serial: ended by SIGHUP: nothing was sent: the chip is unchanged"]
-    same("a line that is cut", (started.returncode, told.decode().splitlines()), (1, wanted))
+    check_equal("a line that is cut", (started.returncode, told.decode().splitlines()), (1, wanted))
     os.close(line)
 
 
@@ -1820,13 +1879,15 @@ def closed_streams():
     for closed in ["2>&-", "0<&- 2>&-", "1>&- 2>&-", "2>/dev/full"]:
         it = Board()
         status = start([*FLASH, "-P", it.device], closed).wait(PATIENCE)
-        same(f"{closed}: the chip and the status", (it.end() == wanted, status), (True, 1))
-        see(f"{closed}: no message at the board", it.heard and b"avrstk" not in it.heard, it.heard)
+        check_equal(f"{closed}: the chip and the status", (it.end() == wanted, status), (True, 1))
+        check(f"{closed}: no message at the board", it.heard and b"avrstk" not in it.heard, it.heard)
     for words in [["-p", "?"], ["-c", "?"], ["--help"]]:
         with open("/dev/full", "w") as full:
             status, _, told, own = run(words, stdout=full)
         found = (status, told, own)
-        same(f"{words} to a full disk", found, (1, b"", ["standard output cannot be written: No space left on device"]))
+        check_equal(
+            f"{words} to a full disk", found, (1, b"", ["standard output cannot be written: No space left on device"])
+        )
 
 
 def messages_that_nobody_reads():
@@ -1834,9 +1895,9 @@ def messages_that_nobody_reads():
     wanted = flashed()
     it = Board()
     started = start([*FLASH, "-P", it.device])
-    same("the first line", started.stderr.readline(), lines(SIGNATURE))
+    check_equal("the first line", started.stderr.readline(), lines(SIGNATURE))
     started.stderr.close()
-    same("a pipe that is closed", (it.end() == wanted, started.wait(PATIENCE)), (True, 1))
+    check_equal("a pipe that is closed", (it.end() == wanted, started.wait(PATIENCE)), (True, 1))
     for name, reads in [("a full pipe that is read late", True), ("a full pipe, and a signal", False)]:
         it = Board()
         reader, writer = os.pipe()
@@ -1845,13 +1906,13 @@ def messages_that_nobody_reads():
         started = start([*FLASH, "-P", it.device], stderr=writer)
         os.close(writer)
         wait_until(lambda: it.opened)
-        see(f"{name}: the chip", it.end() == wanted)
+        check(f"{name}: the chip", it.end() == wanted)
         if reads:
             with os.fdopen(reader, "rb") as pipe:
-                same(name, (pipe.read()[4096:], started.wait(PATIENCE)), (lines(*FIRMWARE), 0))
+                check_equal(name, (pipe.read()[4096:], started.wait(PATIENCE)), (lines(*FIRMWARE), 0))
         else:
             started.send_signal(signal.SIGTERM)
-            same(name, started.wait(PATIENCE), 1)
+            check_equal(name, started.wait(PATIENCE), 1)
             os.close(reader)
 
 
@@ -1864,22 +1925,24 @@ def one_run_at_a_time():
     wait_until(lambda: speed(line) == (57_600, 57_600))
     status, _, told, own = run([*FLASH, "-P", device, "-b", "9600"])
     wanted = f"{device}: cannot be opened: another program has it"
-    see("a second run at once", (status, own[-1:]) == (1, [wanted]), (status, told, own))
-    same("the first one's speed", speed(line), (57_600, 57_600))
+    check("a second run at once", (status, own[-1:]) == (1, [wanted]), (status, told, own))
+    check_equal("the first one's speed", speed(line), (57_600, 57_600))
     if ANYONE:
         os.chown(device, 65534, 65534)
     other = subprocess.run(["sh", "-c", ': <"$0"', device], capture_output=True, text=True, **ANYONE)
-    see("a program that doesn't lock", "busy" in other.stderr, other)
+    check("a program that doesn't lock", "busy" in other.stderr, other)
     echo(line)
     first.communicate(timeout=PATIENCE)
-    same("the first one", first.returncode, 0)
+    check_equal("the first one", first.returncode, 0)
     with tempfile.TemporaryDirectory(dir="/tmp") as folder:
         os.chmod(folder, 0o755)
         program = stand_in(CALLS, Path(folder))["AVRSTK"]
         for count in ["a first", "a second"]:
             echo(line)
             ran = run_as_anyone([*FLASH, "-P", device, "--wait", "0"], program)
-            same(f"{count} run of an ordinary user over a terminal that stays", (ran.returncode, ran.stderr), (0, b""))
+            check_equal(
+                f"{count} run of an ordinary user over a terminal that stays", (ran.returncode, ran.stderr), (0, b"")
+            )
     os.close(line)
 
 
@@ -1896,13 +1959,13 @@ def settings_that_are_kept():
     during = echo(line)
     status, *_ = run([*FLASH, "-P", device, "-b", "74880", "--wait", "0"], env=stand_in(CALLS))
     (read, written, control, local), size = during[1], termios.CSIZE | termios.PARENB | termios.CSTOPB | termios.CRTSCTS
-    same("the speed of a run", during[0], (74_880, 74_880))
-    same(
+    check_equal("the speed of a run", during[0], (74_880, 74_880))
+    check_equal(
         "it passes each byte as it is, by 8N1",
         (read, written, local, control & size),
         (termios.IGNPAR, 0, 0, termios.CS8),
     )
-    same("settings after it", (status, termios.tcgetattr(kept)), (0, before))
+    check_equal("settings after it", (status, termios.tcgetattr(kept)), (0, before))
     os.close(kept)
     os.close(line)
 
@@ -1918,9 +1981,9 @@ def devices_that_go():
     os.close(line)
     _, told = started.communicate(timeout=PATIENCE)
     told = told.decode().splitlines()
-    see("two lines", started.returncode == 1 and len(told) == 2 and told[0] == "avrstk: error: link ended", told)
+    check("two lines", started.returncode == 1 and len(told) == 2 and told[0] == "avrstk: error: link ended", told)
     wanted = "avrstk-serial: the device is gone: check the cable; the chip is unchanged"
-    see("it is gone", told[-1].startswith(wanted), told)
+    check("it is gone", told[-1].startswith(wanted), told)
 
 
 def strangers():
@@ -1940,11 +2003,11 @@ def strangers():
             heard = stranger.recv(100)
         except ConnectionResetError:
             heard = b""
-    same("the stranger receives", heard, b"")
+    check_equal("the stranger receives", heard, b"")
     room.put("go", b"")
     _, told = started.communicate(timeout=PATIENCE)
     line = b"avrstk-serial: another program called the port of this run, and was refused\n"
-    same("the run", (started.returncode, told, it.end() == wanted), (0, line + lines(*FIRMWARE), True))
+    check_equal("the run", (started.returncode, told, it.end() == wanted), (0, line + lines(*FIRMWARE), True))
 
 
 # Python loads this at its start: it sends Ctrl-C before a module is loaded
@@ -1967,10 +2030,10 @@ def names_and_interrupts():
         started = start([*FLASH, "-P", device])
         _, told = started.communicate(timeout=PATIENCE)
         wanted = f"avrstk-serial: {shown}: there is no such device (is the cable in?)\n".encode()
-        same(f"the name {device}", (started.returncode, told), (1, wanted))
+        check_equal(f"the name {device}", (started.returncode, told), (1, wanted))
     for name in ["avrstk_serial", "avrstk_common", "glob"]:
         started = start(["-p", "?"], env={"PYTHONPATH": str(room.folder), "SENDS_AT": name})
-        same(f"Ctrl-C before {name} is loaded", end_of(started), (-signal.SIGINT, b"", b""))
+        check_equal(f"Ctrl-C before {name} is loaded", end_of(started), (-signal.SIGINT, b"", b""))
 
 
 def recipe(begin):
@@ -2002,7 +2065,7 @@ def recipe_of_the_script():
         firmware = emulated(*more, *FLASH[2:], part=part)
         it = Board(part=part)
         status, _ = without_socat(typed(recipe(begin), it.device))
-        same(begin, (status, it.end() == firmware), (0, True))
+        check_equal(begin, (status, it.end() == firmware), (0, True))
 
 
 def recipe_of_a_plain_bridge():
@@ -2022,11 +2085,11 @@ def recipe_of_a_plain_bridge():
         wait_until(lambda: listens_at(port))
         found = without_socat(typed(recipe(CALL), it.device, port))
         bridge.communicate(timeout=PATIENCE)
-        same("a plain bridge", (*found, it.end() == firmware), wanted)
+        check_equal("a plain bridge", (*found, it.end() == firmware), wanted)
         kept.close()
     it = Board()
     found = without_socat(typed(recipe("socat EXEC"), it.device))
-    same("stdio:", (*found, it.end() == firmware), (0, lines(*FIRMWARE), True))
+    check_equal("stdio:", (*found, it.end() == firmware), (0, lines(*FIRMWARE), True))
 
 
 def recipe_of_ser2net():
@@ -2043,7 +2106,7 @@ def recipe_of_ser2net():
     try:
         wait_until(lambda: listens_at(port))
         found = without_socat(typed(recipe(CALL), it.device, port))
-        same("ser2net", (*found, it.end() == firmware), (0, lines(*FIRMWARE), True))
+        check_equal("ser2net", (*found, it.end() == firmware), (0, lines(*FIRMWARE), True))
     finally:
         server.terminate()
         server.wait()
@@ -2063,7 +2126,7 @@ CASES = named(
         hints_over_each_memory,
     ),
     *(hints_that_are_followed, progress, few_lines, backups, warnings, images_that_are_read_once, over_a_bootloader),
-    *(files_of_one_command, reports, signals, cut_lines, closed_streams),
+    *(files_of_one_command, reports, places_of_reports, signals, cut_lines, closed_streams),
     *(messages_that_nobody_reads, one_run_at_a_time, settings_that_are_kept, devices_that_go, strangers),
     *(names_and_interrupts, recipe_of_the_script, recipe_of_a_plain_bridge, recipe_of_ser2net),
 )

@@ -24,7 +24,7 @@ import tempfile
 import time
 from pathlib import Path
 
-from cases import PATIENCE, VERSION, leave_out, named, put_program, run_cases, same, see, table, wait_until
+from cases import PATIENCE, VERSION, check, check_equal, leave_out, named, put_program, run_cases, table, wait_until
 from program import REPLIES, CHIP_FILE, EEPROM, ENDS, FRAMES, LFUSE, NAMED, PROGRAM, SESSION, TOP, Room
 from program import frame, has_avrdude, kept_port, lines, port_of, read_whole
 from records import image_of
@@ -67,7 +67,7 @@ class Serving:
             (os.killpg if group else os.kill)(self.started.pid, number)
         status = self.started.wait(timeout=PATIENCE)
         self.started.stdout.close()
-        same("no run is left", runs(), [])
+        check_equal("no run is left", runs(), [])
         return status, self.messages.read_text()
 
     def __enter__(self):
@@ -120,20 +120,20 @@ def begins(client):
 def listens():
     """The server prints its port: the given one, or any free one. A second server at the port ends with a line."""
     with Serving() as it:
-        same("its line", it.said, f"serving at 127.0.0.1:{it.port}\n".encode())
+        check_equal("its line", it.said, f"serving at 127.0.0.1:{it.port}\n".encode())
         for value in [0x60, 0x61, 0x62]:
-            same(f"fuse {value}", it.writes_fuse(value), 0)
+            check_equal(f"fuse {value}", it.writes_fuse(value), 0)
             wait_until(lambda: fuse() == value)
         told = f"avrstk-serve: port {it.port}: Address already in use\n"
-        same("a port that is taken", ran([str(it.port), *M328P]), (1, told, ""))
-        same("it ends", it.end(), (0, ""))
+        check_equal("a port that is taken", ran([str(it.port), *M328P]), (1, told, ""))
+        check_equal("it ends", it.end(), (0, ""))
     kept = kept_port()
     port = str(port_of(kept))
     for part in ["m328p", "atmega328p", "ATmega328P"]:
         with Serving(port=port, chip=["-p", part, "--chip", "chip.bin"]) as it:
-            same("a port that is given", it.said, f"serving at 127.0.0.1:{port}\n".encode())
-            same(f"the part {part}", it.writes_fuse(0x63), 0)
-            same("it ends too", it.end(), (0, ""))
+            check_equal("a port that is given", it.said, f"serving at 127.0.0.1:{port}\n".encode())
+            check_equal(f"the part {part}", it.writes_fuse(0x63), 0)
+            check_equal("it ends too", it.end(), (0, ""))
     kept.close()
 
 
@@ -145,39 +145,39 @@ def clients_that_send_nothing():
             it.call().close()
         silent = [it.call() for _ in range(100)]
         # (a later client is served only after the server has seen these)
-        same("a client after them", it.writes_fuse(0x60), 0)
+        check_equal("a client after them", it.writes_fuse(0x60), 0)
         ended = [it for it in silent if select.select([it], [], [], 0)[0]]
-        same("those that are hung up on", ended, silent[: len(ended)])
-        see("and the others are eight, or seven beside that client", len(silent) - len(ended) in (7, 8), len(ended))
+        check_equal("those that are hung up on", ended, silent[: len(ended)])
+        check("and the others are eight, or seven beside that client", len(silent) - len(ended) in (7, 8), len(ended))
         wait_until(lambda: fuse() == 0x60)
         with it.call() as client:
-            see("a session", begins(client))
+            check("a session", begins(client))
             for _ in range(10):
                 it.call().close()
             silent += [it.call() for _ in range(10)]
-        same("the next client", it.writes_fuse(0x61), 0)
+        check_equal("the next client", it.writes_fuse(0x61), 0)
         for client in silent:
             client.close()
         wait_until(lambda: fuse() == 0x61)
         before = (room.folder / "chip.bin").stat().st_mtime_ns
         for _ in range(10):
             it.call().close()
-        same("it ends", it.end(), (0, ""))
-        same("the chip is not written again", (room.folder / "chip.bin").stat().st_mtime_ns, before)
+        check_equal("it ends", it.end(), (0, ""))
+        check_equal("the chip is not written again", (room.folder / "chip.bin").stat().st_mtime_ns, before)
 
 
 def one_after_another():
     """A client waits until the one before has disconnected, and gets the chip that this one left."""
     with Serving() as it:
         first = it.call()
-        see("the first session", begins(first))
+        check("the first session", begins(first))
         second = it.call()
         second.sendall(FRAMES[0])
-        same("the second one waits", select.select([second], [], [], 0.3)[0], [])
+        check_equal("the second one waits", select.select([second], [], [], 0.3)[0], [])
         first.close()
-        same("and then is served", heard(second, ENDS[0]), REPLIES[: ENDS[0]])
+        check_equal("and then is served", heard(second, ENDS[0]), REPLIES[: ENDS[0]])
         second.close()
-        same("the messages", it.end(), (0, ""))
+        check_equal("the messages", it.end(), (0, ""))
 
 
 def half_closed():
@@ -185,21 +185,21 @@ def half_closed():
     with Serving() as it, it.call() as client:
         client.sendall(b"".join(FRAMES))
         client.shutdown(socket.SHUT_WR)
-        same("the replies", heard(client, 1000), REPLIES)
+        check_equal("the replies", heard(client, 1000), REPLIES)
         wait_until(lambda: room.read("chip.bin") is not None)
-        same("the messages", it.end(), (0, ""))
+        check_equal("the messages", it.end(), (0, ""))
 
 
 def clients_that_reset():
     """Each second client resets the connection in the middle of a session, and the others are served."""
     with Serving() as it:
         for value in range(0x60, 0x68):
-            same(f"fuse {value}", it.writes_fuse(value), 0)
+            check_equal(f"fuse {value}", it.writes_fuse(value), 0)
             with it.call() as client:
-                see("a session", begins(client))
+                check("a session", begins(client))
                 client.setsockopt(socket.SOL_SOCKET, socket.SO_LINGER, struct.pack("ii", 1, 0))
-        same("it ends", it.end(), (0, ""))
-        same("the last one's fuse is there", fuse(), 0x67)
+        check_equal("it ends", it.end(), (0, ""))
+        check_equal("the last one's fuse is there", fuse(), 0x67)
 
 
 def failed(how):
@@ -214,31 +214,31 @@ def a_chip_in_use():
         holder.stderr.readline()
         with it.call() as client:
             client.sendall(FRAMES[0])
-            same("the connection is closed", heard(client, 1), b"")
+            check_equal("the connection is closed", heard(client, 1), b"")
         holder.kill()
         holder.communicate()
-        same("the next client", it.writes_fuse(0x65), 0)
+        check_equal("the next client", it.writes_fuse(0x65), 0)
         told = lines("error: chip.bin: in use by another run").decode() + failed("status 1")
-        same("the messages", it.end(), (1, told))
+        check_equal("the messages", it.end(), (1, told))
 
 
 def idle_clients():
     """With --idle the server disconnects an idle client, and saves the chip."""
     with Serving("--idle", "1.5") as it:
         with it.call() as silent, it.call() as client:
-            see("a session", begins(client))
+            check("a session", begins(client))
             for _ in range(5):
                 time.sleep(0.4)
-                see("one that isn't idle is served on", begins(client))
-            same("the connection of an idle one is closed", client.recv(1), b"")
-            same("and one that has sent nothing", silent.recv(1), b"")
-        see("the chip is saved", len(room.read("chip.bin") or b"") == CHIP_FILE)
-        same("the next client", it.writes_fuse(0x60), 0)
-        same("the messages", it.end(), (0, "avrstk-serve: a client sent nothing for 1.5 seconds: hung up\n"))
+                check("one that isn't idle is served on", begins(client))
+            check_equal("the connection of an idle one is closed", client.recv(1), b"")
+            check_equal("and one that has sent nothing", silent.recv(1), b"")
+        check("the chip is saved", len(room.read("chip.bin") or b"") == CHIP_FILE)
+        check_equal("the next client", it.writes_fuse(0x60), 0)
+        check_equal("the messages", it.end(), (0, "avrstk-serve: a client sent nothing for 1.5 seconds: hung up\n"))
     with Serving() as it, it.call() as client:
-        see("a session", begins(client))
+        check("a session", begins(client))
         time.sleep(1)
-        see("without the option it is served on", begins(client))
+        check("without the option it is served on", begins(client))
         # (its run saves the chip before the next case begins)
         it.end()
 
@@ -248,7 +248,7 @@ def changes_fuse(it, value):
     client = it.call()
     for sent in [*FRAMES[:2], frame(3, 0x1D, 4, 4, 0, 0xAC, 0xA0, 0, value)]:
         client.sendall(sent)
-        see("a reply", heard(client, 6)[:1] == b"\x1b")
+        check("a reply", heard(client, 6)[:1] == b"\x1b")
         client.recv(100)
     (run,) = runs()
     return client, run
@@ -262,26 +262,26 @@ def ends_at_a_signal():
         name = number.name
         room.clear()
         with Serving() as it:
-            same(f"{name}: no client is there", it.end(number, group=group), (0, ""))
+            check_equal(f"{name}: no client is there", it.end(number, group=group), (0, ""))
         with Serving() as it, it.call():
-            same(f"{name}: a silent client", it.end(number, group=group), (0, ""))
-        same(f"{name}: no chip is made", room.read("chip.bin"), None)
+            check_equal(f"{name}: a silent client", it.end(number, group=group), (0, ""))
+        check_equal(f"{name}: no chip is made", room.read("chip.bin"), None)
         with Serving() as it:
             client, _ = changes_fuse(it, 0x63)
-            same(f"{name}: a session", it.end(number, group=group), (0, ""))
-            same(f"{name}: its client's connection is closed", client.recv(1), b"")
-        same(f"{name}: its chip is saved", fuse(), 0x63)
+            check_equal(f"{name}: a session", it.end(number, group=group), (0, ""))
+            check_equal(f"{name}: its client's connection is closed", client.recv(1), b"")
+        check_equal(f"{name}: its chip is saved", fuse(), 0x63)
         with Serving() as it, it.call() as client:
             client.sendall(FRAMES[0] * 2_000)
-            same(f"{name}: a client that takes no replies", it.end(number, group=group)[0], 0)
+            check_equal(f"{name}: a client that takes no replies", it.end(number, group=group)[0], 0)
     # (a module in place of one that it loads)
     room.put("getopt.py", b"import os, signal, time\nos.kill(os.getpid(), signal.SIGTERM)\ntime.sleep(60)")
     for words, status in [(["0", *M328P], 0), (["0", *M328P, "--", "true"], 143)]:
-        same(f"{words}: SIGTERM while it is loaded", ran(words, PYTHONPATH=str(room.folder)), (status, "", ""))
+        check_equal(f"{words}: SIGTERM while it is loaded", ran(words, PYTHONPATH=str(room.folder)), (status, "", ""))
     (room.folder / "getopt.py").unlink()
     with Serving() as it, it.call() as client:
-        see("a session", begins(client))
-        same("three signals at once", it.end(signal.SIGINT, signal.SIGTERM, signal.SIGHUP, group=True)[0], 0)
+        check("a session", begins(client))
+        check_equal("three signals at once", it.end(signal.SIGINT, signal.SIGTERM, signal.SIGHUP, group=True)[0], 0)
 
 
 def refused():
@@ -302,26 +302,26 @@ def refused():
     ]
     for words, status, told in rows:
         found, messages, output = ran(words)
-        same(f"{words}: the status", found, status)
+        check_equal(f"{words}: the status", found, status)
         wanted = "" if told is None else f"{told or messages.partition(chr(10))[0]}\n"
-        same(f"{words}: its messages", messages, wanted)
-        see(f"{words}: it doesn't serve", "serving at 127.0.0.1:" not in output, output)
+        check_equal(f"{words}: its messages", messages, wanted)
+        check(f"{words}: it doesn't serve", "serving at 127.0.0.1:" not in output, output)
     taken.close()
     # (Python 3.6 gets as far as the line that names the version it needs)
     for it in [SCRIPT, TOP / "avrstk-serial"]:
         ast.parse(it.read_text(), feature_version=(3, 6))
     # (Python keeps no docstrings then)
-    see("--help without docstrings", "avrstk-serve PORT" in ran(["--help"], PYTHONOPTIMIZE="2")[2])
+    check("--help without docstrings", "avrstk-serve PORT" in ran(["--help"], PYTHONOPTIMIZE="2")[2])
     for closed, status in [(">&-", 1), (">/dev/full", 1), ("<&- 2>&-", 0)]:
         how = {"program": [SCRIPT], "env": environment(), "stderr": subprocess.DEVNULL}
         started = room.start(["0", *M328P], closed=closed, **how)
         if status == 0:
-            see(f"{closed}: it serves", started.stdout.readline().startswith(b"serving at "))
+            check(f"{closed}: it serves", started.stdout.readline().startswith(b"serving at "))
             started.terminate()
-        same(f"{closed}: the status", started.wait(timeout=PATIENCE), status)
+        check_equal(f"{closed}: the status", started.wait(timeout=PATIENCE), status)
         started.stdout.close()
     status, messages, output = ran(["0", *M328P], AVRSTK="/nowhere/avrstk")
-    same("no program", (status, messages.count("\n"), output), (1, 1, ""))
+    check_equal("no program", (status, messages.count("\n"), output), (1, 1, ""))
 
 
 def installed():
@@ -333,45 +333,45 @@ def installed():
         subprocess.run([TOP / "install.sh", folder], env=own, stdout=subprocess.DEVNULL, check=True)
         script = Path(folder, "bin/avrstk-serve")
         served = ran(["0", "-p", "atmega32u4", "--chip", "chip.bin", "--", "true"], script, AVRSTK="")
-        same("it serves", served, (0, "", ""))
+        check_equal("it serves", served, (0, "", ""))
         scripts = [SCRIPT, script, script.with_name("avrstk"), TOP / "avrstk"]
         shown = [ran(["--version"], it, AVRSTK="")[2].splitlines() for it in scripts]
         stamp = ran(["--stamp-of", PROGRAM], TOP / "avrstk", AVRSTK="")[2].splitlines()
         rows = [it for it in stamp if not it.startswith(("sources", "program"))] or ["not known whether it is proved"]
         wanted = [f"avrstk {VERSION}", *rows]
-        same("--version, installed", shown[1], wanted)
-        same("--version, in the clone", NAMED or shown[0], NAMED or wanted)
-        same("--version of avrstk", [shown[2], NAMED or shown[3]], [wanted, NAMED or wanted])
+        check_equal("--version, installed", shown[1], wanted)
+        check_equal("--version, in the clone", NAMED or shown[0], NAMED or wanted)
+        check_equal("--version of avrstk", [shown[2], NAMED or shown[3]], [wanted, NAMED or wanted])
         Path(folder, "lib/avrstk/avrstk.stamp").unlink()
         for it in scripts[1:3]:
             told = ran(["--version"], it, AVRSTK="")
-            same("without a stamp", told, (0, "", f"avrstk {VERSION}\nnot known whether it is proved\n"))
+            check_equal("without a stamp", told, (0, "", f"avrstk {VERSION}\nnot known whether it is proved\n"))
 
 
 def status_of_sessions():
     """Status 0 means that the chip of each session was saved, however the server ended. Otherwise a line reports it."""
     for name, acts, told in table("ends"):
         room.clear()
-        same("a chip", room.run(["-p", "m328p", "-P", "emu:chip.bin", "-q", "-U", "lfuse:w:0x11:m"])[0], 0)
+        check_equal("a chip", room.run(["-p", "m328p", "-P", "emu:chip.bin", "-q", "-U", "lfuse:w:0x11:m"])[0], 0)
         with Serving() as it:
             client, run = changes_fuse(it, 0x22)
             for whom, number, pause in map(str.split, acts.split(", ")):
                 os.kill(run if whom == "run" else it.started.pid, signal.Signals[f"SIG{number}"])
                 time.sleep(float(pause))
-            same(f"{name}: its client is hung up on", client.recv(1), b"")
-            same(f"{name}: the status", it.started.wait(timeout=PATIENCE), int(told != ""))
+            check_equal(f"{name}: its client is hung up on", client.recv(1), b"")
+            check_equal(f"{name}: the status", it.started.wait(timeout=PATIENCE), int(told != ""))
             client.close()
-        same(f"{name}: its messages", it.messages.read_text(), failed(told) if told else "")
-        same(f"{name}: the fuse", fuse(), 0x11 if told else 0x22)
-        same(f"{name}: no run is left", runs(), [])
+        check_equal(f"{name}: its messages", it.messages.read_text(), failed(told) if told else "")
+        check_equal(f"{name}: the fuse", fuse(), 0x11 if told else 0x22)
+        check_equal(f"{name}: no run is left", runs(), [])
 
 
 def a_command():
     """A command after -- is run as the client. Its end ends the server, whose status it is, or 1 if a chip was not
     saved."""
     client = [str(PROGRAM), "-p", "m328p", "-P", "net:{}", "-q", "-U", "lfuse:w:0x60:m"]
-    same("a client", ran(["0", *M328P, "--", *client]), (0, "", ""))
-    same("its fuse", fuse(), 0x60)
+    check_equal("a client", ran(["0", *M328P, "--", *client]), (0, "", ""))
+    check_equal("its fuse", fuse(), 0x60)
     rows = [
         (["sh", "-c", "[ {} = $AVRSTK_PORT ] && exit 7"], 7, ""),
         (["sh", "-c", "kill -9 $$"], 137, ""),
@@ -383,20 +383,22 @@ def a_command():
     ]
     for words, status, told in rows:
         found = ran(["0", *M328P, "--", *words])
-        same(f"{words}: the status, and no run is left", (found[0], runs()), (status, []))
-        see(f"{words}: its messages", told is None or found[1:] == (told, ""), found)
+        check_equal(f"{words}: the status, and no run is left", (found[0], runs()), (status, []))
+        check(f"{words}: its messages", told is None or found[1:] == (told, ""), found)
         shutil.rmtree(room.folder / "chip.bin", ignore_errors=True)
     # (a child, one that has lost its parent, one that ignores the signal)
     rows = [("exec sleep 600", 143, "TERM"), ("sleep 600; true", 143, "INT")]
     rows += [("(sleep 600 & sleep 600 &); sleep 600; true", 143, "HUP")]
     for command, status, name in [*rows, ("trap '' TERM; while :; do sleep 600; done", 137, "TERM")]:
         with Serving("--", "sh", "-c", f"echo begun; {command}") as it:
-            same(f"{command}: its output", it.said, b"begun\n")
-            same(f"{command}: SIG{name} ends it too", it.end(signal.Signals[f"SIG{name}"]), (status, ""))
-            same(f"{command}: and all that it started", runs(b"sleep"), [])
+            check_equal(f"{command}: its output", it.said, b"begun\n")
+            check_equal(f"{command}: SIG{name} ends it too", it.end(signal.Signals[f"SIG{name}"]), (status, ""))
+            check_equal(f"{command}: and all that it started", runs(b"sleep"), [])
     told = "avrstk-serve: sh is ended: it went on for 0.5 seconds (--timeout)\n"
-    same("--timeout", ran(["0", *M328P, "--timeout", "0.5", "--", "sh", "-c", "sleep 600; true"]), (124, told, ""))
-    same("all is ended", runs(b"sleep"), [])
+    check_equal(
+        "--timeout", ran(["0", *M328P, "--timeout", "0.5", "--", "sh", "-c", "sleep 600; true"]), (124, told, "")
+    )
+    check_equal("all is ended", runs(b"sleep"), [])
 
 
 # a client that goes on once it was hung up on, as AVRDUDE does: at a port or a device, with a child
@@ -421,14 +423,14 @@ def a_job_ends():
     try:
         for name, (it, status, told) in held.items():
             found = it.communicate(timeout=PATIENCE)[1]
-            same(f"{name}: the status", it.returncode, status)
-            see(
+            check_equal(f"{name}: the status", it.returncode, status)
+            check(
                 f"{name}: its messages",
                 told in found and ("is ended: it went on for 10 seconds after that" in found) == status,
                 found,
             )
-        see("ten seconds", 10 <= time.monotonic() - begun, time.monotonic() - begun)
-        same("nothing is left", runs(b"sleep") + runs(), [])
+        check("ten seconds", 10 <= time.monotonic() - begun, time.monotonic() - begun)
+        check_equal("nothing is left", runs(b"sleep") + runs(), [])
     finally:
         for it in runs(b"sleep") + runs(b"avrstk-serve"):
             os.kill(it, signal.SIGKILL)
@@ -449,7 +451,7 @@ def at_a_terminal():
             shown += os.read(terminal, 100)
         os.write(terminal, keys)
         wait_until(lambda: os.waitid(os.P_PID, child, os.WEXITED | os.WNOHANG | os.WNOWAIT))
-        same(f"{keys}: the status", os.WEXITSTATUS(os.waitpid(child, 0)[1]), status)
+        check_equal(f"{keys}: the status", os.WEXITSTATUS(os.waitpid(child, 0)[1]), status)
         os.close(terminal)
 
 
@@ -461,10 +463,43 @@ def no_inner_port():
         network = {row.split()[9] for row in rows.splitlines() if row.split()[0] != "sl"}
         held = [os.readlink(file) for file in Path(f"/proc/{run}/fd").iterdir()]
         sockets = [name for name in held if name.startswith("socket:")]
-        see("its client is a socket", sockets)
-        same("none is of the network", [name for name in sockets if name[8:-1] in network], [])
+        check("its client is a socket", sockets)
+        check_equal("none is of the network", [name for name in sockets if name[8:-1] in network], [])
         client.close()
-        same("its status", it.end(), (0, ""))
+        check_equal("its status", it.end(), (0, ""))
+
+
+USAGE = "avrstk: error: usage: avrstk_session --serve|--check -p PART [--parts FILE] -P emu:CHIPFILE, or "
+USAGE += "--outline AVRSTK'S OPTIONS\n"
+
+
+def modes_of_a_session():
+    """avrstk_session serves, checks or prints an outline, as its first argument says; without one it does nothing."""
+
+    def session(*words):
+        how = {"cwd": room.folder, "stdin": subprocess.DEVNULL, "capture_output": True, "text": True}
+        found = subprocess.run([SESSION, *words], **how, timeout=PATIENCE)
+        return found.returncode, found.stdout, found.stderr
+
+    part = ["-p", "m328p"]
+    words = [*part, "-P", "emu:unmade.bin"]
+    for wrong in [
+        words,
+        [*words, "--serve"],
+        ["--serve", *part, "-P", "stdio:"],
+        ["--check", *words, "-P", "net:a:1"],
+    ]:
+        check_equal(f"{wrong}: is refused", session(*wrong), (1, "", USAGE))
+    for asked in [["--help"], ["--serve", "-h"]]:
+        check_equal(f"{asked}: prints the usage", session(*asked), (0, "", USAGE))
+    check_equal("--check, without the file", session("--check", *words), (0, "", ""))
+    room.put("short.bin", b"avrstk")
+    refused = session("--check", *part, "-P", "emu:short.bin")
+    check("--check refuses another file", refused[0] == 1 and "short.bin" in refused[2], refused)
+    # (a session alone sends six frames)
+    for port in ["stdio:", "emu:unmade.bin", "net:127.0.0.1:1"]:
+        check_equal(f"--outline over {port}", session("--outline", *part, "-P", port), (0, "frames 6\n", ""))
+    check("no chip file is made", not (room.folder / "unmade.bin").exists())
 
 
 def errors_end_one_session():
@@ -473,26 +508,26 @@ def errors_end_one_session():
         shutil.copy(it, room.folder / it.name)
     copy = room.folder / "avrstk_session"
     with Serving(program=room.folder / PROGRAM.name) as it:
-        same("a client", it.writes_fuse(0x60), 0)
+        check_equal("a client", it.writes_fuse(0x60), 0)
         copy.rename(room.folder / "moved")
         with it.call() as client:
             client.sendall(FRAMES[0])
-            same("one without a program is hung up on", client.recv(1), b"")
+            check_equal("one without a program is hung up on", client.recv(1), b"")
         (room.folder / "moved").rename(copy)
-        same("the next client", it.writes_fuse(0x61), 0)
+        check_equal("the next client", it.writes_fuse(0x61), 0)
         told = "avrstk-serve: a client can't be served: No such file or directory\n"
-        same("it ends", it.end(), (1, told))
-    same("its chip", fuse(), 0x61)
+        check_equal("it ends", it.end(), (1, told))
+    check_equal("its chip", fuse(), 0x61)
 
 
 def signals_that_are_ignored():
     """Signals that were ignored when the server began don't end it, or change its status."""
     found = ran(["0", "-p", "none", "--chip", "chip.bin"], before=lambda: signal.signal(signal.SIGCHLD, signal.SIG_IGN))
-    same("SIGCHLD", found, (1, lines("error: no part none").decode(), ""))
+    check_equal("SIGCHLD", found, (1, lines("error: no part none").decode(), ""))
     with Serving(before=lambda: signal.signal(signal.SIGTERM, signal.SIG_IGN)) as it:
         it.started.terminate()
-        same("SIGTERM", it.writes_fuse(0x60), 0)
-        same("another signal ends it", it.end(signal.SIGINT), (0, ""))
+        check_equal("SIGTERM", it.writes_fuse(0x60), 0)
+        check_equal("another signal ends it", it.end(signal.SIGINT), (0, ""))
 
 
 def other_addresses():
@@ -504,13 +539,13 @@ def other_addresses():
                 leave_out("::1", "this machine has no such address")
                 continue
             if shown:
-                same(f"{address}: its line", it.said, f"serving at {shown}:{it.port}\n".encode())
+                check_equal(f"{address}: its line", it.said, f"serving at {shown}:{it.port}\n".encode())
             place = shown if shown and shown != "0.0.0.0" else "127.0.0.1"
-            same(f"{address}: a client", it.writes_fuse(0x60, place), 0)
+            check_equal(f"{address}: a client", it.writes_fuse(0x60, place), 0)
             if address == "127.0.0.2":
-                same(f"{address}: nobody listens elsewhere", it.writes_fuse(0x61), 1)
-            same(f"{address}: it ends", it.end(), (0, ""))
-        same(f"{address}: the fuse", fuse(), 0x60)
+                check_equal(f"{address}: nobody listens elsewhere", it.writes_fuse(0x61), 1)
+            check_equal(f"{address}: it ends", it.end(), (0, ""))
+        check_equal(f"{address}: the fuse", fuse(), 0x60)
 
 
 def devices():
@@ -518,25 +553,25 @@ def devices():
     link = room.folder / "device"
     # (a run under load takes a while until its first reply)
     with Serving("--pty", "device", "--idle", "3", port=None) as it:
-        same("its line", it.said, b"serving at device\n")
+        check_equal("its line", it.said, b"serving at device\n")
         os.close(os.open(link, os.O_RDWR | os.O_NOCTTY))
         words = ["-p", "m328p", "-P", link, "--wait", "0", "-q"]
         for name in ["blink.hex:i", "whole.bin:r"]:
             found = ran([*words, "-U", f"flash:w:{name}"], TOP / "avrstk-serial")
-            same(f"{name}: a client", found, (0, "", ""))
+            check_equal(f"{name}: a client", found, (0, "", ""))
             wait_until(lambda: not runs() and link.is_symlink())
-        same("the chip", room.read("chip.bin")[:1024], room.read("whole.bin"))
+        check_equal("the chip", room.read("chip.bin")[:1024], room.read("whole.bin"))
         idle = os.open(link, os.O_RDWR | os.O_NOCTTY)
         os.write(idle, FRAMES[0])
-        same("an idle client is hung up on after its reply", read_whole(idle), REPLIES[: ENDS[0]])
+        check_equal("an idle client is hung up on after its reply", read_whole(idle), REPLIES[: ENDS[0]])
         os.close(idle)
         told = "avrstk-serve: a client sent nothing for 3 seconds: hung up\n"
-        same("it ends", it.end(), (0, told))
-        see("its link is removed", not link.is_symlink())
+        check_equal("it ends", it.end(), (0, told))
+        check("its link is removed", not link.is_symlink())
     with Serving("--pty", "device", port=None) as it:
         first = os.open(link, os.O_RDWR | os.O_NOCTTY)
         os.write(first, FRAMES[0])
-        same("a first client", os.read(first, 100), REPLIES[: ENDS[0]])
+        check_equal("a first client", os.read(first, 100), REPLIES[: ENDS[0]])
         (run,) = runs()
         os.kill(run, signal.SIGSTOP)
         os.close(first)
@@ -545,29 +580,29 @@ def devices():
         second = os.open(link, os.O_RDWR | os.O_NOCTTY)
         os.write(second, FRAMES[0])
         os.kill(run, signal.SIGCONT)
-        same("a second client at once", os.read(second, 100), REPLIES[: ENDS[0]])
+        check_equal("a second client at once", os.read(second, 100), REPLIES[: ENDS[0]])
         os.close(second)
-        same("it ends", it.end(), (0, ""))
-    same("nothing is left", [it.name for it in room.folder.glob("device*")], [])
+        check_equal("it ends", it.end(), (0, ""))
+    check_equal("nothing is left", [it.name for it in room.folder.glob("device*")], [])
     with Serving("--pty", "device", port=None) as it:
         client = os.open(link, os.O_RDWR | os.O_NOCTTY)
         (room.folder / f"device.avrstk-{it.started.pid}").write_text("somebody's")
         os.write(client, FRAMES[0])
-        same("a client beside a file with such a name", os.read(client, 100), REPLIES[: ENDS[0]])
+        check_equal("a client beside a file with such a name", os.read(client, 100), REPLIES[: ENDS[0]])
         os.close(client)
         wait_until(lambda: not runs())
         client = os.open(link, os.O_RDWR | os.O_NOCTTY)
         link.unlink()
         link.symlink_to("blink.hex")
         os.write(client, FRAMES[0])
-        same("one that waits when another link is in its place", os.read(client, 100), REPLIES[: ENDS[0]])
+        check_equal("one that waits when another link is in its place", os.read(client, 100), REPLIES[: ENDS[0]])
         os.close(client)
-        same("the server ends", it.started.wait(timeout=PATIENCE), 1)
-        same("the messages", it.messages.read_text(), "avrstk-serve: device: File exists\n")
-        same("the other link stays", os.readlink(link), "blink.hex")
+        check_equal("the server ends", it.started.wait(timeout=PATIENCE), 1)
+        check_equal("the messages", it.messages.read_text(), "avrstk-serve: device: File exists\n")
+        check_equal("the other link stays", os.readlink(link), "blink.hex")
     link.unlink()
     words = ["--pty", "device", *M328P, "--", "sh", "-c", 'cd / && [ -e {} ] && [ {} = "$AVRSTK_PORT" ]']
-    same("a command in another folder", ran(words), (0, "", ""))
+    check_equal("a command in another folder", ran(words), (0, "", ""))
 
 
 def avrdudes_in_a_row():
@@ -578,7 +613,7 @@ def avrdudes_in_a_row():
         'for _ in $(seq 25); do timeout 60 avrdude -qq -c stk500v2 -p m2560 -P "$0" -U lfuse:v:0xff:m || exit; done'
     )
     chip = ["-p", "m2560", "--chip", "chip.bin"]
-    same("all end", ran([*chip, "--pty", "device", "--", "bash", "-c", command, "{}"])[0], 0)
+    check_equal("all end", ran([*chip, "--pty", "device", "--", "bash", "-c", command, "{}"])[0], 0)
 
 
 def has_read_all_of(client):
@@ -602,20 +637,20 @@ def logged():
             # (a bad header whose second byte looks like the start of a frame)
             client.sendall(b"noise" + FRAMES[0] + b"\x1b" + FRAMES[0] + FRAMES[1] + spoiled + frame(4, 0x12))
             replies = REPLIES[: ENDS[1]] + frame(3, 0xB0, 0xC1) + frame(4, 0x12, 0xC0)
-            same("the replies", heard(client, len(replies)), replies)
+            check_equal("the replies", heard(client, len(replies)), replies)
         with it.call() as client:
-            see("another client", begins(client))
+            check("another client", begins(client))
         wait_until(lambda: len(room.read("log").splitlines()) == 5)
         with it.call() as client:
-            see("one whose run is killed", begins(client))
+            check("one whose run is killed", begins(client))
             (run,) = runs()
             os.kill(run, signal.SIGSTOP)
             client.sendall(FRAMES[1])
             wait_until(lambda: has_read_all_of(client))
             os.kill(run, signal.SIGKILL)
-            same("it is hung up on", client.recv(1), b"")
+            check_equal("it is hung up on", client.recv(1), b"")
         it.end()
-    same("its lines", marks(), [row for row, in table("log")])
+    check_equal("its lines", marks(), [row for row, in table("log")])
 
 
 def logs_that_take_no_more():
@@ -624,18 +659,18 @@ def logs_that_take_no_more():
     pipe = room.folder / "pipe"
     os.mkfifo(pipe)
     told = "avrstk-serve: pipe: nobody reads this pipe\n"
-    same("nobody reads it", ran(["0", *M328P, "--log", "pipe"]), (1, told, ""))
+    check_equal("nobody reads it", ran(["0", *M328P, "--log", "pipe"]), (1, told, ""))
     reader = os.open(pipe, os.O_RDONLY | os.O_NONBLOCK)
     with Serving("--log", "pipe") as it, it.call() as client:
         client.settimeout(PATIENCE)
         for _ in range(1_500):
-            see("a reply", begins(client))
+            check("a reply", begins(client))
         held = os.read(reader, 1 << 20)
-        see("whole lines", held.endswith(b"\n") and held.count(b": SIGN_ON 01\n") == held.count(b"\n"), held[-200:])
-        see("a reply", begins(client))
+        check("whole lines", held.endswith(b"\n") and held.count(b": SIGN_ON 01\n") == held.count(b"\n"), held[-200:])
+        check("a reply", begins(client))
         missing = b"%d lines are missing" % (1_500 - held.count(b"\n"))
-        same("what is missing", os.read(reader, 1 << 20).partition(b"\n")[0], missing)
-        same("it ends", it.end(), (0, "avrstk-serve: --log: lines are missing: its reader is too slow\n"))
+        check_equal("what is missing", os.read(reader, 1 << 20).partition(b"\n")[0], missing)
+        check_equal("it ends", it.end(), (0, "avrstk-serve: --log: lines are missing: its reader is too slow\n"))
     os.close(reader)
     room.put("log", b"x" * 10)
     rows = [
@@ -645,10 +680,10 @@ def logs_that_take_no_more():
     for name, words, why in rows:
         with Serving("--log", name, *words) as it, it.call() as client:
             for _ in range(10):
-                see("a reply", begins(client))
-            same(f"{name}: it ends", it.end(), (0, f"avrstk-serve: --log: lines are missing: {why}\n"))
+                check("a reply", begins(client))
+            check_equal(f"{name}: it ends", it.end(), (0, f"avrstk-serve: --log: lines are missing: {why}\n"))
     log = room.read("log")
-    see("the log within its limit", log.endswith(b": SIGN_ON 01\n") and len(log) <= 100, log)
+    check("the log within its limit", log.endswith(b": SIGN_ON 01\n") and len(log) <= 100, log)
 
 
 def state_of(memory, old):
@@ -669,7 +704,7 @@ def faults():
             if not client or not wanted:
                 continue
             room.clear()
-            same("an old firmware", room.run(emulated)[0], 0)
+            check_equal("an old firmware", room.run(emulated)[0], 0)
             words = [
                 *client,
                 "-p",
@@ -684,9 +719,9 @@ def faults():
             status, told, _ = ran(["0", *M328P, "--log", "log", *own, "--", *words])
             chip = room.read("chip.bin")
             found = f"{status}, {state_of(chip[:1024], old)}, {state_of(chip[EEPROM:LFUSE], old)}"
-            same(f"{options}: {client[0]}: status, flash, EEPROM", found, wanted)
-            see(f"{options}: {client[0]}: the log", any(mark in row for row in marks()), marks())
-            see(
+            check_equal(f"{options}: {client[0]}: status, flash, EEPROM", found, wanted)
+            check(f"{options}: {client[0]}: the log", any(mark in row for row in marks()), marks())
+            check(
                 f"{options}: the seed is printed",
                 ("--seed 7 makes the same faults again" in told) == ("%" in options),
                 told,
@@ -697,7 +732,9 @@ def faults():
         (["--strict"], 0, 0),
     ]:
         found, told, _ = ran(["0", *M328P, "--log", "log", *words, "--", "true"])
-        same(f"{words}: it never struck", (found, told), (status, "avrstk-serve: --lose 1000 never struck\n" * count))
+        check_equal(
+            f"{words}: it never struck", (found, told), (status, "avrstk-serve: --lose 1000 never struck\n" * count)
+        )
     if not clients[1]:
         leave_out("faults with AVRDUDE", "AVRDUDE 7.1 is not installed")
 
@@ -706,34 +743,34 @@ def reports():
     """--json writes each session: commands, faults, and whether the chip was saved; also for refused options."""
     with Serving("--json", "report.json", "--lose-reply", "SIGN_ON#2", "--lose", "CHIP_ERASE") as it:
         with it.call() as client:
-            see("a session", begins(client))
+            check("a session", begins(client))
             client.sendall(FRAMES[0] + FRAMES[1])
-            same("the reply to its third command", heard(client, ENDS[1] - ENDS[0]), REPLIES[ENDS[0] : ENDS[1]])
+            check_equal("the reply to its third command", heard(client, ENDS[1] - ENDS[0]), REPLIES[ENDS[0] : ENDS[1]])
         with it.call() as client:
-            see("one whose run is killed", begins(client))
+            check("one whose run is killed", begins(client))
             (run,) = runs()
             os.kill(run, signal.SIGKILL)
-            same("it is hung up on", client.recv(1), b"")
-        same("its status", it.end()[0], 1)
+            check_equal("it is hung up on", client.recv(1), b"")
+        check_equal("its status", it.end()[0], 1)
     held = report()
     faults = [{"fault": "--lose-reply SIGN_ON#2", "struck": 1}, {"fault": "--lose CHIP_ERASE", "struck": 0}]
-    same("the faults", (held["status"], held["faults"], held["seed"]), (1, faults, None))
+    check_equal("the faults", (held["status"], held["faults"], held["seed"]), (1, faults, None))
     sessions = [(it["commands"], len(it["faults"]), it["idle"], it["saved"]) for it in held["sessions"]]
-    same("the sessions", sessions, [(3, 1, False, True), (1, 0, False, False)])
+    check_equal("the sessions", sessions, [(3, 1, False, True), (1, 0, False, False)])
     with Serving("--json", "report.json", "--lose", "SIGN_ON", "--idle", "1") as it:
         with it.call() as client:
             client.sendall(FRAMES[0])
-            same("an idle one ends", heard(client, 1), b"")
+            check_equal("an idle one ends", heard(client, 1), b"")
         it.end()
     (session,) = report()["sessions"]
-    same("it is idle", (session["commands"], session["idle"], session["saved"]), (1, True, True))
+    check_equal("it is idle", (session["commands"], session["idle"], session["saved"]), (1, True, True))
     found, *_ = ran(["0", *M328P, "--json", "report.json", "--seed", "7", "--drop", "2%", "--", "sh", "-c", "exit 7"])
-    same("a command's status", (found, report()["status"], report()["seed"]), (7, 7, 7))
+    check_equal("a command's status", (found, report()["status"], report()["seed"]), (7, 7, 7))
     found, told, _ = ran(["0", "-p", "m328p", "--json", "report.json"])
-    same("refused", (found, report()["error"]), (1, told[len("avrstk-serve: ") : -1]))
+    check_equal("refused", (found, report()["error"]), (1, told[len("avrstk-serve: ") : -1]))
     room.put("chip.bin", b"no chip")
-    same("its own chip", ran(["0", *M328P, "--json", "./chip.bin"])[0], 1)
-    same("the chip stays", room.read("chip.bin"), b"no chip")
+    check_equal("its own chip", ran(["0", *M328P, "--json", "./chip.bin"])[0], 1)
+    check_equal("the chip stays", room.read("chip.bin"), b"no chip")
 
 
 def mega():
@@ -744,14 +781,14 @@ def mega():
     room.put("new.bin", bytes(1_000))
     double, client = ["0", "-p", "m2560", "--chip", "chip.bin", "--mega"], [str(PROGRAM), "-p", "m2560", "-P", "net:{}"]
     found, *_ = ran([*double, "--corrupt", "READ_LOCK", "--", *client, "-q", "-U", "lock:r:/dev/null:h"])
-    same("a corrupt frame", found, 1)
+    check_equal("a corrupt frame", found, 1)
     found, *_ = ran([*double, "--log", "log", "--corrupt", "SIGN_ON#1", "--", *client, "-q"])
-    same("and one", (found, marks()[0]), (0, "1, 1: SIGN_ON 01: corrupted, no reply"))
+    check_equal("and one", (found, marks()[0]), (0, "1, 1: SIGN_ON 01: corrupted, no reply"))
     found, *_ = ran([*double, "--", *client, "-q", "-D", "-U", "flash:w:new.bin:r"])
     wanted = bytes(1_000) + b"\xff" * 24 + flash[1_024:]
-    same("a locked chip is written", (found, room.read("chip.bin") == wanted + eeprom + rest), (0, True))
+    check_equal("a locked chip is written", (found, room.read("chip.bin") == wanted + eeprom + rest), (0, True))
     found, *_ = ran([*double, "--", *client, "-q", "-D", "-V", "-U", "lock:w:0x00:m"])
-    same("the lock", (found, room.read("chip.bin")[-1:].hex()), (0, "c0"))
+    check_equal("the lock", (found, room.read("chip.bin")[-1:].hex()), (0, "c0"))
 
 
 def report():
@@ -769,7 +806,15 @@ def report():
 CASES = named(
     *(listens, clients_that_send_nothing, one_after_another, half_closed, clients_that_reset, a_chip_in_use),
     *(idle_clients, ends_at_a_signal, refused, installed, status_of_sessions, a_command),
-    *(no_inner_port, errors_end_one_session, signals_that_are_ignored, other_addresses, devices, logged),
+    *(
+        no_inner_port,
+        modes_of_a_session,
+        errors_end_one_session,
+        signals_that_are_ignored,
+        other_addresses,
+        devices,
+        logged,
+    ),
     *(avrdudes_in_a_row, faults, a_job_ends, at_a_terminal, logs_that_take_no_more, reports, mega),
 )
 

@@ -26,7 +26,7 @@ from fcntl import ioctl
 from pathlib import Path
 
 import serial
-from cases import PATIENCE, SOMEBODY, named, put_program, run_cases, same, see, table, wait_until
+from cases import PATIENCE, SOMEBODY, check, check_equal, named, put_program, run_cases, table, wait_until
 from program import CHIP_FILE, EEPROM, PROGRAM, SESSION, TOP, forks, read_whole
 from records import hex_of, image_of
 from serial import PYTHON, SCRIPT, SHARED, elf_with
@@ -113,29 +113,33 @@ def twenty_doubles():
         words = [*FLASH, *doubles.ports(), *EACH, "--counter", "counter", "--from", "100", "--json", "report.json"]
         status, output, told = run(words)
     held = report()
-    same("the status", (status, output, held["status"]), (1, "", 1))
-    same("a report of each, in their order", [it["device"] for it in held["runs"]], names)
+    check_equal("the status", (status, output, held["status"]), (1, "", 1))
+    check_equal("a report of each, in their order", [it["device"] for it in held["runs"]], names)
     numbers = {it["device"]: it["number"] for it in held["runs"]}
-    same("twenty numbers", sorted(numbers.values()), list(range(100, 120)))
-    same("the next one", room.read("counter"), b"120\n")
+    check_equal("twenty numbers", sorted(numbers.values()), list(range(100, 120)))
+    check_equal("the next one", room.read("counter"), b"120\n")
     for it in good:
-        same(f"{it}: the lines", lines_of(it, told), [*DONE[:-1], *EEPROM_LINES, "done"])
-        same(f"{it}: the chip", chip_of(it), written(numbers[it]))
+        check_equal(f"{it}: the lines", lines_of(it, told), [*DONE[:-1], *EEPROM_LINES, "done"])
+        check_equal(f"{it}: the chip", chip_of(it), written(numbers[it]))
     for it in held["runs"]:
         _, kind, error = FAULTY.get(it["device"], ([], None, None))
-        same(f"{it['device']}: its report", (it["status"], it["kind"], it["error"]), (int(bool(kind)), kind, error))
+        check_equal(
+            f"{it['device']}: its report", (it["status"], it["kind"], it["error"]), (int(bool(kind)), kind, error)
+        )
     for it in FAULTY:
-        same(f"{it}: the chip", chip_of(it) or b"\xff" * CHIP_FILE, b"\xff" * CHIP_FILE)
+        check_equal(f"{it}: the chip", chip_of(it) or b"\xff" * CHIP_FILE, b"\xff" * CHIP_FILE)
     rows = [it[15:].split(None, 4) for it in told if it.startswith("avrstk-serial: ")][-22:]
-    same("the table's heads", rows[0], ["board", "number", "time", "result"])
-    same("its devices and numbers", {it[0]: it[1] for it in rows[1:-1]}, {it: str(n) for it, n in numbers.items()})
-    same("its results", [it[4] == "done" for it in rows[1:-1]], [it in good for it in names])
+    check_equal("the table's heads", rows[0], ["board", "number", "time", "result"])
+    check_equal(
+        "its devices and numbers", {it[0]: it[1] for it in rows[1:-1]}, {it: str(n) for it, n in numbers.items()}
+    )
+    check_equal("its results", [it[4] == "done" for it in rows[1:-1]], [it in good for it in names])
     for it in rows[1:-1]:
         _, kind, error = FAULTY.get(it[0], ([], "", ""))
-        see(f"{it[0]}: its row", f"({kind})" in it[4] and error in it[4] or not kind, it)
-    same("its end", " ".join(rows[-1]), "20 boards: 17 done, 3 failed")
+        check(f"{it[0]}: its row", f"({kind})" in it[4] and error in it[4] or not kind, it)
+    check_equal("its end", " ".join(rows[-1]), "20 boards: 17 done, 3 failed")
     fronts = {it.split(": ")[0] for it in told}
-    same("each line has its device in front", fronts, {*names, "avrstk-serial"})
+    check_equal("each line has its device in front", fronts, {*names, "avrstk-serial"})
 
 
 EEPROM_LINES = ["eeprom: 6 bytes written", "eeprom: 6 bytes verified"]
@@ -152,24 +156,24 @@ def one_command():
         status, output, told = run([*words, *(word for it in updates for word in ("-U", it))], stdin=reader)
         os.close(reader)
     *rows, held = output.splitlines()
-    same("a board that isn't there", (status, [it["status"] for it in json.loads(held)["runs"]]), (1, [0, 0, 1]))
-    same("its kind", [it["kind"] for it in json.loads(held)["runs"]], [None, None, "device"])
+    check_equal("a board that isn't there", (status, [it["status"] for it in json.loads(held)["runs"]]), (1, [0, 0, 1]))
+    check_equal("its kind", [it["kind"] for it in json.loads(held)["runs"]], [None, None, "device"])
     why = "three: there is no such device (is the cable in?)"
-    see("its line", f"three: avrstk-serial: {why}" in told, told)
-    same("lists go to the output", sorted(rows), ["one: 0xff", "two: 0xff"])
+    check("its line", f"three: avrstk-serial: {why}" in told, told)
+    check_equal("lists go to the output", sorted(rows), ["one: 0xff", "two: 0xff"])
     for it in ["one", "two"]:
-        same(f"{it}: the chip", chip_of(it), written())
-        same(f"{it}: its file", image_of(room.read(f"{it}.hex")), image_of(room.read("blink.hex")))
+        check_equal(f"{it}: the chip", chip_of(it), written())
+        check_equal(f"{it}: its file", image_of(room.read(f"{it}.hex")), image_of(room.read("blink.hex")))
     status, _, told = run(["-p", "m328p", "-P", "emu:a.bin", "-P", "emu:b.bin", "-e", "-q", "-q"])
-    same("-q twice", (status, told), (0, []))
+    check_equal("-q twice", (status, told), (0, []))
     for part in ["-p", "auto"], ["-p", "t85"]:
         with Doubles(["one", "two"]) as doubles:
             found = run([*part, *doubles.ports(), *FLASH[2:], "--json", "report.json"])
         kinds = {it["kind"] for it in report()["runs"]}
-        same(f"{part}", (found[0], kinds), (0, {None}) if part[1] == "auto" else (1, {"other part"}))
+        check_equal(f"{part}", (found[0], kinds), (0, {None}) if part[1] == "auto" else (1, {"other part"}))
     status, output, _ = run(["-p", "m328p", "-P", "emu:a.bin", "-P", "emu:b.bin", "--backup", "kept-{board}"])
     restore = [shlex.split(it.partition(": ")[2]) for it in sorted(output.splitlines())]
-    same("backups", (status, [it[-1] for it in restore]), (0, [f"--restore=kept-emu-{it}.bin" for it in "ab"]))
+    check_equal("backups", (status, [it[-1] for it in restore]), (0, [f"--restore=kept-emu-{it}.bin" for it in "ab"]))
     for it in "ab":
         shutil.rmtree(room.folder / f"kept-emu-{it}.bin")
 
@@ -190,9 +194,9 @@ def refused():
 
     rows = table("station")
     for (words, wanted), (found, own) in zip(rows, serial.side_by_side(lambda it: ran(it[0]), rows)):
-        same(f"{words}: its status and lines", found, (1, "", 1, False))
-        see(f"{words}: the line", own and own[0].startswith(f"avrstk-serial: {wanted}"), own)
-    same("no number is taken", room.read("counter"), b"7\n")
+        check_equal(f"{words}: its status and lines", found, (1, "", 1, False))
+        check(f"{words}: the line", own and own[0].startswith(f"avrstk-serial: {wanted}"), own)
+    check_equal("no number is taken", room.read("counter"), b"7\n")
 
 
 def all_devices():
@@ -203,18 +207,18 @@ def all_devices():
     section = (TOP / "docs/USAGE.md").read_text().split("## Many boards")[1].split("\n## ")[0]
     commands = re.findall(r"^    avrstk-serial (.*)$", section.replace("\\\n", ""), re.M)
     room.put("macs.csv", b"mac\n0A0B\n0C0D\n")
-    same("docs/USAGE has two commands", len(commands), 2)
+    check_equal("docs/USAGE has two commands", len(commands), 2)
     for typed in commands:
         words = shlex.split(typed.replace("firmware.hex", "blink.hex"))
         with Doubles(["a.tty", "b.tty"]):
             command = [sys.executable, "-c", patch, SCRIPT, *words]
             ran = subprocess.run(command, cwd=room.folder, **HOW_TO_WAIT)
         told = ran.stderr.decode().splitlines()
-        same(f"{typed}: the list", (ran.returncode, told[0]), (0, "avrstk-serial: 2 boards: a.tty, b.tty"))
+        check_equal(f"{typed}: the list", (ran.returncode, told[0]), (0, "avrstk-serial: 2 boards: a.tty, b.tty"))
     chips = [chip_of(it) for it in ("a.tty", "b.tty")]
-    same("the rows", sorted(it[EEPROM : EEPROM + 2] for it in chips), [b"\x0a\x0b", b"\x0c\x0d"])
+    check_equal("the rows", sorted(it[EEPROM : EEPROM + 2] for it in chips), [b"\x0a\x0b", b"\x0c\x0d"])
     firmware = [it[:EEPROM] + b"\xff\xff" + it[EEPROM + 2 :] for it in chips]
-    same("the numbers, and the firmware", sorted(firmware), [written(1000), written(1001)])
+    check_equal("the numbers, and the firmware", sorted(firmware), [written(1000), written(1001)])
 
 
 HOW_TO_WAIT = {"stdin": subprocess.DEVNULL, "capture_output": True, "env": ENVIRONMENT, "timeout": PATIENCE}
@@ -247,25 +251,27 @@ def into_images():
             chip = room.read("x.bin")
             found = {place: chip[place] for place in range(EEPROM)}
             all_of = {place: wanted.get(place, 0xFF) for place in range(EEPROM)}
-            same(f"{name}, {text}", (status, found == all_of), (0, True))
-            see(f"{name}: a missing end is reported", (name == "cut.hex") == ("no end record" in " ".join(told)), told)
+            check_equal(f"{name}, {text}", (status, found == all_of), (0, True))
+            check(
+                f"{name}: a missing end is reported", (name == "cut.hex") == ("no end record" in " ".join(told)), told
+            )
         room.clear()
     status, _, told = run(["-p", "m328p", "-P", "emu:x.bin", "-U", "lock:w:0xFC:m", *COUNTED])
     memories = [re.match(r"avrstk: (\w+): \d+ bytes written", it) for it in told]
-    same("the lock comes last", (status, [it[1] for it in memories if it]), (0, ["eeprom", "lock"]))
+    check_equal("the lock comes last", (status, [it[1] for it in memories if it]), (0, ["eeprom", "lock"]))
     room.put("rows.csv", '\ufeffserial,mac\r\nA1,0102\r\n"Ü,2",0304\r\n'.encode())
     rows = ["--rows", "rows.csv", "--each", "eeprom@0={serial}", "--each", "eeprom@16=0x{mac}", "--json", "report.json"]
     for number, wanted in [(1, b"A1"), (2, "Ü,2".encode())]:
         status, *_ = run(["-p", "m328p", "-P", f"emu:{number}.bin", *rows, "--counter", "rows", "--from", "1"])
         chip = room.read(f"{number}.bin")[EEPROM:]
-        same(f"row {number}", (status, chip[: len(wanted)], chip[16]), (0, wanted, 2 * number - 1))
-        same(
+        check_equal(f"row {number}", (status, chip[: len(wanted)], chip[16]), (0, wanted, 2 * number - 1))
+        check_equal(
             f"row {number}: the report",
             (report()["number"], report()["each"][1]["hex"]),
             (number, f"0{2 * number - 1}0{2 * number}"),
         )
     status, _, told = run(["-p", "m328p", "-P", "emu:3.bin", *rows, "--counter", "rows"])
-    same("no third row", (status, told), (1, ["avrstk-serial: --rows rows.csv: all its 2 rows are given"]))
+    check_equal("no third row", (status, told), (1, ["avrstk-serial: --rows rows.csv: all its 2 rows are given"]))
 
 
 COUNTED = [*EACH, "--counter", "counter", "--from", "0"]
@@ -279,8 +285,8 @@ def retried():
     status, _, told = run(["-p", "m328p", "-P", str(it.device), "--retry", "1", *COUNTED])
     chip = it.end()
     numbers = [it[15:] for it in told if "number" in it]
-    same("its numbers", numbers, [f"number {n}: eeprom@0x3F0=00000{n}" for n in (0, 1)])
-    same("the chip has the last one", (status, chip[EEPROM + PLACE :][:6]), (0, b"000001"))
+    check_equal("its numbers", numbers, [f"number {n}: eeprom@0x3F0=00000{n}" for n in (0, 1)])
+    check_equal("the chip has the last one", (status, chip[EEPROM + PLACE :][:6]), (0, b"000001"))
 
 
 # in place of avrstk: it appends its EEPROM image to a file
@@ -335,9 +341,9 @@ def numbers_given_once():
         found = [image_of(it.encode() + b":00000001FF\n") for it in noted.read_text().split(":00000001FF\n")[:-1]]
         numbers = [int(bytes(it[at] for at in range(6))) for it in found]
         last = int((folder / "number").read_text())
-    see(f"most are used, by {stations} stations", len(numbers) > count / 4, len(numbers))
-    same("none is given twice", len(set(numbers)), len(numbers))
-    see("all are of the counter", set(numbers) <= set(range(5, last)), (min(numbers), max(numbers), last))
+    check(f"most are used, by {stations} stations", len(numbers) > count / 4, len(numbers))
+    check_equal("none is given twice", len(set(numbers)), len(numbers))
+    check("all are of the counter", set(numbers) <= set(range(5, last)), (min(numbers), max(numbers), last))
 
 
 def end_somehow(station, draw):
@@ -375,11 +381,13 @@ def signals():
             it = busy([*FLASH, *doubles.ports(), "--json", "report.json"], 3)
             it.send_signal(number)
             told = it.communicate(timeout=PATIENCE)[1].decode().splitlines()
-        same(f"{number.name}: the status", it.returncode, 1)
+        check_equal(f"{number.name}: the status", it.returncode, 1)
         for name in names:
             state = f"ended by {number.name}: the chip is erased or partly written, and may be held in reset"
-            see(f"{number.name}: {name}", any(row.startswith(f"{name}: avrstk-serial: {state}") for row in told), told)
-        same(f"{number.name}: the report", {it["kind"] for it in report()["runs"]}, {"interrupted"})
+            check(
+                f"{number.name}: {name}", any(row.startswith(f"{name}: avrstk-serial: {state}") for row in told), told
+            )
+        check_equal(f"{number.name}: the report", {it["kind"] for it in report()["runs"]}, {"interrupted"})
     with Doubles(names, slow) as doubles:
         it = busy([*FLASH, *doubles.ports(), "--json", "report.json"], 3)
         boards = Path(f"/proc/{it.pid}/task/{it.pid}/children").read_text().split()
@@ -387,7 +395,9 @@ def signals():
         it.communicate(timeout=PATIENCE)
     held = [(it["status"], it["kind"], it["chip"]) for it in report()["runs"]]
     killed = (1, "interrupted", "erased or partly written")
-    same("a board's process is killed", (it.returncode, held), (1, [(0, None, "done"), killed, (0, None, "done")]))
+    check_equal(
+        "a board's process is killed", (it.returncode, held), (1, [(0, None, "done"), killed, (0, None, "done")])
+    )
 
 
 def busy(words, count):
@@ -411,12 +421,12 @@ def progress():
         got = read_whole(mine).decode()
         status = it.wait(PATIENCE)
     stays, drawn = screen(got)
-    same("the messages of a board that stay", (status, lines_of("one", stays)), (0, DONE))
-    see("the table is last", stays[-1] == "avrstk-serial: 2 boards: 2 done, 0 failed", stays)
-    see("two lines are drawn", all(len(it) == 2 for it in drawn), drawn)
-    see("each with its board", all([row[:4] for row in it] == ["one ", "two "] for it in drawn), drawn)
+    check_equal("the messages of a board that stay", (status, lines_of("one", stays)), (0, DONE))
+    check("the table is last", stays[-1] == "avrstk-serial: 2 boards: 2 done, 0 failed", stays)
+    check("two lines are drawn", all(len(it) == 2 for it in drawn), drawn)
+    check("each with its board", all([row[:4] for row in it] == ["one ", "two "] for it in drawn), drawn)
     shown = [row for it in drawn for row in it]
-    see("with its progress", any(re.match(r"one reading flash: [\d,]+ bytes, \d+ %", it) for it in shown), shown)
+    check("with its progress", any(re.match(r"one reading flash: [\d,]+ bytes, \d+ %", it) for it in shown), shown)
 
 
 def screen(text):
@@ -449,14 +459,14 @@ def ordinary_user():
             words = ["-p", "m328p", "-P", "emu:a.bin", "-P", "emu:b.bin", *EACH, "--counter", file, "--from", "3"]
             command = [*SOMEBODY, PYTHON, str(folder / "avrstk-serial"), *words, "-q", "-q"]
             ran = subprocess.run(command, cwd=folder / "his", **HOW_TO_WAIT)
-            same(f"{file}: the status", ran.returncode, wanted)
+            check_equal(f"{file}: the status", ran.returncode, wanted)
             if wanted:
-                see(
+                check(
                     f"{file}: the error",
                     b"number.lock: Permission denied: no number was taken" in ran.stderr,
                     ran.stderr,
                 )
-        same("its number", (folder / "his/number").read_text(), "5\n")
+        check_equal("its number", (folder / "his/number").read_text(), "5\n")
 
 
 CASES = named(

@@ -18,7 +18,7 @@ import tempfile
 from contextlib import contextmanager
 from pathlib import Path
 
-from cases import TOP, named, run_cases, same, see
+from cases import TOP, check, check_equal, named, run_cases
 
 PARTS = ("src", "specs", "proofs", "README.md")
 FOREIGN = "patch_serial_number"
@@ -104,21 +104,21 @@ def files(top):
 
 def copied(top, *crates):
     """Checks that exactly these crates are there, identical to those here, with their lines."""
-    same("crates", sorted(it.name for it in (top / "crates").iterdir()), sorted(crates))
+    check_equal("crates", sorted(it.name for it in (top / "crates").iterdir()), sorted(crates))
     for name in crates:
         here = {it: text for it, text in files(TOP / "crates" / name).items() if it.split("/")[0] in PARTS}
-        see(f"{name} as it is here", files(top / "crates" / name) == here)
-        same(f"line of {name}", line_of(name, top), line_of(name))
+        check(f"{name} as it is here", files(top / "crates" / name) == here)
+        check_equal(f"line of {name}", line_of(name, top), line_of(name))
 
 
 def all_that_it_stands_on():
     """tools/vendor.sh copies the named crates and all crates of this repository that they use."""
     with repository() as top:
         status, text = vendor("avr_records", "avr_part", top)
-        same("status", status, 0)
+        check_equal("status", status, 0)
         copied(top, "avr_image", "avr_records", "avr_part")
-        see("what was made", "made crates.txt" in text and "avr_image: copied, its line added" in text, text)
-        see("what is the kit's", "of the kit: arrayvec thiserror hex memchr toml" in text, text)
+        check("what was made", "made crates.txt" in text and "avr_image: copied, its line added" in text, text)
+        check("what is the kit's", "of the kit: arrayvec thiserror hex memchr toml" in text, text)
 
 
 def the_network_is_named():
@@ -127,7 +127,7 @@ def the_network_is_named():
     for crate, told in [("avr_tool", True), ("avr_session", False)]:
         with repository() as top:
             status, text = vendor(crate, top)
-            see(f"{crate}: HANDLES", status == 0 and (needs.format(top) in text) == told, text)
+            check(f"{crate}: HANDLES", status == 0 and (needs.format(top) in text) == told, text)
 
 
 def what_is_there_stays():
@@ -138,11 +138,11 @@ def what_is_there_stays():
         vendor("avr_image", top)
         before = files(top)
         status, text = vendor("avr_records", top)
-        see("the crate below is left", status == 0 and "avr_image: there already\n" in text, text)
+        check("the crate below is left", status == 0 and "avr_image: there already\n" in text, text)
         after = files(top)
         before.pop("crates.txt")
-        same("nothing else changed", {it: after[it] for it in before}, before)
-        same("the lines", after["crates.txt"].decode(), f"{lines}\n{line_of('avr_records')}\n")
+        check_equal("nothing else changed", {it: after[it] for it in before}, before)
+        check_equal("the lines", after["crates.txt"].decode(), f"{lines}\n{line_of('avr_records')}\n")
 
 
 def refusals():
@@ -161,12 +161,12 @@ def refusals():
             (("avr_image",), "usage: tools/vendor.sh CRATE.. FOLDER"),
         ]
         for words, why in refused:
-            same(why, vendor(*words), (1, f"vendor.sh: error: {why}\n"))
-        same("nothing changed", files(top), before)
+            check_equal(why, vendor(*words), (1, f"vendor.sh: error: {why}\n"))
+        check_equal("nothing changed", files(top), before)
         shutil.rmtree(top / "crates/avr_image")
         (top / "crates.txt").write_text("avr_image: thiserror\n")
         line = "the line of avr_image in {0}/crates.txt differs: avr_image: thiserror"
-        same("another line", vendor("avr_image", top), (1, f"vendor.sh: error: {line.format(top)}\n"))
+        check_equal("another line", vendor("avr_image", top), (1, f"vendor.sh: error: {line.format(top)}\n"))
 
 
 def add_example(name, top):
@@ -174,13 +174,13 @@ def add_example(name, top):
     source = (TOP / f"examples/library/{name}.rs").read_text()
     needs = re.match("// crates: (.*)", source)[1]
     status, text = vendor(*filter(line_of, needs.split()), top)
-    same("vendored", (status, text if status else ""), (0, ""))
+    check_equal("vendored", (status, text if status else ""), (0, ""))
     crate = top / "crates" / name
     (crate / "src").mkdir(parents=True)
     (crate / "src/lib.rt").write_text(source.partition("\nfn main(")[0])
     with (top / "crates.txt").open("a") as lines:
         lines.write(f"{name}: {needs}\n")
-    same("the example's layout", ran(["rt", "fmt"], crate)[0], 0)
+    check_equal("the example's layout", ran(["rt", "fmt"], crate)[0], 0)
 
 
 @contextmanager
@@ -202,7 +202,7 @@ def build():
         with (top / "crates.txt").open("a") as lines:
             lines.write(f"tests: avr_image {FOREIGN}\n")
         status, text = ran(["rt", "try", "--test"], tests.parent)
-        see("its tests pass", status == 0 and "1 passed" in text, text[-600:])
+        check("its tests pass", status == 0 and "1 passed" in text, text[-600:])
 
 
 def proof():
@@ -211,7 +211,7 @@ def proof():
         lend(top)
         for name in (FOREIGN, EXAMPLE):
             status, text = ran(["rt", "check"], top / "crates" / name)
-            see(f"{name} is proved", status == 0 and "logic=proved" in text.splitlines()[-1], text[-600:])
+            check(f"{name} is proved", status == 0 and "logic=proved" in text.splitlines()[-1], text[-600:])
 
 
 CASES = named(all_that_it_stands_on, the_network_is_named, what_is_there_stays, refusals, build)

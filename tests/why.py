@@ -15,7 +15,7 @@ import sys
 import time
 from pathlib import Path
 
-from cases import PATIENCE, leave_out, named, run_cases, same, see
+from cases import PATIENCE, check, check_equal, leave_out, named, run_cases
 from line import BadLine
 from program import CHIP_FILE, ENDS, PROGRAM, REPLIES, TOP, Room, Server, frame, has_avrdude, lines
 
@@ -36,7 +36,7 @@ def table_is_printed():
     """examples/lossy/compare.py prints exactly the rows of docs/WHY, and README's rows are among them."""
     wanted = rows((TOP / "docs/WHY.md").read_text())
     shown = rows((TOP / "README.md").read_text())
-    see("README has rows of it", shown and set(shown) <= set(wanted), shown)
+    check("README has rows of it", shown and set(shown) <= set(wanted), shown)
     how = {"capture_output": True, "text": True, "env": os.environ | {"AVRSTK": str(PROGRAM)}, "timeout": PATIENCE}
     ran = subprocess.run([TOP / "examples/lossy/compare.py"], **how)
     found = rows(ran.stdout)
@@ -45,9 +45,9 @@ def table_is_printed():
             leave_out(f"docs/WHY: {row[:60]}", "AVRDUDE 7.1 is not installed")
         wanted, found = ([it for it in table if "`avrdude" not in it] for table in (wanted, found))
     for row in wanted:
-        see(f"is printed: {row}", row in found, "\n".join(found))
-    same("no other row is printed", [it for it in found if it not in wanted], [])
-    see("the status", ran.returncode == 0, f"{ran.returncode}: {ran.stderr[-500:]}")
+        check(f"is printed: {row}", row in found, "\n".join(found))
+    check_equal("no other row is printed", [it for it in found if it not in wanted], [])
+    check("the status", ran.returncode == 0, f"{ran.returncode}: {ran.stderr[-500:]}")
 
 
 def frames_are_sent():
@@ -83,13 +83,13 @@ def frames_are_sent():
         taken = time.monotonic() - begun
         sent = [(it[1], it[5]) for it in line.end() if it[5] not in MODES]
         sent = sent[sent.index(shown[0]) :]
-        same(f"{name}: the frames", sent[: len(shown)], shown)
+        check_equal(f"{name}: the frames", sent[: len(shown)], shown)
         more = "128 blocks" in "\n".join(column) and 127
-        same(f"{name}: and then", [it for _, it in sent[len(shown) :]], [COMMANDS["READ_FLASH"]] * more)
-        see(f"{name}: the wait", taken >= int(re.search(r"waits (\d+) s", "\n".join(column))[1]), taken)
-        see(f"{name}: verified, status 0", ran.returncode == 0 and "verified" in ran.stderr, ran)
+        check_equal(f"{name}: and then", [it for _, it in sent[len(shown) :]], [COMMANDS["READ_FLASH"]] * more)
+        check(f"{name}: the wait", taken >= int(re.search(r"waits (\d+) s", "\n".join(column))[1]), taken)
+        check(f"{name}: verified, status 0", ran.returncode == 0 and "verified" in ran.stderr, ran)
         is_old = room.read("served.bin")[8192:8448] == bytes(256)
-        see(f"{name}: the old firmware", is_old == (not is_right) == ("old firmware" in "\n".join(column)), is_old)
+        check(f"{name}: the old firmware", is_old == (not is_right) == ("old firmware" in "\n".join(column)), is_old)
 
 
 def bad_files():
@@ -116,9 +116,9 @@ def bad_files():
             server.end()
         chip = room.read("chip.bin")
         found = ran.returncode, chip == FULL
-        see(f"AVRDUDE, {name}", found == (status, is_kept), (found, ran.stderr[-300:]))
+        check(f"AVRDUDE, {name}", found == (status, is_kept), (found, ran.stderr[-300:]))
         if status == 0:
-            see("and the chip has them", chip[:2] == b"\x0c\x94", chip[:2])
+            check("and the chip has them", chip[:2] == b"\x0c\x94", chip[:2])
 
 
 def no_answer():
@@ -133,13 +133,13 @@ def no_answer():
         other = subprocess.Popen(["avrdude", "-c", "stk500v2", *port], **quiet) if has_avrdude() else None
         started = room.start(port)
         line, taken = started.stderr.readline(), time.monotonic() - begun
-        see("`no answer`", line == lines("error: no answer") and first <= taken < first + 2, (line, taken))
+        check("`no answer`", line == lines("error: no answer") and first <= taken < first + 2, (line, taken))
         started.communicate(timeout=PATIENCE)
         taken = time.monotonic() - begun
-        see("the end", started.returncode == 1 and last <= taken < last + 2, taken)
+        check("the end", started.returncode == 1 and last <= taken < last + 2, taken)
         if other:
             time.sleep(patient - taken)
-            see(f"AVRDUDE still waits after {patient} s", other.poll() is None, other.poll())
+            check(f"AVRDUDE still waits after {patient} s", other.poll() is None, other.poll())
             other.kill()
             other.wait()
         else:
@@ -147,7 +147,7 @@ def no_answer():
         # (one of the two that called)
         heard = [silent.accept()[0].recv(4096) for _ in range(1 + bool(other))]
         wanted = b"".join([*(frame(it, 0x01) for it in range(1, 5)), *(frame(it, 0x11, 1, 1) for it in range(5, 9))])
-        see("four attempts to sign on, four to leave", wanted in heard, heard)
+        check("four attempts to sign on, four to leave", wanted in heard, heard)
 
 
 def used_by(process):
@@ -158,7 +158,7 @@ def used_by(process):
 
 def closed_connection():
     """Checks what avrstk and AVRDUDE do once the other side has closed the connection, as README says."""
-    see(
+    check(
         "README's row",
         re.search(
             r"^\| a connection that .* never ends, .* `link ended` at once", (TOP / "README.md").read_text(), re.M
@@ -184,14 +184,14 @@ def closed_connection():
             begun = time.monotonic()
             if told:
                 messages = started.communicate(timeout=PATIENCE)[1]
-                same(f"`link {told}`", (started.returncode, messages), (1, lines(f"error: link {told}")))
-                see("at once", time.monotonic() - begun < 2, time.monotonic() - begun)
+                check_equal(f"`link {told}`", (started.returncode, messages), (1, lines(f"error: link {told}")))
+                check("at once", time.monotonic() - begun < 2, time.monotonic() - begun)
                 continue
             time.sleep(5)
             before = used_by(started.pid)
             time.sleep(10)
-            see("AVRDUDE goes on after 15 s", started.poll() is None, started.poll())
-            see("and uses the processor", used_by(started.pid) - before > 10)
+            check("AVRDUDE goes on after 15 s", started.poll() is None, started.poll())
+            check("and uses the processor", used_by(started.pid) - before > 10)
             started.kill()
             started.communicate()
 
@@ -199,4 +199,5 @@ def closed_connection():
 CASES = named(table_is_printed, frames_are_sent, bad_files, no_answer, closed_connection)
 
 if __name__ == "__main__":
-    sys.exit(run_cases(CASES, __doc__, timed=["frames_are_sent", "no_answer", "closed_connection"]))
+    # (AVRDUDE's own timeouts count, too)
+    sys.exit(run_cases(CASES, __doc__, timed=["frames_are_sent", "bad_files", "no_answer", "closed_connection"]))

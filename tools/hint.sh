@@ -11,7 +11,11 @@ is_for_serial() {
             # (as in clap, an equals sign may come before a value)
             p) part=${OPTARG#=} ;;
             c) programmer=${OPTARG#=} ;;
-            P) port=${OPTARG#=} ;;
+            P)
+                # (of several ports avrstk takes the last, and avrstk-serial writes to each)
+                [ -z "$port" ] || return 1
+                port=${OPTARG#=}
+                ;;
             C | l | s | u) ignored=yes ;;
             [:?]) return 1 ;;
             -)

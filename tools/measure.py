@@ -4,8 +4,9 @@
     tools/measure.py            prints a table of all crates, and how many names have several meanings
     tools/measure.py -v         also lists these names, and lines over 120 columns
     tools/measure.py --write    writes the sums into docs/ARCHITECTURE, and rounded into README
-    tools/measure.py --check    fails if one of them is out of date, if a document has a sentence over 30 words, or if
-                                what README's table "Read on" names takes a reader more minutes than it says
+    tools/measure.py --check    fails if one of them is out of date, if a document has a sentence over 30 words, if
+                                what README's table "Read on" names takes a reader more minutes than it says, or if the
+                                crates that no program needs have more lines of proofs than MOST_ABOVE
 
 Only files known to git are read. Code is counted in src/, without tests and contracts. Contracts are the clauses of
 functions, definitions are in specs/, and proofs in proofs/. Blank lines, comments and `use` lines are never counted.
@@ -31,6 +32,9 @@ FUNCTION = re.compile(r"^\s*(pub |pub\(crate\) )?(?:const |unsafe )?fn (\w+)")
 TYPE = re.compile(r"(?:pub(?:\(crate\))? )?(?:struct|enum|trait|type) (\w+)")
 DATA = re.compile(r"(?:pub (?:record|data)|abbrev pub(?= [A-Z]\w* : Type 0$)) ([A-Z]\w*)")
 TEST = re.compile(r"/src/(?:.*/)?(?:\w*tests?|examples)(?:/|\.rt)")
+
+# lines of proofs in the crates that no program needs: a new law pays for itself
+MOST_ABOVE = 11_400
 
 LONG = 30
 WORDS_A_MINUTE = 220
@@ -151,6 +155,14 @@ def figures():
     return "\n".join(table), f"{SEVERAL}{len(meanings())}", f"{SHARED}{len(types())}"
 
 
+def above_bound(page):
+    """Yields what the page's sums show if the crates that no program needs have too many lines of proofs."""
+    sums = dict(re.findall(r"^\| (the program|in all) (?:\| \d+ ){3}\| (\d+) ", page, re.M))
+    above = int(sums["in all"]) - int(sums["the program"])
+    if above > MOST_ABOVE:
+        yield f"the crates that no program needs have {above} lines of proofs; at most {MOST_ABOVE} are allowed"
+
+
 def with_figures(page):
     """Returns the page with the current table, of which it has the titles and the sums."""
     head, rest = page.split("| Crate | Code |", 1)
@@ -212,7 +224,8 @@ def main():
         page = with_figures(PAGE.read_text())
         long = ((name, it) for name in documents() for it in long_sentences(name))
         wrong = [f"{name} has a sentence over {LONG} words: {it}" for name, it in long]
-        sys.exit(kept({PAGE: page, README: with_sums(README.read_text(), page)}, [*wrong, *too_long()]))
+        wrong += [*too_long(), *above_bound(page)]
+        sys.exit(kept({PAGE: page, README: with_sums(README.read_text(), page)}, wrong))
     print("\n\n".join(figures()))
     if "-v" in sys.argv:
         print("\n".join(f"  {name}: {', '.join(where)}" for name, where in sorted(meanings().items())))

@@ -4,16 +4,19 @@
     tools/reach.py FILE.NAME ..      for these definitions of specs/; CRATE.FILE.NAME if several crates have one; a name
                                      alone is a law or another function, for all that its clauses name
     tools/reach.py -v ..             also lists them, file by file
+    tools/reach.py --for WORD ..     what the promise needs for a command line of avrstk: -P net: -U flash:w:a.hex:i
     tools/reach.py --check           compares the table of docs/PROOFS with the figures; --write writes them there. It
                                      also looks for each definition (`File.name`) and law that the documents name, for
-                                     the lemmas of avr_laws that show that the promise isn't empty, and for each clause
-                                     of `Folder` in the model that shows that the laws of a crash aren't
+                                     the lemmas of avr_laws that show that the promise isn't empty, for the rows of
+                                     Intel HEX, and for each clause of `Folder` in the model that shows that the laws of
+                                     a crash aren't empty
 
 A definition reaches the definitions that its text names, in its own file or brought in by `use` lines. Definitions of
 std, of other libraries and of Rust (an enum, a struct) are listed but not counted. A variable with the name of a
 definition counts as that definition, so a figure can be too high, but not too low. A record's field doesn't. Lines are
 those of the definitions, without comments and `use` lines."""
 
+import argparse
 import re
 import sys
 
@@ -25,8 +28,31 @@ LAWS = TOP / "crates/avr_laws/README.md"
 # the documents whose names are looked for
 NAMING = ("PROOFS", "PROMISES", "CHECK", "LIBRARY")
 TABLE = "| Sentence | Where it is defined | Definitions | Lines |"
+HEX_ROWS = "| Lemma | Lines of the text | Bytes of memory | Image |"
 WORLDS = "| Definition | Lemma: an example meets it | Lemma: a wrong example doesn't |"
 PROMISE = "a_program_with_status_0_kept_its_plan"
+USES = "| Use of a command line | Where it is defined | Definitions | Lines |"
+# for a use of a command line, the definitions that only such a command line needs
+ONLY_FOR = {
+    "`-P stdio:`": ["Links.TranscriptIsTrueSince"],
+    "`-P net:`": ["Sockets.IsOverAddress"],
+    "`-P stdio:` or `-P net:`": ["KeptByAny.IsKeptByAny"],
+    "`-P emu:`": ["KeptByPort.IsKeptInFile"],
+    "`--serve`": ["Settings.serve_settings"],
+    "`--parts`": ["HeldParts.HoldsParts"],
+    "a memory that is read": ["SavedText.saved_text", "Session.bytes_to_save"],
+    "values (`:m`)": ["HeldImage.HoldsValues"],
+    "a file of Intel HEX": ["HeldImage.ihex_line"],
+    "a file of S-records": ["HeldImage.srec_line"],
+    "a file of either": ["HeldImage.HoldsRecords"],
+    "a format that is detected": ["Detect.format_of_file"],
+}
+# command lines in docs/PROOFS
+EXAMPLES = (
+    "-P net:HOST:PORT -U flash:w:a.hex:i",
+    "-P emu:FILE -U flash:w:a.hex:i",
+    "-P net:HOST:PORT -U lfuse:w:0xE2:m",
+)
 # the trait whose clauses a crash rests on, and its model
 TRAIT, MODEL = TOP / "crates/avr_desk/src/folder.rt", TOP / "crates/avr_laws/proofs/Rows/Folder.antt"
 
@@ -103,11 +129,13 @@ def named_in(crate, file, text):
             yield found(*place)
 
 
-def reached(roots):
+def reached(roots, skipped=()):
+    """Returns the definitions that these need, themselves among them, without the skipped ones and what only these
+    need."""
     seen, todo = set(), list(roots)
     while todo:
         place = todo.pop()
-        if place is None or place in seen:
+        if place is None or place in seen or place in skipped:
             continue
         seen.add(place)
         crate, file, name = place
@@ -156,6 +184,50 @@ def with_figures(page):
     return f"{head}{TABLE}" + "\n".join(made) + f"\n\n{behind}"
 
 
+def uses_of(words):
+    """Returns the uses in `ONLY_FOR` of a command line, given as its words. An update's default format is detected, and
+    a detected format may be any."""
+    parser = argparse.ArgumentParser(add_help=False, allow_abbrev=False)
+    for option in ("-P", "--serve", "--parts"):
+        parser.add_argument(option, default="")
+    parser.add_argument("-U", action="append", default=[])
+    line = parser.parse_known_args(words)[0]
+    updates = [it if ":" in it else f"flash:w:{it}:a" for it in line.U]
+    reads = [it for it in updates if it.split(":")[1] == "r"]
+    files = [it.split(":", 2)[2] for it in updates if it not in reads]
+    letters = {it[-1] if it[-2:-1] == ":" else "a" for it in files}
+    port = line.P.split(":")[0]
+    uses = {f"`-P {port}:`", *(f"`{name}`" for name in ("--serve", "--parts") if getattr(line, name[2:]))}
+    uses |= {"`-P stdio:` or `-P net:`"} if port in ("stdio", "net") else set()
+    uses |= {"a memory that is read"} if reads else set()
+    uses |= {"values (`:m`)"} if "m" in letters else set()
+    uses |= {"a file of Intel HEX"} if letters & {"i", "a"} else set()
+    uses |= {"a file of S-records"} if letters & {"s", "a"} else set()
+    uses |= {"a file of either"} if letters & {"i", "s", "a"} else set()
+    return uses | ({"a format that is detected"} if "a" in letters else set())
+
+
+def needed_for(words):
+    """Returns the definitions that the promise needs for a command line."""
+    skipped = {definition(name) for use in ONLY_FOR.keys() - uses_of(words) for name in ONLY_FOR[use]}
+    return reached(roots_of(PROMISE), skipped)
+
+
+def with_uses(page):
+    """Returns the page with its table of uses. A use has the definitions that no other command line needs; a command
+    line has all that it needs."""
+    head, rest = page.split(USES, 1)
+    whole = reached(roots_of(PROMISE))
+    rows = []
+    for use, names in ONLY_FOR.items():
+        only = whole - reached(roots_of(PROMISE), {definition(name) for name in names})
+        rows.append(f"| {use} | {', '.join(f'`{name}`' for name in names)} | {len(only)} | {lines_of(only)} |")
+    for line in EXAMPLES:
+        needed = needed_for(line.split())
+        rows.append(f"| all for `{line}` | `{PROMISE}` | {len(needed)} | {lines_of(needed):,} |")
+    return "\n".join([head + USES, "| --- | --- | ---: | ---: |", *rows]) + "\n\n" + rest.split("\n\n", 1)[1]
+
+
 def with_lines(readme, page):
     """Returns README with the lines that the first sentence of the page's table needs, rounded to hundreds."""
     lines = re.search(r"^\| status 0 of the program, .*\| ([\d,]+) \|$", page, re.M)[1]
@@ -182,13 +254,42 @@ def lacking():
     return wrong
 
 
+def statements():
+    """Returns the statements of lemmas by file and name, of the files in proofs/Rows of avr_laws."""
+    head = re.compile(r"^(?:pub )?(\w+) :\s(.*?)\n(?=unfolding |\1 )", re.M | re.S)
+    files = TOP.glob("crates/avr_laws/proofs/Rows/*.antt")
+    return {f"Rows.{it.stem}": dict(head.findall(it.read_text())) for it in files}
+
+
+def hex_statement(lines, size, image):
+    """Returns what a row of Intel HEX states: a text of these lines has this image in a memory of `size` bytes. A short
+    image is written byte by byte."""
+    text = "".join(f"{line}\\n" for line in lines)
+    holds = f'HoldsRecords Ihex (codes "{text}") {size}'
+    if image == "refused":
+        return f"(image : List (Option ℕ)) → {holds} image → ⊥"
+    places = [(int(at, 16), int(byte, 16)) for at, byte in re.findall(r"(\w+): (\w+)", image)]
+    if size > 4:
+        pairs = [f"({at:#x}, {byte})" for at, byte in places]
+        return f"{holds} (image_of_pairs {size} ({' ∷ '.join([*pairs, '[]'])}))"
+    cells = [f"Some {dict(places)[at]}" if at in dict(places) else "None" for at in range(size)]
+    return f"{holds} ({' ∷ '.join([*cells, '[]'])})"
+
+
+def unproved(page):
+    """Yields the rows of Intel HEX that aren't what their lemma states."""
+    lemmas = statements()["Rows.Held"]
+    for row in page.split(HEX_ROWS)[1].split("\n\n")[0].splitlines()[2:]:
+        name, lines, size, image = row.strip("| ").split(" | ")
+        stated = hex_statement(re.findall("`([^`]*)`", lines), int(size.replace(",", "")), image)
+        if "".join(stated.split()) != "".join(lemmas.get(name.strip("`"), "").split()):
+            yield f"Rows.Held: {name} doesn't state: {stated}"
+
+
 def unshown(page):
     """Yields what is wrong in the table of worlds. A lemma has to be there and to name the definition of its row; one
     that refuses a world ends in `→ ⊥`. The promise has to reach the definition."""
-    head = re.compile(r"^(?:pub )?(\w+) :\s(.*?)\n(?=unfolding |\1 )", re.M | re.S)
-    rows = {
-        f"Rows.{it.stem}": dict(head.findall(it.read_text())) for it in TOP.glob("crates/avr_laws/proofs/Rows/*.antt")
-    }
+    rows = statements()
     promise = reached(roots_of(PROMISE))
     for row in page.split(WORLDS)[1].split("\n\n")[0].splitlines()[2:]:
         named, met, refuses, *_ = re.findall("`([^`]*)`", row)
@@ -218,15 +319,17 @@ def unmet():
 
 def main(words):
     if words in (["--check"], ["--write"]):
-        page = with_figures(PAGE.read_text())
+        page = with_uses(with_figures(PAGE.read_text()))
         sys.exit(
             kept(
                 {PAGE: page, README: with_lines(README.read_text(), page)},
-                [*lacking(), *unshown(LAWS.read_text()), *unmet()],
+                [*lacking(), *unproved(LAWS.read_text()), *unshown(LAWS.read_text()), *unmet()],
             )
         )
-    roots = [root for it in words if it != "-v" for root in roots_of(it)] or sys.exit(__doc__)
-    seen = reached(roots)
+    if words[:1] == ["--for"]:
+        seen = needed_for(words[1:])
+    else:
+        seen = reached([root for it in words if it != "-v" for root in roots_of(it)] or sys.exit(__doc__))
     files = sorted({(crate, file) for crate, file, _ in seen})
     print(f"{len(seen)} definitions, {lines_of(seen)} lines, in {len(files)} files")
     for crate, file in files if "-v" in words else []:

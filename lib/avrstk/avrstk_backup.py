@@ -15,7 +15,7 @@ from typing import Callable
 # the files, in the order of the reads. (What a bootloader refuses to read comes first)
 FILES = {memory: "txt:h" for memory in ["calibration", "signature", *FUSES]}
 FILES.update({"flash": "hex:i", "eeprom": "hex:i"})
-LOCKED = "the chip is locked, so flash and EEPROM can't be read: this is no backup of them"
+LOCKED = "locked, so its flash and EEPROM can't be read"
 
 
 def text_of(folder: str, memory: str) -> str:
@@ -42,7 +42,7 @@ def back_up(words: Words, folder: str, runs: Callable[[], int]) -> int:
         words.updates = [Update(f"{memory}:r:{folder}/{memory}.{end}") for memory, end in FILES.items()]
         status = runs()
         if not status and not bytes_of(folder, "lock")[0] & 2:
-            raise Fault(LOCKED)
+            raise Fault(f"the chip is {LOCKED}: no backup is kept")
         is_whole = not status
     finally:
         if not is_whole:
@@ -70,7 +70,7 @@ def restored(words: Words, folder: str) -> list[Update]:
     signature = "".join(f"{byte:02X}" for byte in bytes_of(folder, "signature"))
     own, eeprom = words.signature(), records_of(text_of(folder, "eeprom").encode())
     if not bytes_of(folder, "lock")[0] & 2:
-        raise Fault(LOCKED)
+        raise Fault(f"{folder} is of a chip that was {LOCKED}")
     if own and own != signature:
         raise Fault(f"{folder} is of a chip {signature}, and {words.part} is {own}")
     if sorted(eeprom) != list(range(words.field("eeprom_size") or len(eeprom))):

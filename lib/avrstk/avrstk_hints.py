@@ -21,8 +21,8 @@ SAME = "run the same command again"
 ONE_IMAGE = "give one image that begins at 0 and leaves out no page"
 POWER_CYCLE = "power-cycle the board"
 UNCHANGED = "the chip is unchanged"
-TAKES = "flash, and EEPROM unless the fuse bit EESAVE is 0"
-LOCKED = f"a lock protects it: only an erase (-e) removes it, which takes all of {TAKES}"
+TAKES = "flash (a bootloader, too), and EEPROM unless the fuse bit EESAVE is 0"
+LOCKED = f"a lock protects it: only an erase (-e) removes the lock, and clears all of {TAKES}"
 ANOTHER = "If this is a programmer, it can't erase: use another one"
 LOADER = "a bootloader can't erase the chip"
 STAYS = f"everything reported above was done. The chip stays in programming mode: {POWER_CYCLE}"
@@ -59,13 +59,41 @@ def state_of(run: Outcome) -> str:
         return UNCHANGED
     if not CHANGING & sent:
         return f"{UNCHANGED}, and may be held in reset: {POWER_CYCLE}"
-    return f"the chip is erased or partly written, and may be held in reset: {SAME}"
+    return f"the chip is erased or partly written, and may be held in reset: {again(run.words)}"
+
+
+def again(words: Words) -> str:
+    """Advises to run the same command again, and to save first what that may take and the first run left."""
+    read = {file: f"copy {file}, which the next run overwrites" for file in overwritten(words) if os.path.isfile(file)}
+    eeprom = "read EEPROM into a file (-U eeprom:r:FILE:i), because the next run may erase it"
+    return ", and then ".join([*read.values(), *[eeprom] * may_erase_kept(words), SAME])
+
+
+def overwritten(words: Words) -> list[str]:
+    """Returns the files into which the command reads a memory that it writes later. (A second run reads new bytes.)"""
+    updates = words.updates
+    return [
+        update.file
+        for at, update in enumerate(updates)
+        if update.operation == "r" and any(later.writes(update.memory) for later in updates[at:])
+    ]
+
+
+def may_erase_kept(words: Words) -> bool:
+    """Whether a second run may erase EEPROM that the first one keeps: the command erases, and writes a high fuse that
+    doesn't surely keep EEPROM at an erase. (--restore writes all of EEPROM.)"""
+    bit = words.field("eesave_bit")
+    values = [update.value() for update in words.updates if update.writes("hfuse")]
+    keeps = all(value is not None and bit is not None and not value >> bit & 1 for value in values)
+    return erases(words) and not keeps and words.restore is None
 
 
 def hint(run: Outcome, number: int | None) -> str:
     """Returns what to do after a failed run, judged by its first error. `number` is the signal that ended it."""
     error, words, state = run.error, run.words, state_of(run)
     if number:
+        if LEAVE in run.commands and not error:
+            state = f"everything reported above was done; the chip may be held in reset: {POWER_CYCLE}"
         return f"ended by {signal.Signals(number).name}: {state}"
     if CHANGING & run.earlier and not CHANGING & run.commands:
         return state
@@ -74,8 +102,8 @@ def hint(run: Outcome, number: int | None) -> str:
         why = matched(REFUSALS, error, words)
         return f"{why}; {end}" if why else end
     speed, resets = f"the speed (-b {words.baud})", "that the board resets when the port opens"
-    kinds = "Uno and Nano need -c arduino, Arduino as ISP -c arduino_as_isp, and USBasp needs avrdude"
-    others = f"{resets} (else press reset right after starting). {kinds}"
+    kinds = "To write an Uno or Nano itself give -c arduino -D, and to write another chip by it, -c arduino_as_isp"
+    others = f"{resets} (else press reset right after starting). {kinds}. USBasp needs avrdude"
     if run.is_noisy:
         why = f"the device sends data, but no valid reply: its application is running, or {speed} is wrong"
         return f"{why}. Check {others}"
@@ -108,7 +136,7 @@ def no_part(words: Words, _: Match[str]) -> str:
         return f"give -p at{package}"
     if re.match("uno|nano|mega|leonardo|micro", name):
         return "-p takes the chip's name, not the board's: m328p for Uno, m2560 for Mega 2560, m32u4 for Leonardo"
-    auto = "" if words.part else ", and -p auto reads which one it is"
+    auto = "" if words.part else ", and -p auto takes whichever is there"
     return f"-p ? lists the parts{auto}; others need a part file (--parts)"
 
 
@@ -126,7 +154,7 @@ def unread(words: Words, found: Match[str]) -> str:
     if other and other != update.format:
         return f"it has {FORMATS.get(other)}: give {update.memory}:{update.operation}:{update.file}:{other}"
     if re.search(rb"^" + RECORD.pattern, held, re.M):
-        cure = "delete it if it is a comment, else build or download the file again"
+        cure = "delete that if it is a comment, else build or download the file again"
         return f"something is above its first record: {cure}"
     return f"it is not {FORMATS.get(update.format or '')}"
 
@@ -137,7 +165,7 @@ def too_far(words: Words, update: Update, address: int) -> str:
     if address >= 0x810000:
         return f"it has several memories: give the ELF file itself, as {own}:NAME.elf"
     if update.memory in FUSES:
-        return f"{update.memory} has 1 byte: give its value, as {own}:0xE2:m"
+        return f"{update.memory} has 1 byte: give its value, as {own}:0xNN:m"
     size = words.field(f"{update.memory}_size") if update.memory in ("flash", "eeprom") else 1
     room = f"has {size:,} byte{'s' if size > 1 else ''}" if size else "is smaller"
     goes_on = f"{update.file} goes past it: " if update.elf else ""
@@ -152,7 +180,7 @@ def unopened(words: Words, found: Match[str]) -> str:
         update = f"{own.memory}:{own.operation}"
         if own.operation in "wv" and re.fullmatch(r"(0[xb])?[0-9A-Fa-f, \t]+", file):
             if not re.fullmatch("[1-9][0-9]", file):
-                return "a value needs :m after it, as lfuse:w:0xE2:m"
+                return f"a value needs :m after it, as {update}:{as_value(file)}:m"
             base = f"{update}:0x{file}:m if it is hexadecimal, {update}:{file}:m if it is decimal"
             return f"a value needs :m after it: give {base}"
         if os.path.isfile(front):
@@ -164,6 +192,13 @@ def unopened(words: Words, found: Match[str]) -> str:
     if not os.access(file, os.R_OK):
         return "you may not read it"
     return "the system refuses to open it"
+
+
+def as_value(text: str) -> str:
+    """Returns a value as format m takes it; a placeholder if the text can be read in several ways."""
+    if re.fullmatch("0[xb][0-9A-Fa-f]+|[0-9]|[1-9][0-9]{2}", text):
+        return text
+    return f"0x{text}" if re.fullmatch("[0-9A-Fa-f]{2}", text) and not text.isdigit() else "0xNN"
 
 
 def another_part(words: Words, found: Match[str]) -> str:
@@ -188,7 +223,7 @@ def differs(words: Words, found: Match[str]) -> str:
     if bits is not None and not (wanted ^ held) & bits:
         if not ~(wanted | bits) & 0xFF:
             return "bits read 0 that this part lacks, and reads as 1: is -p right?"
-        return f"only bits differ that the part doesn't have: give {memory}:{'w' if writes else 'v'}:0x{held:02X}:m"
+        return f"only bits that the part doesn't have differ: give {memory}:{'w' if writes else 'v'}:0x{held:02X}:m"
     if not writes:
         return f"{memory} holds something else than {compared}"
     if memory in FUSES:
@@ -198,14 +233,15 @@ def differs(words: Words, found: Match[str]) -> str:
     is_erased = erases(words)
     if memory == "flash" and not is_erased and not held & ~wanted:
         return remains(words)
-    always = f"{SAME}; if it always fails at the same address, "
+    always = f"{again(words)}; if it always fails at the same address, "
     if compared:
         return f"{always}{memory} holds something else than {compared}"
+    worn = "a page is worn" if is_erased else f"a page is worn, or {LOCKED}"
     if len(writes) > 1:
-        return f"{always}two images overlap: give one"
+        return f"{always}two images overlap (give one of them), or {worn}"
     is_far = memory == "eeprom" and address > 0xFF
     far = "a bootloader reads other addresses above 255 (use a programmer), " if is_far else ""
-    return f"{always}{far}{'a page is worn' if is_erased else f'a page is worn, or {LOCKED}'}"
+    return f"{always}{far}{worn}"
 
 
 def erases(words: Words) -> bool:
@@ -234,16 +270,18 @@ def unlike_fuse(words: Words, memory: str, wanted: int, held: int) -> str:
     if memory == "lock" and len(locks) > 1:
         return "the lock is given twice: give one value"
     if memory == "lock" and wanted & ~held and not erases(words):
-        return f"only an erase removes a lock: -e, which takes all of {TAKES}"
+        return f"only an erase (-e) removes a lock, and clears all of {TAKES}"
     if is_after_lock(words, memory):
         return "-U lock was given before: give it last"
-    return f"{SAME}; if it fails again, {cause}"
+    return f"{again(words)}; if it fails again, {cause}"
 
 
 def remains(words: Words) -> str:
     """Returns the hint after flash that kept zeros of before, since nothing erased it."""
-    bootloader = "a page is worn" if words.is_whole() else f"{ONE_IMAGE}, since it erases pages from 0 on"
-    programmer = f"With a programmer leave out -D, which erases all of {TAKES}"
+    # (a bootloader of version 1 erases each page that it writes)
+    is_erased = words.is_version1 or words.is_whole()
+    bootloader = "a page is worn" if is_erased else f"{ONE_IMAGE}, since it erases pages from 0 on"
+    programmer = f"With a programmer leave out -D: the erase clears all of {TAKES}"
     return f"old bytes remain without an erase. {programmer}; with a bootloader {bootloader}"
 
 
@@ -251,7 +289,7 @@ def unerased(words: Words, _: Match[str]) -> str:
     """Returns what to do if an erase is refused."""
     given = {update.memory for update in words.updates if update.operation == "w"}
     if not given or given & set(FUSES):
-        return f"{LOADER}, or write fuses and the lock: use a programmer"
+        return f"{LOADER}, or write fuses and the lock: use a programmer, whose erase also clears the bootloader"
     if "flash" not in given:
         return f"{LOADER}: leave out -e. {ANOTHER}"
     without = "leave out -e, and " if "-e" in words.flags else ""
@@ -264,7 +302,7 @@ KINDS = {
     "no such memory": f"the memories are {', '.join(MEMORIES)}",
     "no such operation": "the operations are w (write), v (compare) and r (read)",
     "no such format here": "the formats are i, s, r, e, a and m to write and compare, i, s, r, h, d, o and b to read",
-    "no file named": "a file comes last, as flash:w:firmware.hex:i",
+    "no file named": "a file comes last, as MEMORY:OP:FILE:FORMAT",
 }
 
 
@@ -288,7 +326,7 @@ REPLIED: Table = {
     r"signature is (\w\w \w\w \w\w)": another_part,
     "command 12 ": unerased,
     "command 14 refused with status C1": "flash outside the image is not FF, or the line is noisy: {state}; "
-    "if it refuses again, use another one",
+    "if it refuses again, use another programmer",
     "command 10 ": "the programmer can't reach the chip, which is unchanged: check wires, power, clock and reset pin",
     "command (17|19|1C) ": "a bootloader can't write fuses and the lock, or read the calibration: use a programmer",
     "no answer$": "the programmer stopped replying: check the cable and the power; {state}",

@@ -86,8 +86,8 @@ class Mega:
                 held.clear()
             elif len(held) > 5 and len(held) == size + 6:
                 number, body, total = held[1], bytes(held[5:-1]), 0
-                for it in held:
-                    total ^= it
+                for value in held:
+                    total ^= value
                 held.clear()
                 if not total:
                     yield number, body

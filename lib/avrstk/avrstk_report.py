@@ -2,7 +2,7 @@
 
 from __future__ import annotations
 
-from avrstk_common import NAME, version
+from avrstk_common import NAME, Fault, say, show, version
 from avrstk_hints import CHANGING, LEAVE, NO_SIGNATURES, SIGN_ON, Outcome
 from avrstk_words import Update, Words
 
@@ -11,7 +11,6 @@ import hashlib
 import json
 import os
 import re
-import sys
 import tempfile
 import time
 
@@ -136,14 +135,42 @@ def build() -> dict[str, object]:
     }
 
 
-def write(place: str, report: dict[str, object]) -> None:
-    """Writes a report into a file, whole or not at all; `-` is standard output."""
-    text = (json.dumps(report, ensure_ascii=True) + "\n").encode()
+def fault_of(place: str) -> str | None:
+    """Returns why no report can be written at a place; None if it can, as far as is known before the run."""
+    folder, is_file = os.path.dirname(os.path.realpath(place)), not os.path.exists(place) or os.path.isfile(place)
     if place == "-":
-        sys.stdout.buffer.write(text)
-        sys.stdout.flush()
-        return
-    file, spare = tempfile.mkstemp(prefix=".avrstk-report-", dir=os.path.dirname(place) or ".")
+        return None
+    if os.path.isdir(place):
+        return "is a folder"
+    if not os.path.isdir(folder):
+        return f"cannot be created, since {folder} is no folder"
+    return None if os.access(folder if is_file else place, os.W_OK) else "cannot be written, you have no right to"
+
+
+def write(place: str, report: dict[str, object]) -> bool:
+    """Writes a report into a file, whole or not at all; `-` is standard output. Returns whether it did. (If not, a line
+    reports it, so that the error of the run is still reported.)"""
+    text = json.dumps(report, ensure_ascii=True)
+    try:
+        if place == "-":
+            show(text)
+        elif os.path.exists(place) and not os.path.isfile(place):
+            # (a pipe or a device stays what it is; a pipe that nobody reads is an error)
+            file = os.open(place, os.O_WRONLY | os.O_NONBLOCK | os.O_NOCTTY)
+            os.set_blocking(file, True)
+            with open(file, "w", encoding="ascii") as out:
+                out.write(f"{text}\n")
+        else:
+            replace(os.path.realpath(place), f"{text}\n".encode())
+    except (Fault, OSError) as fault:
+        say(f"--json {place}: {fault.strerror if isinstance(fault, OSError) else fault}")
+        return False
+    return True
+
+
+def replace(place: str, text: bytes) -> None:
+    """Replaces a file by one with this text."""
+    file, spare = tempfile.mkstemp(prefix=".avrstk-report-", dir=os.path.dirname(place))
     try:
         with open(file, "wb") as out:
             out.write(text)

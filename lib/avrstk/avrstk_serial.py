@@ -7,9 +7,10 @@ from avrstk_common import heed_signals, is_frame, messages, parts, ready, say, s
 from avrstk_common import version, wait
 from avrstk_backup import asking, back_up, restored
 from avrstk_each import Each
-from avrstk_report import Report, write
+from avrstk_report import Report, fault_of, write
 from avrstk_rows import try_rows
-from avrstk_hints import LEAVE, NO_CHIP, NO_SIGNATURES, ONE_IMAGE, SIGN_ON, Outcome, hint, state_of
+from avrstk_hints import LEAVE, NO_CHIP, NO_SIGNATURES, ONE_IMAGE, SIGN_ON, Outcome, hint, may_erase_kept
+from avrstk_hints import overwritten, state_of
 from avrstk_station import station
 from avrstk_version1 import SPEEDS, Bridge
 from avrstk_words import FORMATS, FUSES, UNOPENED, Update, Words, long_name, parts_of
@@ -119,12 +120,10 @@ def unrepaired(words: Words) -> str | None:
             if update.memory == "flash" and "flash" in written and overlaps(words.plan().pages):
                 return "it writes a page of flash twice"
             written.add(update.memory)
-    # (it erases, and writes a high fuse that doesn't keep EEPROM at an erase)
-    bit = words.field("eesave_bit")
-    values = [update.value() for update in words.updates if update.operation == "w" and update.memory == "hfuse"]
-    keeps = all(value is not None and bit is not None and not value >> bit & 1 for value in values)
-    erases = "-e" in words.flags or "flash" in written and "-D" not in words.flags
-    return "a second one may erase EEPROM that this one keeps" if erases and not keeps else None
+    lost = overwritten(words)
+    if lost:
+        return f"a second one overwrites {lost[0]}, and reads what this one wrote"
+    return "a second one may erase EEPROM that this one keeps" if may_erase_kept(words) else None
 
 
 def overlaps(pages: list[tuple[int, int]] | None) -> bool:
@@ -215,7 +214,8 @@ class Device:
         return self.file
 
     def close(self) -> None:
-        """Restores the device's settings and closes it. If the device is gone, only the close succeeds."""
+        """Restores the device's settings and closes it. If the device is gone, only the close succeeds. Another call
+        does nothing."""
         if self.old:
             with contextlib.suppress(OSError):
                 fcntl.ioctl(self, termios.TCFLSH, termios.TCIOFLUSH)
@@ -225,6 +225,7 @@ class Device:
                 fcntl.ioctl(self, termios.TIOCNXCL)
         if self.file >= 0:
             os.close(self.file)
+        self.file, self.old = -1, b""
 
 
 def opened(words: Words) -> Device | Bridge:
@@ -566,7 +567,7 @@ def check(words: Words) -> None:
     except SystemExit:
         # (nothing is built: this reports it)
         program = session_program()
-    command = [program, *only.options("stdio:")]
+    command = [program, "--outline", *only.options("stdio:")]
     ran = subprocess.run(command, stdin=quiet, stdout=quiet, stderr=subprocess.PIPE, close_fds=False)
     if ran.returncode:
         shown = [words.shown(line) for line in ran.stderr.splitlines()]
@@ -640,6 +641,8 @@ def judge_bootloader(words: Words) -> None:
     writes, is_dry = [update for update in words.updates if update.writes_flash()], "-n" in words.flags
     name = f"-c {words.programmer}"
     is_for, programmer = f"{name} is for a bootloader", f"With a programmer leave out {name}"
+    if words.is_version1:
+        programmer = f"With Arduino as ISP give -c arduino_as_isp, and with another programmer leave out {name}"
     cures = ["leave out -e"] if "-e" in words.flags else []
     cures += ["use -D"] if writes and "-D" not in words.flags else []
     if cures and not is_dry:
@@ -662,7 +665,9 @@ def joined(writes: list[Update], pages: list[tuple[int, int]]) -> str:
     fill = ["-fill", "0xFF", "0", f"0x{max(at + count for at, count in pages):X}"] if pages else []
     words = ["(", *words, ")"] if len(words) > 2 and fill else words
     line = " ".join(map(shlex.quote, ["srec_cat", *words, *fill, "-o", "joined.hex", "-Intel"]))
-    return f"Type {line}, and give joined.hex" if all(kinds) else ONE_IMAGE.capitalize()
+    below = "; BELOW.hex has what is to stay below" * ("BELOW.hex" in words)
+    told = f"Type {line}, and give joined.hex, whose gaps are FF{below}"
+    return told if all(kinds) else ONE_IMAGE.capitalize()
 
 
 def judge_part(words: Words, end: str) -> None:
@@ -677,7 +682,7 @@ def judge_part(words: Words, end: str) -> None:
         chip = update.chip or " or ".join(parts_of(update.signature or "")) or update.signature
         why = f"{update.file} is made for {chip}, and -p is {words.part}"
         if "-F" not in words.flags:
-            raise Fault(f"{why}: give -p for that chip, or -F if it fits both; {end}")
+            raise Fault(f"{why}: give -p for that chip, or -F if it fits both (-F takes any chip); {end}")
         words.note(f"warning: {why}")
     writes = [update for update in words.updates if update.writes_flash()] if words.is_wiring else []
     # (without that program it isn't known which pages are written)
@@ -804,8 +809,8 @@ def reported(words: Words) -> int:
         words.report.fault = text_of(fault)
         raise
     finally:
-        if "--json" in words.last:
-            write(words.last["--json"], words.report.made(words, status, ended_by()))
+        if "--json" in words.last and not write(words.last["--json"], words.report.made(words, status, ended_by())):
+            status = 1
     return status
 
 
@@ -880,5 +885,8 @@ def main(help_text: str) -> int:
     else:
         # (a refused command has a report, too, but not in place of its own files)
         judge_files(words, "--json ")
+        fault = fault_of(words.last.get("--json", "-"))
+        if fault:
+            raise Fault(f"--json {words.last['--json']} {fault}: {UNOPENED}")
         return station(words, DEVICES, prepare, live) if words.is_station else reported(words)
     return 0

@@ -6,7 +6,7 @@ from avrstk_common import ENDING, READ, Fault, Source, Way, brief, built, came, 
 from avrstk_common import readable, ready, say, session_program, show, text_of, unchanged, version, wait
 from avrstk_faults import FAULTS, REFUSED, Traffic, seconds
 from avrstk_mega import Mega
-from avrstk_report import build, write
+from avrstk_report import build, fault_of, write
 
 import atexit
 import contextlib
@@ -449,15 +449,21 @@ def main(help_text: str) -> int:
     same = [name for name, file in own.items() if os.path.realpath(file) == os.path.realpath(options["--json"])]
     if same:
         raise Fault(f"--json {options['--json']}: this is the file of {' and '.join(same)}")
+    why = fault_of(options["--json"])
+    if why:
+        raise Fault(f"--json {options['--json']} {why}")
     report: dict[str, object] = {"status": 1, "error": None, "part": options.get("-p"), "chip": options.get("--chip")}
     report.update({"command": client or None, "seed": None, "seconds": 0.0, "faults": [], "sessions": []})
+    status = 1
     try:
-        return serve(given, places, client, report)
+        status = serve(given, places, client, report)
     except (Fault, OSError) as fault:
         report["error"] = text_of(fault)
         raise
     finally:
-        write(options["--json"], {**build(), **report})
+        if not write(options["--json"], {**build(), **report}):
+            status = status or 1
+    return status
 
 
 def judge(options: Mapping[str, str], client: list[str]) -> str:
@@ -485,22 +491,22 @@ def serve(
     """Serves by these options until a signal or the client's end. `report` gets its fields, if one is asked for.
     Returns the status."""
     options, begun = dict(given), time.monotonic()
-    idle, limit = (seconds(it, options[it]) if it in options else None for it in ("--idle", "--timeout"))
+    idle, limit = (seconds(name, options[name]) if name in options else None for name in ("--idle", "--timeout"))
     door, parts = door_of(places, options, idle, client), options.get("--parts")
     traffic = Traffic(given) if {"--log", "--json", *FAULTS, *REFUSED} & set(options) else None
     chip = judge(options, client)
     # (avrstk_session itself reports a missing part)
     words = [*part_words(options.get("-p"), parts), "-P", f"emu:{chip}"]
-    command = [session_program(), *words]
+    session = session_program()
     # runs that serve nobody check the options and set the lock. They report why they fail
-    if fails(*command, "-n"):
+    if fails(session, "--check", *words):
         return 1
     if traffic:
         traffic.open(chip, parts)
     if "--locked" in options and fails(built(), *words, "-q", "-q", "-U", "lock:w:0xFC:m"):
         return 1
     heed_signals()
-    server, status = Server(door, command, idle, traffic), 1
+    server, status = Server(door, [session, "--serve", *words], idle, traffic), 1
     server.is_mega = "--mega" in options
     try:
         status = server.serve_all(client, limit)

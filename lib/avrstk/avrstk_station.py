@@ -313,8 +313,9 @@ def station(words: Words, here: list[str], prepare: Callable[[Words], None], liv
         report.fault = text_of(fault)
         raise
     finally:
-        if "--json" in words.last:
-            write(words.last["--json"], made(report, boards, status, time.monotonic() - begun))
+        seconds = time.monotonic() - begun
+        if "--json" in words.last and not write(words.last["--json"], made(report, boards, status, seconds)):
+            status = 1
     return status
 
 

@@ -69,7 +69,7 @@ def plan_of(options: tuple[str, ...]) -> Plan:
     """Returns the plan of a run with these options, as avrstk_session prints it."""
     quiet = subprocess.DEVNULL
     try:
-        command = [session_program(quiet), *options]
+        command = [session_program(quiet), "--outline", *options]
         ran = subprocess.run(command, stdin=quiet, stdout=subprocess.PIPE, stderr=quiet, close_fds=False)
     except (Fault, OSError, SystemExit):
         return UNKNOWN
@@ -253,13 +253,14 @@ def judge_words(options: Sequence[tuple[str, str]], others: Sequence[str]) -> No
     if not others:
         return
     other, update = others[0], dict(options).get("-U", "")
-    if update in MEMORIES:
-        raise Fault(f"an update is one word: give -U {':'.join([update, *others[:3]])}")
+    memory, _, rest = update.partition(":")
+    if memory in MEMORIES and rest in ("", "r", "w", "v", "r:", "w:", "v:"):
+        raise Fault(f"an update is one word: give -U {':'.join([update.rstrip(':'), *others[:3]])}")
     if re.match("-.", other):
         raise Fault(f"{other} is after --, which ends the options: leave out --")
     if re.match(r"[a-z]+:[rwv]:", other):
         raise Fault(f"{other} has no option before it: give -U {other}")
-    raise Fault(f"{other} has no option before it: a file is given as -U flash:w:{other}")
+    raise Fault(f"{other} has no option before it: to write it into flash give -U flash:w:{other}")
 
 
 class Update:
@@ -362,9 +363,11 @@ class Update:
             return f"is {packed}, not firmware"
         if self.file.lower().endswith(OF_ELF):
             return "is not ELF, as its name says"
-        if RECORD.match(front) or not is_text(front):
+        if RECORD.match(front) or not (is_text(front, 20) or self.memory == "flash" and is_text(front.strip(b"\0"), 2)):
             return None
-        cure = f"give its value, as {self.memory}:w:0xE2:m" if self.memory in FUSES else "name its format"
+        cure = "name the format only if its characters are meant"
+        if self.memory in FUSES:
+            cure = f"give its value, as {self.memory}:w:0xNN:m"
         return f"is text without records: {cure}"
 
     def fault_of_elf(self, held: bytes) -> str | None:
@@ -451,15 +454,15 @@ def read_whole(file: str) -> bytes | None:
     raise Fault(f"{file} has more than {MOST:,} bytes: {UNOPENED}")
 
 
-def is_text(held: bytes) -> bool:
-    """Whether these bytes are text: they have hardly any control characters, and are UTF-8 or mostly ASCII. (Firmware
-    begins with jumps, which are no UTF-8.)"""
+def is_text(held: bytes, rarity: int) -> bool:
+    """Whether these bytes are text: at most one in `rarity` is a control character, and they are UTF-8; or there is no
+    control character, and most are ASCII. (Firmware begins with jumps, which are no UTF-8.)"""
     held = held.decode("utf-16", "replace").encode() if held[:2] in (b"\xff\xfe", b"\xfe\xff") else held
     controls = len(re.findall(rb"[^\a-\r\x1b -~\x80-\xff]", held))
     try:
         # (the last character may be cut)
         codecs.getincrementaldecoder("utf-8")().decode(held)
-        return controls * 20 <= len(held)
+        return 0 < len(held) >= controls * rarity
     except UnicodeDecodeError:
         return not controls and len(re.findall(rb"[\t\n\f\r -~]", held)) * 2 > len(held)
 

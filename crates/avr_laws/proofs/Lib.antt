@@ -10,6 +10,7 @@ pub mod ReportsOverExchanges
 pub mod AnyLink
 pub mod AnyWire
 pub mod Held
+pub mod Asked
 pub mod Plans
 pub mod KnownFiles
 pub mod Outcomes

@@ -8,6 +8,7 @@ pub mod OtherPart
 pub mod OwnSignature
 pub mod Kept
 pub mod Begun
+pub mod Spared
 pub mod TwoRuns
 pub mod OverDamage
 pub mod Refused

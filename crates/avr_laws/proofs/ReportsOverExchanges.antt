@@ -23,7 +23,7 @@ use Rattle.avr_tool.specs.Authentic.{RepliesAreAuthentic}
 use Rattle.avr_laws.specs.FewBadFrames.{AtMostThreeBadOfSeven}
 use Rattle.avr_laws.proofs.FewBad.Sessions.{few_session_ends}
 use Rattle.avr_laws.proofs.Reports.OverTape.{ByExchanges, reported_any}
-use Rattle.avr_laws.proofs.Reports.Truth.{session_reports}
+use Rattle.avr_laws.proofs.Reports.Truth.{emulated_reports}
 use Rattle.avr_laws.proofs.Reports.UpToFault.{expected_end, expected_on_tape}
 use Rattle.avr_laws.proofs.SecondRun.Status.{succeeds}
 
@@ -50,7 +50,7 @@ module _ (plan : Plan) (begun : Programmer) (is_sound : IsSoundChip begun.chip) 
         → ReportsOverExchanges plan begun q exchanges bytes (played (session plan) 1 tape).events
     reports_over_exchanges tape executions prefix is_authentic same = record {
       leaves = over_exchanges plan begun is_sound part_is fitted exchanges q bytes stands tape prefix;
-      reports_are_true = search (rules, reported_any, asks, session_reports, sound, sizes, idle);
+      reports_are_true = search (rules, reported_any, asks, emulated_reports, sound, sizes, idle);
       output_is_expected = expected_on_tape plan sound fitted before sizes begun tape executions idle is_authentic;
     }
 

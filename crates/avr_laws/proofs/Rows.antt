@@ -6,7 +6,9 @@ pub mod Runs
 pub mod Kept
 pub mod OtherSignature
 pub mod Served
+pub mod PerfectLine
 pub mod Promise
+pub mod Settings
 pub mod Folder
 pub mod Loss
 pub mod Edges

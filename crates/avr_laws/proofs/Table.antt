@@ -5,3 +5,4 @@ pub mod RealOf
 pub mod ByTasks
 pub mod Emulated
 pub mod Kept
+pub mod AnyStatus

@@ -3,8 +3,5 @@ pub mod Slots
 pub mod InOrder
 pub mod Misses
 pub mod ReplyParts
-pub mod NeverSilent
 pub mod Meeting
-pub mod Sessions
-pub mod PerfectLine
 pub mod Rows

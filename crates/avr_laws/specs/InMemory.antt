@@ -9,7 +9,7 @@ use Rattle.avr_desk.specs.OutputEvents.{OutputEvent, after_events}
 use Rattle.avr_desk.specs.declared.record.Writing.{Writing}
 use Rattle.avr_laws.specs.FilesRead.{openings_of_files, files_read}
 use Rattle.stk_host.specs.Dialog.{Played, bytes_sent, outputs}
-use Rattle.stk_host.specs.Links.{StreamState}
+use Rattle.stk_host.specs.Links.{EachTimedOut, StreamState, TimedOutAfter}
 use Rattle.stk_host.specs.Transcript.{LinkState}
 use Rattle.stk_host.specs.Tape.{Tape, bytes_on_tape}
 use Rattle.stk_host.specs.declared.link.Item.TheVariants.{End}
@@ -55,11 +55,14 @@ pub record LeavesOutcome (settings : Settings) (stock : Stock) (tape : Tape) (ou
   pub is : RunLeaves settings stock (tape ++ replicate ends End) outcome
 
 -- A run over a reader and a writer leaves this outcome. It leaves it over some tape with the bytes that the reader
--- gave, if these are known. These bytes show neither timeouts nor the end. The writer took what was sent.
-pub record LeavesOverStreams {R W : Type 0} (remaining : R → Option Bytes) (contents : W → Option Bytes)
-    (settings : Settings) (stock : Stock) (old new : StreamState R W) (outcome : RunOutcome) : Type 0 where
+-- gave, if these are known. Each timeout on the tape was one of the reader, after the same bytes. Where the tape has
+-- ends, the bytes don't show. The writer took what was sent.
+pub record LeavesOverStreams {R W : Type 0} (remaining : R → Option Bytes) (has_timed_out : R → Type 0)
+    (contents : W → Option Bytes) (settings : Settings) (stock : Stock) (old new : StreamState R W)
+    (outcome : RunOutcome) : Type 0 where
   pub tape : Tape
   pub gave : Consumes (remaining old.reader) (remaining new.reader) (bytes_on_tape tape)
+  pub paused : EachTimedOut (TimedOutAfter remaining has_timed_out old.reader) [] tape
   pub took : Appends (contents old.writer) (contents new.writer) outcome.sent
   pub is : RunLeaves settings stock tape outcome
 

@@ -1,13 +1,14 @@
 -- THE PROMISE OF THE PROGRAM: what status 0 means, by the port that the command line names.
-use Rattle.std.specs.Prelude.{◌≡◌, true, List, [], ◌∷◌, ◌++◌, Option, Some, Ok}
-use Rattle.clap.specs.Words.{takes}
-use Rattle.avr_plan.specs.Command.{settings_from_arguments, avrstk}
+use Rattle.std.specs.Prelude.{◌≡◌, ◌⊎◌, true, List, [], ◌∷◌, ◌++◌, Option, Some}
+use Rattle.clap.specs.Words.{matches_of, takes}
+use Rattle.avr_plan.specs.Command.{avrstk}
 use Rattle.avr_plan.specs.declared.settings.Port.{Port}
 use Rattle.avr_plan.specs.declared.settings.Port.TheVariants.{Stdio, Emulated, Network, Served}
 use Rattle.avr_plan.specs.declared.settings.Settings.{Settings}
 use Rattle.avr_desk.specs.Record.{Bytes, Record, all_openings, with_replaced}
 use Rattle.avr_desk.specs.declared.record.Opening.{Opening}
 use Rattle.avr_laws.specs.AskedPlan.{FileGave, IsAsked}
+use Rattle.avr_laws.specs.AskedSettings.{AsksFor, AsksToServe}
 use Rattle.avr_laws.specs.ChipFound.{IsChipInFile}
 use Rattle.avr_laws.specs.FilesRead.{read_whole}
 use Rattle.avr_laws.specs.Kept.{Keeps}
@@ -40,8 +41,8 @@ abbrev pub ConnectionState : Type 1
 ConnectionState = Bytes → Option LinkState → Type 0
 
 -- The plan was kept, by what `Kept` says: over standard streams and over a connection to the address, by what passed
--- over the link; over the emulator, by its chip file. A service has no plan. At another port nothing passed over standard
--- streams.
+-- over the link; over the emulator, by its chip file. At another port nothing passed over standard streams. The settings
+-- of a run name no service.
 abbrev pub KeepsPlanAt : (Plan → Transcript → Record → Record → Type 0) → ConnectionState → Port → Settings
     → Transcript → Record → Record → Type 0
 KeepsPlanAt Kept At Stdio settings passed old new = KeepsPlan settings old new (λ plan. Kept plan passed old new)
@@ -50,14 +51,16 @@ KeepsPlanAt Kept At (Network address) settings passed old new =
     × KeepsPlan settings old new (λ plan. Kept plan link.transcript old new))
 KeepsPlanAt Kept At (Emulated file) settings passed old new =
     (passed ≡ []) × KeepsPlan settings old new (λ plan. IsKeptInFile file plan old new)
-KeepsPlanAt Kept At (Served port file) settings passed old new = passed ≡ []
+KeepsPlanAt Kept At (Served port file) settings passed old new = ⊥
 
 -- WHAT STATUS 0 MEANS, by what passed over standard streams and by the desk's records. If the command line asks for a
--- run, and not for help, its plan was kept.
+-- run, and not for help, its plan was kept. If it asks for a service, there is no plan, and
+-- nothing passed over standard streams.
 abbrev pub KeepsCommandLine : (Plan → Transcript → Record → Record → Type 0) → (List Bytes → Type 0)
     → ConnectionState → Transcript → Record → Record → Type 0
 KeepsCommandLine Kept AreWords At passed old new =
     (words : List Bytes) × AreWords words
     × (takes avrstk words ≡ true
-    → (settings : Settings) × (Ok settings ≡ settings_from_arguments words)
-    × KeepsPlanAt Kept At settings.port settings passed old new)
+    → (AsksToServe (matches_of avrstk words) × (passed ≡ []))
+    ⊎ ((settings : Settings) × AsksFor (matches_of avrstk words) settings
+    × KeepsPlanAt Kept At settings.port settings passed old new))

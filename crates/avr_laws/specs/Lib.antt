@@ -3,6 +3,7 @@ pub mod OnlyReading
 pub mod FilesRead
 pub mod HeldImage
 pub mod HeldParts
+pub mod AskedSettings
 pub mod AskedPlan
 -- what a link does to a conversation with the emulated programmer, and what holds along it
 pub mod AnyTape

@@ -18,8 +18,8 @@ abbrev pub IsShown : ℕ → Type 0
 IsShown lock = bit_at lock 1 ≡ 1
 
 -- THE SHEET says what a fuse or the lock `becomes` if a byte is written, because some bits stay as they are. It vouches
--- for a fuse or lock byte of which no bit stays, and for reading flash and EEPROM if the lock allows it. A lock that
--- hides them takes no other byte. The sheet doesn't vouch for the calibration, which is another byte in each chip.
+-- for a fuse or lock byte that is kept whole, and for reading flash and EEPROM if the lock allows it. A lock that hides
+-- them takes no other byte. The sheet doesn't vouch for the calibration, which is another byte in each chip.
 abbrev pub IsVouched : (Mem → ℕ → ℕ) → (part : Part) → (row : Row) → IsRow part row → Memories → Type 0
 IsVouched becomes part row (WritesFuse fuse byte is) x = becomes (fuse_memory fuse) byte ≡ byte
 IsVouched becomes part row (WritesLock byte is) x =

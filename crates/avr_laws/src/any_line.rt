@@ -42,6 +42,10 @@ ghost use Rattle.avr_tool.specs.ExpectedOutput.{FirstActionsOutput, IsExpectedOu
 ghost use Rattle.avr_tool.specs.Completed.{operations_completed};
 ghost use Rattle.avr_laws.specs.TrueReports.{ReportsTrue, IsTrueReport};
 ghost use Rattle.avr_tool.specs.Outcome.{write_operations};
+ghost use Rattle.avr_laws.specs.Sheet.{IsVouched, SuitsPlan};
+ghost use Rattle.avr_laws.specs.Table.{IsProgrammer};
+
+use super::any_programmer::AnyProgrammer;
 
 /// States that at each moment the memories are what the plan's first write operations make, in order, over any link
 /// that forges no frame. These are the completed ones, and perhaps one more.
@@ -70,8 +74,20 @@ pub fn a_run_times_out_at_most_once_for_each_frame()
 /// States that each report of a run is true of the chip at that moment, whatever the status, over a link that forges no
 /// frame. So each line of a run that failed later can be trusted. What was reported as written has been done to the
 /// chip, and what was verified is in it. What was read and saved is what the chip has, and a reported difference
-/// exists.
-pub fn what_a_run_reports_is_true()
+/// exists. It holds for any programmer that keeps the rows of the table, if its chip has the plan's part.
+// Proof: `reports_by_any` (Table/AnyStatus), by `session_reports` (Reports/Truth).
+pub fn what_a_run_reports_is_true<T: AnyProgrammer>()
+    ensures { (plan : Plan) (k : ℕ) (p : T.State) (exchanges : List Exchange)
+        → IsPart T.part → T.part ≡ plan.part → All (IsFitted plan.part) plan.tasks
+        → IsProgrammer T.part T.device T.view T.IsIn T.IsReady (IsVouched T.becomes T.part) → T.IsIn p
+        → FitsPart T.part (T.view p) → SuitsPlan T.becomes plan (T.view p)
+        → ReportsTrue T.device (λ q event. IsTrueReport plan (T.view p) (T.view q) event) k (session plan) p
+        exchanges }
+{}
+
+/// States the same as [`what_a_run_reports_is_true`] of the emulated programmer, for any plan and any state of the lock
+/// and the fuses.
+pub fn what_a_run_reports_is_true_on_an_emulated_chip()
     ensures { (plan : Plan) (m : Memories) (k : ℕ) (p : Programmer) (exchanges : List Exchange)
         → IsPart plan.part → All (IsFitted plan.part) plan.tasks → FitsPart plan.part m → HasMemories plan.part m p
         → ReportsTrue device (λ q event. IsTrueReport plan m (memories_of q.chip) event) k (session plan) p

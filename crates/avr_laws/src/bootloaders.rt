@@ -19,9 +19,9 @@ ghost use Rattle.stk_host.specs.Dialog.{frames_in, played};
 
 use avr_desk::{FileSystem, SystemDesk};
 use avr_tool::{CommandLine, Network, run_command_line};
-use ghosts::Outlet;
+use ghosts::{Inlet, Outlet};
 use std::alloc::Global;
-use std::io::{Read, Write};
+use std::io::Write;
 use stk_host::StreamLink;
 
 /// A device of which only reading can be believed: what it replies and does, the memories of its chip, its states, and
@@ -49,7 +49,7 @@ pub fn a_program_with_status_0_left_what_it_compared_last<
     S: FileSystem + Drop,
     O: Outlet + Drop,
     M: Outlet + Drop,
-    R: Read + Drop,
+    R: Inlet + Drop,
     W: Write + Drop,
 >(
     line: &C,
@@ -60,7 +60,7 @@ pub fn a_program_with_status_0_left_what_it_compared_last<
 ) -> u8
     ensures images { result ≡ 0 → link.old.transcript ≡ []
         → KeepsCommandLine (λ plan passed old now. LastIsThere T.device T.view T.IsIn T.Reads plan passed) C.is_words
-        (IsOverAddress N.Network N.Stream.Read N.Stream.Write N.Stream.closed)
+        (IsOverAddress N.Network N.Stream.Read N.Stream.has_timed_out N.Stream.Write N.Stream.closed)
         link.new.transcript desk.old.kept desk.new.kept }
 {
     run_command_line(line, network, alloc, desk, link)

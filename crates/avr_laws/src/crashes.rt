@@ -51,7 +51,8 @@ pub fn a_crash_leaves_the_old_chip_or_the_served_one<
     O: Write + Drop,
     E: Write + Drop,
 >(before: &SystemDesk<R, O, E>, after: &SystemDesk<R, O, E>)
-    ensures { let peers = peers_of N.Network N.Listener.Callers N.Stream.Read N.Stream.Write N.Stream.closed in
+    ensures { let peers = peers_of N.Network N.Listener.Callers N.Stream.Read N.Stream.has_timed_out N.Stream.Write
+        N.Stream.closed in
         IsNewDesk R.FileSystem before.now
         → RecordsAll R.FileSystem R.File.Read R.File.Write R.Input.Read before.now after.now
         → (settings : Settings) (port file : Bytes) (status : ℕ)

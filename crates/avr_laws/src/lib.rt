@@ -1,8 +1,8 @@
 //! Laws of runs above the program: whatever the link loses, delays and spoils, and whatever becomes of a run.
 //!
 //! No program depends on it. A law is a function with an empty body, and its contract is a theorem about definitions
-//! alone. What a call itself promises is in the contracts of avr_tool. Six laws are functions with one of its calls for
-//! a body: those of [`program`](a_program_with_status_0_kept_its_plan), [`status_0_means_the_images`],
+//! alone. What a call itself promises is in the contracts of avr_tool. Seven laws are functions with one of its calls
+//! for a body: those of [`program`](a_program_with_status_0_kept_its_plan), [`status_0_means_the_images`],
 //! [`status_0_means_the_images_on_an_emulated_chip`] and [`a_program_with_status_0_left_what_it_compared_last`].
 #![tactic(auto)]
 
@@ -34,7 +34,8 @@ pub use any_line::{
     a_run_does_its_write_operations_in_order, a_run_sends_at_most_four_times_its_commands,
     a_run_times_out_at_most_once_for_each_frame, a_session_outputs_its_expected_run_up_to_a_fault,
     a_session_over_a_wire_can_be_believed, a_session_over_any_link, what_a_run_reports_is_true,
-    what_was_reported_was_true, whatever_becomes_of_a_session_its_first_write_operations_were_done,
+    what_a_run_reports_is_true_on_an_emulated_chip, what_was_reported_was_true,
+    whatever_becomes_of_a_session_its_first_write_operations_were_done,
 };
 pub use any_programmer::{AnyProgrammer, the_emulated_programmer_keeps_the_table};
 pub use bootloaders::{
@@ -67,19 +68,18 @@ pub use program::{
     a_program_with_status_0_kept_its_plan,
     a_program_with_status_0_kept_its_plan_on_an_emulated_chip,
     whatever_the_status_first_write_operations_were_made,
+    whatever_the_status_first_write_operations_were_made_on_an_emulated_chip,
 };
 pub use runs::{
     a_forged_frame_voids_the_promise, a_further_run_repairs, a_run_in_memory_has_one_outcome,
     a_run_in_memory_is_a_function_of_its_files, a_run_over_a_bad_link_meets_all_premises,
     a_sound_run_is_its_expected_run, a_worked_run_has_one_outcome, a_wrong_outcome_is_refused,
-    an_ended_run_and_one_with_status_0_are_as_one, status_0_means_the_images,
+    an_ended_run_and_one_with_status_0_are_as_one,
+    an_ended_run_and_one_with_status_0_are_as_one_on_an_emulated_chip, status_0_means_the_images,
     status_0_means_the_images_on_an_emulated_chip,
 };
 pub use two_processes::{
-    a_prompt_link_brings_the_expected_run, a_server_sends_the_replies_to_what_it_received,
-    a_session_and_a_server_are_one_run, an_unordered_link_is_refused, two_processes_have_a_run,
-    two_processes_never_both_wait, what_a_host_receives_of_a_server_is_authentic,
-    whatever_becomes_of_both_some_write_operations_were_done,
+    a_server_sends_the_replies_to_what_it_received, what_a_host_receives_of_a_server_is_authentic,
 };
 pub use written::{
     a_byte_of_flash_is_made_by_images, a_plan_writes_what_its_tasks_write,

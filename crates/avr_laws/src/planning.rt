@@ -1,5 +1,5 @@
 //! Laws of planning, over the definitions alone.
-ghost use Rattle.std.specs.Prelude.{◌≡◌, ◌++◌, ◌↔◌, ℕ, length, List, [], All, Option, Some, Ok, Err};
+ghost use Rattle.std.specs.Prelude.{◌≡◌, ◌++◌, ◌↔◌, ℕ, length, List, [], All, Option, Some, None, Ok, Err, codes};
 ghost use Rattle.avr_plan.specs.declared.settings.Settings.{Settings};
 ghost use Rattle.ghosts.specs.Failures.{NoFailureCounted};
 ghost use Rattle.avr_desk.specs.Record.{Record, showing, Bytes};
@@ -7,13 +7,16 @@ ghost use Rattle.avr_desk.specs.declared.record.Opening.{Opening};
 ghost use Rattle.avr_desk.specs.Lines.{memory_line};
 ghost use Rattle.avr_desk.specs.Memory.{Stock, content_of_name};
 ghost use Rattle.avr_laws.specs.AskedPlan.{FileHolds, IsAsked};
+ghost use Rattle.avr_laws.specs.AskedSettings.{AsksFor};
 ghost use Rattle.avr_laws.specs.ChipFound.{IsChipInFile};
 ghost use Rattle.avr_laws.specs.HeldImage.{HoldsImageAs, HoldsValues};
 ghost use Rattle.avr_laws.specs.HeldParts.{HoldsParts};
 ghost use Rattle.avr_laws.specs.Kept.{PlanAgrees};
 ghost use Rattle.avr_laws.specs.FilesRead.{AreTrueOpenings, lines_in, planned_from_files};
 ghost use Rattle.avr_laws.specs.OnlyReading.{OnlyReadsAndPrints};
+ghost use Rattle.avr_plan.specs.Command.{avrstk, settings_from_arguments};
 ghost use Rattle.avr_plan.specs.Planning.{planned};
+ghost use Rattle.clap.specs.Words.{first_of, matches_of};
 ghost use Rattle.avr_plan.specs.AllocationPoints.{AtAllocatingUpdate};
 ghost use Rattle.avr_desk.specs.StageRuns.{RunsStage, StageRefused};
 ghost use Rattle.avr_desk.specs.Stage.{Produced, NotReadToEnd, all_events_of};
@@ -69,9 +72,12 @@ pub fn a_plan_is_the_one_asked_for()
         → IsAsked s (FileHolds (content_of_name stock [])) plan }
 {}
 
-/// States that the promise's own definitions agree with what runs do: about values, image files, part files, chip files
-/// and comparisons.
+/// States that the promise's own definitions agree with what runs do: about settings without `--serve`, values, image
+/// files, part files, chip files and comparisons.
 pub fn what_is_promised_is_what_runs_do()
+    ensures settings { (words : List Bytes) (settings : Settings) → AsksFor (matches_of avrstk words) settings
+        ↔ ((Ok settings ≡ settings_from_arguments words)
+        × (first_of (codes "serve") (matches_of avrstk words) ≡ None)) }
     ensures values { (text : Bytes) (size : ℕ) (image : List (Option ℕ)) → HoldsValues text size image
         ↔ (image_of_values text size ≡ Ok image) }
     ensures images { (kind : Found) (text : Bytes) (size : ℕ) (image : List (Option ℕ))

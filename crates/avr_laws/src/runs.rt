@@ -26,7 +26,10 @@ ghost use Rattle.avr_session.specs.Session.{session};
 ghost use Rattle.avr_session.specs.Stopping.{IsSound, EndWithLine, keeping, link_state};
 ghost use Rattle.avr_tool.specs.Headline.{IsRun, IsStopped};
 ghost use Rattle.avr_laws.specs.InMemory.{AreUnused, LeavesOutcome, LeavesOverStreams, RunOutcome, outcome_shown};
+ghost use Rattle.avr_laws.specs.BegunByPort.{IsBegunByAny};
 ghost use Rattle.avr_laws.specs.KeptByAny.{IsKeptByAny};
+ghost use Rattle.avr_laws.specs.Sheet.{IsVouched, SuitsPlan};
+ghost use Rattle.avr_laws.specs.Table.{IsProgrammer};
 ghost use Rattle.avr_laws.specs.Worked.{absent_outcome, absent_settings, worked_frames, fuse_plan, worked_lines, forged_replies, no_stock, worked_replies, worked_outcome, worked_settings};
 ghost use Rattle.avr_laws.specs.WorkedLoss.{image_read, loss_executions, loss_frames, loss_part, loss_plan, loss_programmer, loss_replies, loss_updates, old_chip, old_file, received_first, received_later};
 ghost use Rattle.avr_laws.specs.ChipFound.{IsChipInFile};
@@ -34,7 +37,7 @@ ghost use Rattle.stk_emu.specs.Device.{device};
 ghost use Rattle.stk_emu.specs.Effect.{memories_of, erase_keeps_eeprom, effects, memory_in};
 ghost use Rattle.avr_laws.specs.FewBadFrames.{AtMostThreeBadOfSeven};
 ghost use Rattle.avr_laws.specs.AskedPlan.{AreTasksOf, FileGave, IsAsked};
-ghost use Rattle.avr_laws.specs.Kept.{HasGeometryOf, IsKept, NoneForged};
+ghost use Rattle.avr_laws.specs.Kept.{HasGeometryOf, IsKept, NoneForged, on_part};
 ghost use Rattle.stk_emu.specs.Programmer.{Programmer, fresh_programmer};
 ghost use Rattle.stk_host.specs.Play.{IsBytePrefixOf};
 ghost use Rattle.stk_emu.specs.StepData.{HoldsImage};
@@ -54,8 +57,9 @@ use super::any_programmer::AnyProgrammer;
 use avr_desk::Desk;
 use avr_plan::Settings;
 use avr_tool::run;
+use ghosts::Inlet;
 use std::alloc::Global;
-use std::io::{Read, Write};
+use std::io::Write;
 use stk_host::Link;
 
 /// Runs what the settings ask for over a new link, as [`avr_tool::run`] does, and states what status 0 means then. The
@@ -122,17 +126,43 @@ pub fn a_run_over_a_bad_link_meets_all_premises()
 {}
 
 /// States that a broken-off run and the same run with status 0 leave what one run leaves, if no frame is forged, except
-/// for one fuse case. The first sent any prefix of its bytes: it was killed, or its link failed. The programmer may
-/// then be in any state, as long as its chip holds what the first run left.
+/// for one fuse case. The first may have ended with any status, been killed, or lost its link. The programmer may then
+/// be in any state, as long as its chip holds what the first run left. It is one that keeps the rows of the table.
 ///
-/// The chip has the sizes and pages of the plan's part, and EESAVE at the same bit of the high fuse. Its id and
-/// signature may be others.
+/// `IsBegunByAny` is what law `whatever_the_status_first_write_operations_were_made` states of the first run, and
+/// `IsKeptByAny` what [`status_0_means_the_images`] states of the second. The chip has the sizes and pages of the
+/// plan's part, and EESAVE at the same bit of the high fuse. Its id and signature may be others.
 ///
 /// If the plan erases and the chip keeps EEPROM at an erase, each byte that it writes to the high fuse must keep it
 /// too. If the second run was verified, each memory holds its images.
-// Proof: `as_one` and `images_there` (Outcomes/TwoRuns), by `done_again` (SecondRun/Status) and, for another signature,
+// Proof: `as_one_by_any` (Outcomes/TwoRuns), by `done_again` (SecondRun/Status).
+pub fn an_ended_run_and_one_with_status_0_are_as_one<T: AnyProgrammer>()
+    ensures { (plan : Plan) (first second : Transcript) (old now : Record) (p q : T.State)
+        → IsBegunByAny T.part T.device T.view T.IsIn T.IsReady T.becomes plan first
+        → IsKeptByAny T.part T.device T.view T.IsIn T.IsReady T.becomes plan second old now
+        → All (IsFitted plan.part) plan.tasks → IsPart T.part → HasGeometryOf plan.part T.part
+        → IsProgrammer T.part T.device T.view T.IsIn T.IsReady (IsVouched T.becomes T.part)
+        → (has_erase (items plan) ≡ true → erase_keeps_eeprom T.part (T.view p) ≡ true
+        → ItemsKeepEeprom T.part (items plan))
+        → (got : List ℕ) (later : List (List ℕ)) (executions : List Execution) → T.IsIn p → FitsPart T.part (T.view p)
+        → SuitsPlan T.becomes (on_part T.part plan) (T.view p)
+        → ReceivedSentFrames got later (frames (sent first)) executions
+        → NoneForged T.device (frames (sent first)) (heard first) p executions []
+        → (over : List ℕ) (more : List (List ℕ)) (others : List Execution) → T.IsIn q
+        → T.view q ≡ T.view (after_received_bytes T.device got later p) → FitsPart T.part (T.view q)
+        → SuitsPlan T.becomes (on_part T.part plan) (T.view q)
+        → ReceivedSentFrames over more (frames (sent second)) others
+        → NoneForged T.device (frames (sent second)) (heard second) q others []
+        → (T.view (after_received_bytes T.device over more q) ≡ effects T.part (items plan) (T.view p))
+        × (plan.switches.no_verify ≡ false → (mem : Mem) → HoldsImage (written_to T.part mem (asked_items plan))
+        (memory_in T.part mem (T.view (after_received_bytes T.device over more q)))) }
+{}
+
+/// States the same as [`an_ended_run_and_one_with_status_0_are_as_one`] of the emulated programmer, for any plan and
+/// any state of the lock and the fuses. The first run sent any prefix of its bytes.
+// Proof: `emulated_as_one` (Outcomes/TwoRuns), by `done_again` (SecondRun/Status) and, for another signature,
 // `session_alike` (Outcomes/OtherPart).
-pub fn an_ended_run_and_one_with_status_0_are_as_one()
+pub fn an_ended_run_and_one_with_status_0_are_as_one_on_an_emulated_chip()
     ensures { (plan : Plan) (first second : Transcript) (old now : Record) (p q : Programmer)
         → All (IsFitted plan.part) plan.tasks → IsSoundChip p.chip → HasGeometryOf plan.part p.chip.part
         → (has_erase (items plan) ≡ true → erase_keeps_eeprom p.chip.part (memories_of p.chip) ≡ true
@@ -242,7 +272,7 @@ pub fn a_worked_run_has_one_outcome()
 /// with the reader's bytes leaves. The premises are what avr_tool's `run` states of a call over a new desk in memory
 /// and a new link.
 // Proof: `run_is_over_tape` and `run_is_over_streams` (KnownFiles/RunsInMemory).
-pub fn a_run_in_memory_is_a_function_of_its_files<R: Read, W: Write>()
+pub fn a_run_in_memory_is_a_function_of_its_files<R: Inlet, W: Write>()
     ensures tape { (s : Settings) (old new : MemDeskState) (before after : TapeState) (status : ℕ)
         → AreUnused old (tape_state before)
         → RunsBetween memory_state HoldsTrue s (tape_state before) (tape_state after) old new status
@@ -253,8 +283,8 @@ pub fn a_run_in_memory_is_a_function_of_its_files<R: Read, W: Write>()
     ensures streams { (s : Settings) (old new : MemDeskState) (before after : StreamState R W) (status : ℕ)
         → AreUnused old (stream_state before)
         → RunsBetween memory_state HoldsTrue s (stream_state before) (stream_state after) old new status
-        → TranscriptIsTrueSince R.remaining W.contents before after → Preserves HoldsTrue old new
-        → LeavesOverStreams R.remaining W.contents s (stock_of old) before after
+        → TranscriptIsTrueSince R.remaining R.has_timed_out W.contents before after → Preserves HoldsTrue old new
+        → LeavesOverStreams R.remaining R.has_timed_out W.contents s (stock_of old) before after
         (outcome_shown status (sent after.transcript) new.kept)
         ⊎ IsStopped s (devices (stream_state before) (memory_state old))
         (devices (stream_state after) (memory_state new)) status }

@@ -15,49 +15,50 @@ pub record IsNewLink {S : Type 0} (IsSide : S → Type 0) (link : StreamState S 
   pub fresh : link.failures ≡ 0
   pub quiet : link.transcript ≡ []
 
--- The state of a link that was new over two sides of this socket. Its reader gave what it received, and its writer
--- took what it sent, and then both were closed.
-pub record IsOver {S : Type 0} (reads : Reads S) (writes : Writes S) (closed IsSide : S → Type 0) (now : LinkState)
-    : Type 0 where
+-- The state of a link that was new over two sides of this socket. Its reader gave what it received, and timed out when
+-- it received timeouts. Its writer took what it sent, and then both were closed.
+pub record IsOver {S : Type 0} (reads : Reads S) (has_timed_out : S → Type 0) (writes : Writes S)
+    (closed IsSide : S → Type 0) (now : LinkState) : Type 0 where
   pub before : StreamState S S
   pub after : StreamState S S
   pub new : IsNewLink IsSide before
   pub shows : stream_state after ≡ now
-  pub truly : TranscriptIsTrueSince reads.remaining writes.contents before after
+  pub truly : TranscriptIsTrueSince reads.remaining has_timed_out writes.contents before after
   pub reader : closed after.reader
   pub writer : closed after.writer
 
 -- What happened to a socket: a link over it has this state, or there was none.
 
 -- A connection to this address.
-abbrev pub IsOverAddress : {N S L : Type 0} → Networks N S L → Reads S → Writes S → (S → Type 0) → Bytes
-    → Option LinkState → Type 0
-IsOverAddress network reads writes closed address (Some now) =
-    IsOver reads writes closed (λ side. network.reaches side address) now
-IsOverAddress network reads writes closed address None = network.misses address
+abbrev pub IsOverAddress : {N S L : Type 0} → Networks N S L → Reads S → (S → Type 0) → Writes S → (S → Type 0)
+    → Bytes → Option LinkState → Type 0
+IsOverAddress network reads has_timed_out writes closed address (Some now) =
+    IsOver reads has_timed_out writes closed (λ side. network.reaches side address) now
+IsOverAddress network reads has_timed_out writes closed address None = network.misses address
 
 -- A connection accepted at this listener.
-abbrev pub IsOverClient : {L S : Type 0} → Called L S → Reads S → Writes S → (S → Type 0) → L
+abbrev pub IsOverClient : {L S : Type 0} → Called L S → Reads S → (S → Type 0) → Writes S → (S → Type 0) → L
     → Option LinkState → Type 0
-IsOverClient called reads writes closed listener (Some now) = IsOver reads writes closed (called.calls listener) now
-IsOverClient called reads writes closed listener None = called.lacks listener
+IsOverClient called reads has_timed_out writes closed listener (Some now) =
+    IsOver reads has_timed_out writes closed (called.calls listener) now
+IsOverClient called reads has_timed_out writes closed listener None = called.lacks listener
 
 -- A connection accepted at a listener at this port.
-abbrev pub IsAtPort : {N S L : Type 0} → Networks N S L → Called L S → Reads S → Writes S → (S → Type 0) → ℕ
-    → Option LinkState → Type 0
-IsAtPort {L = L} network called reads writes closed port seen =
-    (listener : L) × network.listens listener port × IsOverClient called reads writes closed listener seen
+abbrev pub IsAtPort : {N S L : Type 0} → Networks N S L → Called L S → Reads S → (S → Type 0) → Writes S
+    → (S → Type 0) → ℕ → Option LinkState → Type 0
+IsAtPort {L = L} network called reads has_timed_out writes closed port seen =
+    (listener : L) × network.listens listener port × IsOverClient called reads has_timed_out writes closed listener seen
 
 -- Without a link there was no listener, or no client could be accepted. Or the port's text is no number, and the
 -- network was left unused.
-abbrev pub IsOverPort : {N S L : Type 0} → Networks N S L → Called L S → Reads S → Writes S → (S → Type 0) → Option ℕ
-    → Option LinkState → Type 0
-IsOverPort network called reads writes closed (Some port) (Some now) =
-    IsAtPort network called reads writes closed port (Some now)
-IsOverPort network called reads writes closed (Some port) None =
-    network.is_shut port ⊎ IsAtPort network called reads writes closed port None
-IsOverPort network called reads writes closed None (Some now) = ⊥
-IsOverPort network called reads writes closed None None = network.unused
+abbrev pub IsOverPort : {N S L : Type 0} → Networks N S L → Called L S → Reads S → (S → Type 0) → Writes S
+    → (S → Type 0) → Option ℕ → Option LinkState → Type 0
+IsOverPort network called reads has_timed_out writes closed (Some port) (Some now) =
+    IsAtPort network called reads has_timed_out writes closed port (Some now)
+IsOverPort network called reads has_timed_out writes closed (Some port) None =
+    network.is_shut port ⊎ IsAtPort network called reads has_timed_out writes closed port None
+IsOverPort network called reads has_timed_out writes closed None (Some now) = ⊥
+IsOverPort network called reads has_timed_out writes closed None None = network.unused
 
 -- What is known of a run's network: on a connection to an address, on a client at a port, and that it was left unused.
 pub record Peers : Type 1 where
@@ -66,9 +67,10 @@ pub record Peers : Type 1 where
   pub unused : Type 0
 
 -- What is known of a network, by the ghost members of its traits.
-abbrev pub peers_of : {N S L : Type 0} → Networks N S L → Called L S → Reads S → Writes S → (S → Type 0) → Peers
-peers_of network called reads writes closed = record {
-  at_address = IsOverAddress network reads writes closed;
-  at_port = IsOverPort network called reads writes closed;
+abbrev pub peers_of : {N S L : Type 0} → Networks N S L → Called L S → Reads S → (S → Type 0) → Writes S
+    → (S → Type 0) → Peers
+peers_of network called reads has_timed_out writes closed = record {
+  at_address = IsOverAddress network reads has_timed_out writes closed;
+  at_port = IsOverPort network called reads has_timed_out writes closed;
   unused = network.unused;
 }

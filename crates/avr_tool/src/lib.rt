@@ -67,7 +67,7 @@ pub use avr_desk::{
 // from settings to a status, over any link
 pub use avr_plan::{PartsFault, Plan, PlanFault, Task, TaskFault, plan, plan_or_fault};
 pub use avr_session::{Outcome, drive, drive_outcome, frame_count};
-pub use ghosts::Outlet;
+pub use ghosts::{Inlet, Outlet};
 pub use network::{Callers, Network, Side};
 pub use numbers::the_numbers_are;
 pub use over_emulator::{drive_wired, run_emu};

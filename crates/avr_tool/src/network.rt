@@ -2,6 +2,7 @@
 ghost use Rattle.std.specs.Prelude.{ℕ, ⊤, IfOk, OnErr};
 ghost use Rattle.avr_desk.specs.Record.{Bytes};
 
+use ghosts::Inlet;
 use std::io;
 use std::io::{Read, Write};
 use std::net::{Net, OpenListener, OpenStream, TcpListener, TcpStream};
@@ -45,7 +46,7 @@ impl<S: Drop> Side for S {
 /// Every listener of the system implements it.
 pub trait Callers {
     /// One side of a connection.
-    type Stream: Read + Write + Drop + Side;
+    type Stream: Inlet + Write + Drop + Side;
 
     /// The stream is a connection accepted at this listener.
     ghost calls: { Self → Self.Stream → Type 0 };
@@ -87,7 +88,7 @@ where
 /// `Network`. That it connects and listens as asked is tested, not proved.
 pub trait Network {
     /// One side of a connection.
-    type Stream: Read + Write + Drop + Side;
+    type Stream: Inlet + Write + Drop + Side;
 
     /// A listener at a port.
     type Listener: Callers<Stream = Self::Stream> + Drop;

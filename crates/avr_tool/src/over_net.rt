@@ -31,9 +31,9 @@ pub fn run_net<N: Network, D: Desk>(
     desk: &mut D,
 ) -> u8
     requires port { IsNetwork settings.now.port }
-    ensures runs { RunsOverNet N.unused (IsOverAddress N.Network N.Stream.Read N.Stream.Write N.Stream.closed
-        (port_address settings.now.port)) settings.now (port_address settings.now.port) (D.view desk.old)
-        (D.view desk.new) result }
+    ensures runs { RunsOverNet N.unused (IsOverAddress N.Network N.Stream.Read N.Stream.has_timed_out N.Stream.Write
+        N.Stream.closed (port_address settings.now.port)) settings.now (port_address settings.now.port)
+        (D.view desk.old) (D.view desk.new) result }
     ensures stays { Preserves D.started_as desk.old desk.new }
 {
     let plan = match plan(alloc, settings, desk) {

@@ -21,25 +21,25 @@ use avr_plan::{Port, Settings, SettingsFault};
 use avr_session::refuse;
 use clap::Error;
 use clap::error::ErrorKind;
-use ghosts::Outlet;
+use ghosts::{Inlet, Outlet};
 use std::alloc::Global;
-use std::io::{Read, Write};
+use std::io::Write;
 use stk_host::StreamLink;
 
 /// Runs over the port of the settings, or serves the emulator: `stdio:` is the link, `emu:` the emulator, `net:` a
 /// connection.
-fn run_port<N: Network, D: ChipDesk, R: Read + Drop, W: Write + Drop>(
+fn run_port<N: Network, D: ChipDesk, R: Inlet + Drop, W: Write + Drop>(
     network: N,
     alloc: Global,
     settings: &Settings,
     desk: &mut D,
     link: &mut StreamLink<R, W>,
 ) -> u8
-    ensures runs { ActsAtPort (peers_of N.Network N.Listener.Callers N.Stream.Read N.Stream.Write
+    ensures runs { ActsAtPort (peers_of N.Network N.Listener.Callers N.Stream.Read N.Stream.has_timed_out N.Stream.Write
         N.Stream.closed) settings.now.port
         settings.now (devices (stream_state link.old) (D.view desk.old))
         (devices (stream_state link.new) (D.view desk.new)) result }
-    ensures is_reported { TranscriptIsTrueSince R.remaining W.contents link.old link.new }
+    ensures is_reported { TranscriptIsTrueSince R.remaining R.has_timed_out W.contents link.old link.new }
     ensures stays { Preserves D.started_as desk.old desk.new }
 {
     match &settings.port {
@@ -87,18 +87,18 @@ fn report_allocation_only<D: Desk>(error: Error, desk: &mut D) -> Result<u8, Err
 /// assert_eq!(rt; run_words(&rt, alloc, words.as_slice(), &mut desk, &mut streams)?, 0);
 /// assert!(rt; desk.messages().is_empty());
 /// ```
-pub fn run_words<N: Network, D: ChipDesk, R: Read + Drop, W: Write + Drop>(
+pub fn run_words<N: Network, D: ChipDesk, R: Inlet + Drop, W: Write + Drop>(
     network: N,
     alloc: Global,
     words: &[String],
     desk: &mut D,
     link: &mut StreamLink<R, W>,
 ) -> Result<u8, Error>
-    ensures runs { ActsOnCommandLine (peers_of N.Network N.Listener.Callers N.Stream.Read N.Stream.Write
-        N.Stream.closed)
+    ensures runs { ActsOnCommandLine (peers_of N.Network N.Listener.Callers N.Stream.Read
+        N.Stream.has_timed_out N.Stream.Write N.Stream.closed)
         (map string_bytes words.now) (devices (stream_state link.old) (D.view desk.old))
         (devices (stream_state link.new) (D.view desk.new)) result }
-    ensures is_reported { TranscriptIsTrueSince R.remaining W.contents link.old link.new }
+    ensures is_reported { TranscriptIsTrueSince R.remaining R.has_timed_out W.contents link.old link.new }
     ensures stays { Preserves D.started_as desk.old desk.new }
 {
     match asked(alloc, words, desk) {
@@ -147,18 +147,18 @@ fn stream_of_usage(error: &Error) -> Stream
 /// let mut streams = StreamLink::new(b"".as_slice(), Vec::new(alloc));
 /// assert_eq!(rt; run_program(&rt, alloc, words.as_slice(), &mut desk, &mut streams), 0);
 /// ```
-pub fn run_program<N: Network, D: ChipDesk, R: Read + Drop, W: Write + Drop>(
+pub fn run_program<N: Network, D: ChipDesk, R: Inlet + Drop, W: Write + Drop>(
     network: N,
     alloc: Global,
     words: &[String],
     desk: &mut D,
     link: &mut StreamLink<R, W>,
 ) -> u8
-    ensures runs { RunsProgram (peers_of N.Network N.Listener.Callers N.Stream.Read N.Stream.Write
-        N.Stream.closed)
+    ensures runs { RunsProgram (peers_of N.Network N.Listener.Callers N.Stream.Read
+        N.Stream.has_timed_out N.Stream.Write N.Stream.closed)
         (map string_bytes words.now) (devices (stream_state link.old) (D.view desk.old))
         (devices (stream_state link.new) (D.view desk.new)) result }
-    ensures is_reported { TranscriptIsTrueSince R.remaining W.contents link.old link.new }
+    ensures is_reported { TranscriptIsTrueSince R.remaining R.has_timed_out W.contents link.old link.new }
     ensures stays { Preserves D.started_as desk.old desk.new }
 {
     match run_words(network, alloc, words, desk, link) {
@@ -179,7 +179,7 @@ pub fn run_command_line<
     S: FileSystem + Drop,
     O: Outlet + Drop,
     M: Outlet + Drop,
-    R: Read + Drop,
+    R: Inlet + Drop,
     W: Write + Drop,
 >(
     line: &C,
@@ -189,10 +189,10 @@ pub fn run_command_line<
     link: &mut StreamLink<R, W>,
 ) -> u8
     ensures starts { StartsProgram C.CommandLine (peers_of N.Network N.Listener.Callers N.Stream.Read
-        N.Stream.Write N.Stream.closed)
+        N.Stream.has_timed_out N.Stream.Write N.Stream.closed)
         (devices (stream_state link.old) (system_desk_view desk.old))
         (devices (stream_state link.new) (system_desk_view desk.new)) result }
-    ensures is_reported { TranscriptIsTrueSince R.remaining W.contents link.old link.new }
+    ensures is_reported { TranscriptIsTrueSince R.remaining R.has_timed_out W.contents link.old link.new }
     ensures shows { IsTrueDesk S.FileSystem S.File.Read S.File.Write S.Input.Read O.Write M.Write desk.old
         desk.new }
     ensures all { RecordsAll S.FileSystem S.File.Read S.File.Write S.Input.Read desk.old desk.new }

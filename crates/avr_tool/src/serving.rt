@@ -28,8 +28,8 @@ fn serve_client<L: Callers, D: ChipDesk>(
     desk: &mut D,
 ) -> u8
     ensures serves { (listener : L) → IfOk called (IsNewLink (L.calls listener)) → OnErr called (L.lacks listener)
-        → ServesOn (IsOverClient L.Callers L.Stream.Read L.Stream.Write L.Stream.closed listener) part.now port.now
-        file.now (D.view desk.old) (D.view desk.new) result }
+        → ServesOn (IsOverClient L.Callers L.Stream.Read L.Stream.has_timed_out L.Stream.Write L.Stream.closed
+        listener) part.now port.now file.now (D.view desk.old) (D.view desk.new) result }
     ensures stays { Preserves D.started_as desk.old desk.new }
 {
     let mut link = match called {
@@ -69,9 +69,9 @@ pub fn serve_on<N: Network, D: ChipDesk>(
     desk: &mut D,
 ) -> u8
     requires port { IsServed settings.now.port }
-    ensures serves { ServesNet N.unused (IsOverClient N.Listener.Callers N.Stream.Read N.Stream.Write N.Stream.closed
-        listener) settings.now (port_address settings.now.port) (chip_file_of settings.now.port) (D.view desk.old)
-        (D.view desk.new) result }
+    ensures serves { ServesNet N.unused (IsOverClient N.Listener.Callers N.Stream.Read N.Stream.has_timed_out
+        N.Stream.Write N.Stream.closed listener) settings.now (port_address settings.now.port)
+        (chip_file_of settings.now.port) (D.view desk.old) (D.view desk.new) result }
     ensures stays { Preserves D.started_as desk.old desk.new }
 {
     network.leave();
@@ -93,8 +93,9 @@ fn serve_at<N: Network, D: ChipDesk>(
     file: &str,
     desk: &mut D,
 ) -> u8
-    ensures serves { ServesOn (IsOverPort N.Network N.Listener.Callers N.Stream.Read N.Stream.Write N.Stream.closed
-        (number_of port.now)) part.now port.now file.now (D.view desk.old) (D.view desk.new) result }
+    ensures serves { ServesOn (IsOverPort N.Network N.Listener.Callers N.Stream.Read N.Stream.has_timed_out
+        N.Stream.Write N.Stream.closed (number_of port.now)) part.now port.now file.now (D.view desk.old)
+        (D.view desk.new) result }
     ensures stays { Preserves D.started_as desk.old desk.new }
 {
     let Some(number) = port_number(port) else {
@@ -131,9 +132,9 @@ pub fn serve_net<N: Network, D: ChipDesk>(
     desk: &mut D,
 ) -> u8
     requires port { IsServed settings.now.port }
-    ensures serves { ServesNet N.unused (IsOverPort N.Network N.Listener.Callers N.Stream.Read N.Stream.Write
-        N.Stream.closed (number_of (port_address settings.now.port))) settings.now (port_address settings.now.port)
-        (chip_file_of settings.now.port) (D.view desk.old) (D.view desk.new) result }
+    ensures serves { ServesNet N.unused (IsOverPort N.Network N.Listener.Callers N.Stream.Read N.Stream.has_timed_out
+        N.Stream.Write N.Stream.closed (number_of (port_address settings.now.port))) settings.now
+        (port_address settings.now.port) (chip_file_of settings.now.port) (D.view desk.old) (D.view desk.new) result }
     ensures stays { Preserves D.started_as desk.old desk.new }
 {
     let part = match check_part(alloc, settings, desk) {

@@ -2,11 +2,11 @@
 #![tactic(auto)]
 
 use avr_tool::{
-    CommandLine, FileSystem, Network, Outlet, StreamLink, SystemDesk, run_command_line,
+    CommandLine, FileSystem, Inlet, Network, Outlet, StreamLink, SystemDesk, run_command_line,
 };
 use std::alloc::Global;
 use std::fs::File;
-use std::io::{Read, Write};
+use std::io::Write;
 use std::process::ExitCode;
 use std::{fs, io};
 
@@ -38,7 +38,7 @@ fn start<
     S: FileSystem + Drop,
     O: Outlet + Drop,
     M: Outlet + Drop,
-    R: Read + Drop,
+    R: Inlet + Drop,
     W: Write + Drop,
 >(rt: &E, network: N, system: S, input: R, replies: W, output: O, messages: M) -> u8 {
     let mut desk = SystemDesk::new(system, output, messages);

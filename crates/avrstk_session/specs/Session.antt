@@ -1,12 +1,13 @@
 -- A program that serves one client over its link, from a command line to a status.
-use Rattle.std.specs.Prelude.{◌≡◌, ◌⊎◌, ℕ, true, List, [], ◌∷◌, Result, Ok, Err, MatchBool, codes}
+use Rattle.std.specs.Prelude.{◌≡◌, ◌⊎◌, ℕ, true, List, [], ◌∷◌, Option, None, Some, Result, Ok, Err, codes, if◌then◌else◌}
+use Rattle.std.specs.Str.{bytes_eq}
 use Rattle.clap.specs.Words.{fault_of, kind_of, takes, HasKind}
 use Rattle.clap.specs.declared.error.Error.{Error}
 use Rattle.clap.specs.declared.error.kind.ErrorKind.{ErrorKind}
 use Rattle.clap.specs.declared.error.kind.ErrorKind.TheVariants.{DisplayHelp, OutOfMemory}
 use Rattle.avr_plan.specs.Command.{avrstk, settings_from_arguments}
 use Rattle.avr_plan.specs.declared.settings.Port.{Port}
-use Rattle.avr_plan.specs.declared.settings.Port.TheVariants.{Emulated, Stdio}
+use Rattle.avr_plan.specs.declared.settings.Port.TheVariants.{Emulated}
 use Rattle.avr_plan.specs.declared.settings.Settings.{Settings}
 use Rattle.avr_desk.specs.Lines.{error, memory_pieces}
 use Rattle.avr_desk.specs.Record.{Bytes, DeskState}
@@ -17,11 +18,32 @@ use Rattle.avr_tool.specs.ServedRun.{ChecksPart, RunsServed}
 use Rattle.avr_part.specs.Part.{Part}
 use Rattle.avr_session.specs.Runs.{Devices}
 use Rattle.avrstk_session.specs.Outline.{Outlines}
+use Rattle.avrstk_session.specs.declared.mode.Mode.{Mode}
+use Rattle.avrstk_session.specs.declared.mode.Mode.TheVariants.{Serve, Check, Outline}
 
 -- How the program is used.
 abbrev pub usage_pieces : List Bytes
-usage_pieces = codes "usage: avrstk_session -p PART [--parts FILE] -P emu:CHIPFILE [-n], or AVRSTK'S OPTIONS -P stdio:"
-    ∷ []
+usage_pieces = codes
+    "usage: avrstk_session --serve|--check -p PART [--parts FILE] -P emu:CHIPFILE, or --outline AVRSTK'S OPTIONS" ∷ []
+
+-- The mode of this name.
+abbrev pub mode_named : Bytes → Option Mode
+mode_named word =
+    if bytes_eq word (codes "--serve") then Some Serve
+    else if bytes_eq word (codes "--check") then Some Check
+    else if bytes_eq word (codes "--outline") then Some Outline
+    else None
+
+-- After a first argument that names this mode, or none.
+abbrev pub after_mode : Option Mode → Bytes → Bytes → List Bytes → Option Mode × List Bytes
+after_mode (Some mode) name word more = (Some mode, word ∷ more)
+after_mode None name word more = (None, name ∷ word ∷ more)
+
+-- The mode that the first argument names, and avrstk's command line after it, in which it takes the program's place. If
+-- the first argument names no mode, the command line is whole.
+abbrev pub mode_and_words : List Bytes → Option Mode × List Bytes
+mode_and_words (name ∷ word ∷ more) = after_mode (mode_named word) name word more
+mode_and_words words = (None, words)
 
 -- Help has status 0, any other error 1. A failed allocation has a line of its own.
 abbrev pub ReportsUsage : ErrorKind → DeskState → DeskState → ℕ → Type 0
@@ -51,27 +73,34 @@ pub record ChecksOnly (settings : Settings) (file : Bytes) (old new : DeskState)
 abbrev pub RefusesUse : Devices → Devices → ℕ → Type 0
 RefusesUse old new status = ReportsLine old.desk new.desk (error usage_pieces) × (new.link ≡ old.link) × (status ≡ 1)
 
--- With `-P emu:CHIPFILE` that file is served over the link. With `-n` too it is only checked, and nothing is received
--- or sent. With `-P stdio:` the outline of a session is printed, also without the link. Any other port is refused.
-abbrev pub ServesPort : Port → Settings → Devices → Devices → ℕ → Type 0
-ServesPort (Emulated file) settings old new status = MatchBool settings.switches.dry
-    (ChecksOnly settings file old.desk new.desk status × (new.link ≡ old.link))
-    (RunsServed settings file old new status)
-ServesPort Stdio settings old new status = Outlines settings old.desk new.desk status × (new.link ≡ old.link)
-ServesPort port settings old new status = RefusesUse old new status
+-- With `--serve` the chip file of `-P emu:CHIPFILE` is served over the link. With `--check` it is only checked, and
+-- nothing is received or sent. With `--outline` the outline of a session is printed, for any port and without the link.
+-- Without one of these, or with another port, the use is refused.
+abbrev pub ServesMode : Option Mode → Port → Settings → Devices → Devices → ℕ → Type 0
+ServesMode (Some Serve) (Emulated file) settings old new status = RunsServed settings file old new status
+ServesMode (Some Check) (Emulated file) settings old new status =
+    ChecksOnly settings file old.desk new.desk status × (new.link ≡ old.link)
+ServesMode (Some Outline) port settings old new status =
+    Outlines settings old.desk new.desk status × (new.link ≡ old.link)
+ServesMode mode port settings old new status = RefusesUse old new status
 
 -- The command takes the command line, which asks for these settings, and they were served.
-pub record ServesTakenCommandLine (words : List Bytes) (old new : Devices) (status : ℕ) : Type 0 where
+pub record ServesTakenCommandLine (mode : Option Mode) (words : List Bytes) (old new : Devices) (status : ℕ)
+    : Type 0 where
   pub settings : Settings
   pub asked : Ok settings ≡ settings_from_arguments words
   pub taken : fault_of avrstk words ≡ []
-  pub serves : ServesPort settings.port settings old new status
+  pub serves : ServesMode mode settings.port settings old new status
 
--- From a command line to a status. Without settings nothing was received or sent.
-abbrev pub ServesWords : List Bytes → Devices → Devices → ℕ → Type 0
-ServesWords words old new status = ServesTakenCommandLine words old new status
+-- From a mode and avrstk's command line to a status. Without settings nothing was received or sent.
+abbrev pub ServesOptions : Option Mode → List Bytes → Devices → Devices → ℕ → Type 0
+ServesOptions mode words old new status = ServesTakenCommandLine mode words old new status
     ⊎ ((IsRefused words old.desk new.desk status ⊎ IsCommandLineRefused words old.desk new.desk status)
     × (new.link ≡ old.link))
+
+-- From a command line to a status.
+abbrev pub ServesWords : List Bytes → Devices → Devices → ℕ → Type 0
+ServesWords words = ServesOptions (mode_and_words words).0 (mode_and_words words).1
 
 -- From the start of a process: its command line was read and served. Or it could not be read.
 abbrev pub StartsSession : {C : Type 0} → CommandLine C → Devices → Devices → ℕ → Type 0

@@ -1,8 +1,9 @@
 //! Serves an emulated programmer with an emulated part to one client, over standard input and output.
 //!
-//! It takes avrstk's options `-p`, `--parts` and `-P emu:CHIPFILE`. With `-n` it only checks that this part and chip
-//! file can be served, and writes nothing. With `-P stdio:` it reads the files of a whole command line, for callers
-//! that draw progress. It prints how many frames the session sends, and which pages of flash it writes.
+//! With `--serve` it takes avrstk's options `-p`, `--parts` and `-P emu:CHIPFILE`. With `--check` it only checks that
+//! this part and chip file can be served, and writes nothing. With `--outline` it takes all of avrstk's options and
+//! reads the files that they name, for callers that draw progress. It prints how many frames the session sends, and
+//! which pages of flash it writes.
 #![tactic(auto)]
 
 ghost use Rattle.std.specs.Prelude.{◌≡◌, map, string_bytes};
@@ -11,9 +12,10 @@ ghost use Rattle.avr_desk.specs.Shown.{IsTrueSince, RecordsAll, system_desk_view
 ghost use Rattle.avr_session.specs.Runs.{devices};
 ghost use Rattle.avrstk_session.specs.Outline.{Outlines, PrintsOutline, outline_text};
 ghost use Rattle.avr_tool.specs.Ports.{HasChip, chip_file_of};
-ghost use Rattle.avrstk_session.specs.Session.{ChecksOnly, ServesPort, ServesWords, StartsSession, ReportsUsage, usage_pieces};
+ghost use Rattle.avrstk_session.specs.Session.{ChecksOnly, ServesMode, ServesWords, StartsSession, ReportsUsage, usage_pieces};
 ghost use Rattle.ghosts.specs.Preserves.{Preserves};
 
+mod mode;
 mod outline;
 
 use avr_desk::{
@@ -24,6 +26,7 @@ use avr_tool::{CommandLine, NotAsked, asked, check_part, serve};
 use clap::Error;
 use clap::error::ErrorKind;
 use ghosts::{Inlet, Outlet};
+use mode::{Mode, mode_and_words};
 use outline::outline_text;
 use std::alloc::Global;
 use std::fs::File;
@@ -43,7 +46,7 @@ fn take_closed_streams(rt: &HostRuntime) -> [io::Result<File>; 3] {
 }
 
 /// Checks that the part and the chip file of these settings can be served, and returns the status.
-fn judge<D: ChipDesk>(alloc: Global, settings: &Settings, desk: &mut D) -> u8
+fn check_chip<D: ChipDesk>(alloc: Global, settings: &Settings, desk: &mut D) -> u8
     requires { HasChip settings.now.port }
     ensures checks_out { ChecksOnly settings.now (chip_file_of settings.now.port) (D.view desk.old) (D.view desk.new)
         result }
@@ -59,7 +62,7 @@ fn usage_message<'a>() -> Message<'a>
     ensures { result ≡ usage_pieces }
 {
     Message::text(
-        "usage: avrstk_session -p PART [--parts FILE] -P emu:CHIPFILE [-n], or AVRSTK'S OPTIONS -P stdio:",
+        "usage: avrstk_session --serve|--check -p PART [--parts FILE] -P emu:CHIPFILE, or --outline AVRSTK'S OPTIONS",
     )
 }
 
@@ -88,28 +91,23 @@ fn outline_session<D: Desk>(alloc: Global, settings: &Settings, desk: &mut D) ->
     }
 }
 
-/// Serves the chip file of these settings over the link, or only checks it. With `-P stdio:` it prints the outline of
-/// the session. It refuses any other port.
-fn serve_port<D: ChipDesk, L: Link>(
+/// Does what the mode says with these settings. It refuses to serve or check another port than an emulated chip's.
+fn serve_mode<D: ChipDesk, L: Link>(
     alloc: Global,
+    mode: Option<Mode>,
     settings: &Settings,
     desk: &mut D,
     link: &mut L,
 ) -> u8
-    ensures serves { ServesPort settings.now.port settings.now (devices (L.view link.old) (D.view desk.old))
+    ensures serves { ServesMode mode settings.now.port settings.now (devices (L.view link.old) (D.view desk.old))
         (devices (L.view link.new) (D.view desk.new)) result }
     ensures comes { Preserves L.started_as link.old link.new }
     ensures stays { Preserves D.started_as desk.old desk.new }
 {
-    match &settings.port {
-        Port::Emulated(_) => {
-            if settings.switches.dry {
-                judge(alloc, settings, desk)
-            } else {
-                serve(alloc, settings, desk, link)
-            }
-        }
-        Port::Stdio => outline_session(alloc, settings, desk),
+    match (mode, &settings.port) {
+        (Some(Mode::Serve), Port::Emulated(_)) => serve(alloc, settings, desk, link),
+        (Some(Mode::Check), Port::Emulated(_)) => check_chip(alloc, settings, desk),
+        (Some(Mode::Outline), _) => outline_session(alloc, settings, desk),
         _ => refuse(desk, &usage_message()),
     }
 }
@@ -141,8 +139,9 @@ fn serve_words<D: ChipDesk, L: Link>(
     ensures comes { Preserves L.started_as link.old link.new }
     ensures stays { Preserves D.started_as desk.old desk.new }
 {
+    let (mode, words) = mode_and_words(words);
     match asked(alloc, words, desk) {
-        Ok(settings) => serve_port(alloc, &settings, desk, link),
+        Ok(settings) => serve_mode(alloc, mode, &settings, desk, link),
         Err(NotAsked::Refused(status)) => status,
         Err(NotAsked::Words(error)) => report_usage(desk, &error),
     }

@@ -61,13 +61,27 @@ pub record StreamState (R W : Type 0) : Type 0 where
 abbrev pub stream_state : {R W : Type 0} → StreamState R W → LinkState
 stream_state link = record { transcript = link.transcript; failures = link.failures }
 
+-- A reader timed out when it had given these bytes since `old`.
+abbrev pub TimedOutAfter : {R : Type 0} → (R → Option (List ℕ)) → (R → Type 0) → R → List ℕ → Type 0
+TimedOutAfter {R = R} remaining has_timed_out old bytes =
+    (reader : R) × has_timed_out reader × Consumes (remaining old) (remaining reader) bytes
+
+-- Each item `Silence` of the tape was a timeout after the bytes before it: `before`, and then those on the tape.
+abbrev pub EachTimedOut : (List ℕ → Type 0) → List ℕ → Tape → Type 0
+EachTimedOut IsTimeout before [] = Unit {0}
+EachTimedOut IsTimeout before (Silence ∷ tape) = IsTimeout before × EachTimedOut IsTimeout before tape
+EachTimedOut IsTimeout before (Byte byte ∷ tape) = EachTimedOut IsTimeout (before ++ byte ∷ []) tape
+EachTimedOut IsTimeout before (End ∷ tape) = EachTimedOut IsTimeout before tape
+
 -- The transcript since `old` is true: `started_as` of a `StreamLink`. The bytes received are those that the reader
--- gave, in order and none lost. The bytes sent are those that the writer took, also in a send that failed.
-pub record TranscriptIsTrueSince {R W : Type 0} (remaining : R → Option (List ℕ)) (contents : W → Option (List ℕ))
-    (old new : StreamState R W) : Type 0 where
+-- gave, in order and none lost. Each timeout received was one of the reader, after the same bytes. The bytes sent are
+-- those that the writer took, also in a send that failed.
+pub record TranscriptIsTrueSince {R W : Type 0} (remaining : R → Option (List ℕ)) (has_timed_out : R → Type 0)
+    (contents : W → Option (List ℕ)) (old new : StreamState R W) : Type 0 where
   pub during : Transcript
   pub grows : new.transcript ≡ old.transcript ++ during
   pub gave : Consumes (remaining old.reader) (remaining new.reader) (bytes_on_tape (heard during))
+  pub paused : EachTimedOut (TimedOutAfter remaining has_timed_out old.reader) [] (heard during)
   pub took : Appends (contents old.writer) (contents new.writer) (sent during)
   pub counted : old.failures ≤ new.failures
 

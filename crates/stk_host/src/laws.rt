@@ -13,7 +13,8 @@ ghost use Rattle.ghosts.specs.Preserves.{Preserves};
 
 use crate::stream_link::StreamLink;
 use crate::tape_link::TapeLink;
-use std::io::{Read, Write};
+use ghosts::Inlet;
+use std::io::Write;
 
 /// States that a call of a [`crate::Host`] sends at most four times as many frames as its steps have commands. This
 /// holds for every programmer, however its replies arrive, and also if the link fails.
@@ -30,16 +31,17 @@ pub fn a_call_sends_at_most_four_times_its_commands()
 {}
 
 /// States that the transcript of a stream link is true: it has what the reader gave and the writer took. This holds
-/// whatever was done with the link. The bytes received since `before` are those that the reader gave. The bytes sent
-/// are those that the writer took, also in a send that failed.
+/// whatever was done with the link. The bytes received since `before` are those that the reader gave. Each timeout
+/// received was one of the reader, after the same bytes. The bytes sent are those that the writer took, also in a send
+/// that failed.
 ///
 /// Each call over a [`crate::Link`] ensures the required fact, and so does all code made of such calls.
-pub fn a_record_of_streams_is_true<R: Read, W: Write>(
+pub fn a_record_of_streams_is_true<R: Inlet, W: Write>(
     before: &StreamLink<R, W>,
     after: &StreamLink<R, W>,
 )
-    requires { Preserves (TranscriptIsTrueSince R.remaining W.contents) before.now after.now }
-    ensures { TranscriptIsTrueSince R.remaining W.contents before.now after.now }
+    requires { Preserves (TranscriptIsTrueSince R.remaining R.has_timed_out W.contents) before.now after.now }
+    ensures { TranscriptIsTrueSince R.remaining R.has_timed_out W.contents before.now after.now }
 {}
 
 /// States that a tape link gives its own items in order, and after the last one only ends, whatever was done with it.

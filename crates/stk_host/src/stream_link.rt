@@ -173,11 +173,11 @@ impl<R: Inlet + Drop, W: Outlet + Drop> Link for StreamLink<R, W> {
 
     ghost Start = { StreamState R W };
 
-    ghost started_as = { TranscriptIsTrueSince R.remaining W.contents };
+    ghost started_as = { TranscriptIsTrueSince R.remaining R.has_timed_out W.contents };
 
     fn send(&mut self, bytes: &[u8]) -> Result<usize, LinkFault>
         ensures sends { Sends bytes.now (stream_state self.old) (stream_state self.new) result }
-        ensures comes { Preserves (TranscriptIsTrueSince R.remaining W.contents) self.old self.new }
+        ensures comes { Preserves (TranscriptIsTrueSince R.remaining R.has_timed_out W.contents) self.old self.new }
         // The writer took the bytes reported as sent, or on failure exactly those of the transcript's last piece.
         ensures written { IfOk result (λ n. Appends (W.contents self.old.writer) (W.contents self.new.writer)
             (take n bytes.now)) }
@@ -204,7 +204,7 @@ impl<R: Inlet + Drop, W: Outlet + Drop> Link for StreamLink<R, W> {
     fn recv(&mut self, buffer: &mut [u8]) -> Result<Heard, LinkFault>
         requires { 0 < length buffer.old }
         ensures receives { Receives buffer.new (stream_state self.old) (stream_state self.new) result }
-        ensures comes { Preserves (TranscriptIsTrueSince R.remaining W.contents) self.old self.new }
+        ensures comes { Preserves (TranscriptIsTrueSince R.remaining R.has_timed_out W.contents) self.old self.new }
         // The bytes received are the reader's next ones. None is lost, and the end comes only after the last.
         ensures read { IfOk result (λ heard. ReceivesKnownBytes heard buffer.new (R.remaining self.old.reader)
             (R.remaining self.new.reader)) }

@@ -171,10 +171,6 @@ record Listens {E R : Type 0} (p : Played E R) (tape : Tape) : Type 0 where
       → (timeouts_on tape ≤ length (frames_in p.events) + timeouts_on left)
       × (count_of_bytes_on tape ≤ reply_byte_limit * length (frames_in p.events) + count_of_bytes_on left)
 
-abbrev rest_of : {R : Type 0} → Option (R × ℕ × Tape) → Tape
-rest_of None = []
-rest_of (Some (r, seq, left)) = left
-
 listens_asked : {E R : Type 0} (f : List ℕ) (go_on : Reading → Tape → Played E R) (tape : Tape)
     (got : Option (Reading × Tape)) → ListensOnce tape got
     → ((reading : Reading) (left : Tape) → Listens (go_on reading left) left)

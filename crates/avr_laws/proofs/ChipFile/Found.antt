@@ -14,7 +14,6 @@ use Rattle.avr_desk.specs.Truth.{OpeningsAreTrue, HoldsTrue, IsTrueOpening}
 use Rattle.avr_desk.specs.declared.record.FileUse.{FileUse}
 use Rattle.avr_desk.specs.declared.record.FileUse.TheVariants.{Opened, Created}
 use Rattle.avr_desk.specs.declared.record.Opening.{Opening}
-use Rattle.avr_desk.specs.declared.record.Opening.TheVariants.{Absent, Found}
 use Rattle.avr_desk.specs.declared.record.Writing.{Writing}
 use Rattle.avr_tool.specs.Emulated.{RunsOverEmulator}
 use Rattle.avr_part.specs.Part.{Part}
@@ -23,16 +22,6 @@ use Rattle.avr_laws.proofs.Held.Chip.{IsReadFrom, in_file}
 use Rattle.avr_laws.proofs.Plans.OnlyReading.{only_reads}
 use Rattle.avr_laws.proofs.KnownFiles.PastUses.{ArePast, none_made, only_opened, opened, opened_past, past_shown, run_past, saved_past}
 use Rattle.avr_laws.specs.ChipFound.{IsChipInFile, contents_held}
-
--- ---- the chip that an opening gives
-
--- the name that was opened
-abbrev opened_name : Opening → Bytes
-opened_name (Absent name) = name
-opened_name (Found x) = x.name
-
-named : (name : Bytes) (openings : List Opening) → opened_name (next_opening name openings) ≡ name
-named name openings = search rules
 
 -- ---- the chip that is loaded
 
@@ -71,11 +60,11 @@ module _ (settings : Settings) (file : Bytes) (stock : Stock) (old new : MemDesk
   abbrev opening : Opening
   opening = found r.plan.part file r.loaded.held_desk r.loaded_desk r.chip r.loaded.loaded
 
-  loaded_past : ArePast (first_uses ++ Opened opening ∷ []) r.loaded_desk.kept
-  loaded_past = search (rules, opened_past opening r.loaded.held_desk.kept)
-
   played_past : ArePast (first_uses ++ Opened opening ∷ []) r.played_desk.kept
-  played_past = run_past (first_uses ++ Opened opening ∷ []) _ _ _ _ _ r.session_status r.runs loaded_past
+  played_past = run_past (first_uses ++ Opened opening ∷ []) _ _ _ _ _ r.session_status r.runs (search (
+    rules,
+    opened_past opening r.loaded.held_desk.kept,
+  ))
 
   ended : (more : List FileUse) × (all_uses new.kept ≡ (first_uses ++ Opened opening ∷ []) ++ more)
   ended =
@@ -101,9 +90,7 @@ module _ (settings : Settings) (file : Bytes) (stock : Stock) (old new : MemDesk
 
   -- its opening was true by the files before the run
   gave : IsTrueOpening stock (all_files old.kept) opening
-  gave =
-      let later : OpeningsAreTrue stock (files_among first_uses) (Opened opening ∷ ended.0) =
-      true_behind stock [] first_uses (Opened opening ∷ ended.0) every in search (rules, first_files)
+  gave = search (rules, true_behind stock [] first_uses (Opened opening ∷ ended.0) every, every, first_files)
 
   pub chip_read : IsReadFrom r.plan.part (contents_held stock old.kept file) r.chip
   chip_read = grind (arith, common_steps, gave)

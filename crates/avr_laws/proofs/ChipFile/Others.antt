@@ -1,5 +1,5 @@
 -- What names mean after a run over the emulator: the files that memories were read into, and the chip file.
-use Rattle.std.proofs.Common.{◌≡◌, ◌∙◌, ◌⊎◌, ap, sym, refl, true, false, ℕ, List, [], ◌∷◌, ◌++◌, append-nil, inl, inr, Option, None, rules}
+use Rattle.std.proofs.Common.{◌≡◌, ◌⊎◌, refl, true, false, ℕ, List, [], ◌∷◌, ◌++◌, append-nil, Option, rules}
 use Rattle.std.proofs.lemmas.Bool.{cases_Bool}
 use Rattle.avr_desk.proofs.FileUses.Names.{newest_append}
 use Rattle.avr_desk.proofs.FileUses.Uses.{files_replaced}
@@ -18,33 +18,20 @@ other name f older differs = search rules
 no_dash : (name : Bytes) (fs : List Writing) (older : Option Bytes) → is_dash name ≡ true
     → newest name older (named_files fs) ≡ older
 no_dash name [] older dash = refl
-no_dash name (f ∷ fs) older dash = elim (cases_Bool (is_dash f.name)) [
-  | inl too ↦ rw too (no_dash name fs older dash)
-  | inr isnt ↦ rw isnt (no_dash name fs (or_older name older f) dash
-      ∙ other name f older (λ same. cc (sym isnt ∙ (ap is_dash same ∙ dash))))
-]
+no_dash name (f ∷ fs) older dash =
+    search (rules, cases_Bool, no_dash name fs older dash, no_dash name fs (or_older name older f) dash, other)
 
 stood_newest : (stock : Stock) (made : List Writing) (name : Bytes) → is_dash name ≡ false
     → content_of_name stock made name ≡ newest name (content_of_name stock [] name) made
-stood_newest stock made name isnt = rw isnt
-    (newest_append name None stock.files made
-    ∙ ap (λ (files : List Writing). newest name (newest name None files) made) (sym (append-nil stock.files)))
+stood_newest stock made name isnt = search (rules, newest_append, append-nil)
 
 pub stood_named : (stock : Stock) (fs : List Writing) (name : Bytes)
     → content_of_name stock (named_files fs) name ≡ newest name (content_of_name stock [] name) (named_files fs)
-stood_named stock fs name = elim (cases_Bool (is_dash name)) [
-  | inl dash ↦ rw dash (sym (no_dash name fs _ dash))
-  | inr isnt ↦ stood_newest stock (named_files fs) name isnt
-]
+stood_named stock fs name = search (rules, cases_Bool, no_dash, stood_newest)
 
 stood_more : (stock : Stock) (made : List Writing) (f : Writing) (name : Bytes) → (f.name ≡ name → ⊥)
     → content_of_name stock (made ++ f ∷ []) name ≡ content_of_name stock made name
-stood_more stock made f name differs = elim (cases_Bool (is_dash name)) [
-  | inl dash ↦ rw dash refl
-  | inr isnt ↦ stood_newest stock (made ++ f ∷ []) name isnt
-      ∙ (newest_append name (content_of_name stock [] name) made (f ∷ [])
-      ∙ (other name f _ differs ∙ sym (stood_newest stock made name isnt)))
-]
+stood_more stock made f name differs = search (rules, cases_Bool, stood_newest, newest_append, other)
 
 -- ---- a save with status 0
 
@@ -56,10 +43,4 @@ files_saved out old new file bytes ran saved = search (rules, files_replaced)
 pub stood_saved : (stock : Stock) (out : List ℕ) (old new : DeskState) (file bytes : Bytes) (ran : ℕ) (name : Bytes)
     → (name ≡ file → ⊥) → IsSavedIfSent out old new file bytes ran 0
     → content_of_name stock (all_files new.kept) name ≡ content_of_name stock (all_files old.kept) name
-stood_saved stock out old new file bytes ran name differs saved =
-    elim (files_saved out old new file bytes ran saved) [
-      | inl same ↦ ap (λ (files : List Writing). content_of_name stock files name) same
-      | inr more ↦ ap (λ (files : List Writing). content_of_name stock files name) more
-          ∙ stood_more stock (all_files old.kept) (record { name = file; bytes = bytes }) name
-          (λ same. differs (sym same))
-    ]
+stood_saved stock out old new file bytes ran name differs saved = search (rules, files_saved, stood_more)

@@ -4,7 +4,7 @@ use Rattle.avr_plan.specs.declared.settings.Settings.{Settings}
 use Rattle.avr_desk.specs.Memory.{MemDeskState, Stock, memory_state, content_of_name}
 use Rattle.avr_desk.specs.Named.{is_dash, newest}
 use Rattle.avr_desk.specs.Record.{Bytes, ChangesRecord, Record, all_files, nothing_kept}
-use Rattle.avr_desk.specs.OutputEvents.{OutputEvent, after_events}
+use Rattle.avr_desk.specs.OutputEvents.{after_events}
 use Rattle.avr_desk.specs.Stage.{Produced, NotReadToEnd, StageOutcome, StageResult}
 use Rattle.avr_desk.specs.Truth.{HoldsTrue}
 use Rattle.avr_desk.specs.declared.record.Writing.{Writing}
@@ -24,7 +24,7 @@ use Rattle.stk_host.specs.Transcript.{sent}
 use Rattle.avr_laws.proofs.ChipFile.Found.{chip_found, loaded_files, planned_true}
 use Rattle.avr_laws.proofs.ChipFile.Others.{stood_named, stood_saved}
 use Rattle.avr_laws.proofs.Outcomes.ByTasks.{tasks_agree}
-use Rattle.avr_laws.proofs.Outcomes.Saved.{WritesFiles, expected_writes, these_saved}
+use Rattle.avr_laws.proofs.Outcomes.Saved.{expected_writes, these_saved}
 use Rattle.avr_laws.proofs.ChipFile.SecondRun.{chip_left}
 use Rattle.avr_laws.proofs.KnownFiles.RunsInMemory.{seen}
 use Rattle.avr_laws.specs.ChipFound.{IsChipInFile, contents_held}
@@ -60,9 +60,7 @@ module _ (settings : Settings) (file : Bytes) (stock : Stock) (old new : MemDesk
   files = saved_files r.plan (memories_of r.chip)
 
   written : FilesAreSaved files r.loaded_desk.kept r.played_desk.kept
-  written = these_saved (outputs (events_over r.plan r.after)) files r.loaded_desk r.played_desk
-      (subst (λ (output_events : List OutputEvent). WritesFiles output_events files) (sym expected.emitted)
-      (expected_writes r.plan (memories_of r.chip) (sym expected.status_is ∙ zero))) came.1
+  written = search (rules, these_saved, expected_writes r.plan (memories_of r.chip) (sym expected.status_is ∙ zero))
 
   created : all_files r.played_desk.kept ≡ named_files files
   created = written.created ∙ ap (λ (before : List Writing). before ++ named_files files)

@@ -145,9 +145,7 @@ module _ (settings : Settings) (file : Bytes) (stock : Stock) (old mid new : Mem
       ]
 
   second : OverAnyWire plan (new_wire two.chip []) two.after two.loaded_desk two.played_desk two.session_status
-  second =
-      subst (λ (p : Plan). OverAnyWire p (new_wire two.chip []) two.after two.loaded_desk two.played_desk
-      two.session_status) same_plan (emulated_wire two)
+  second = search (rules, emulated_wire two)
 
   pub repairs_file : has_erase (items plan) ≡ true → AgreesOnTwoChips plan
       → (erase_keeps_eeprom plan.part before ≡ true → ItemsKeepEeprom plan.part (items plan))

@@ -1,5 +1,5 @@
 -- A chip file holds the chip that is read from it, place by place.
-use Rattle.std.proofs.Common.{◌≡◌, ◌+◌, ◌≤◌, sym, subst, ℕ, List, [], ◌∷◌, length, drop, refl, arith, Option, Some, None, length-append, rules}
+use Rattle.std.proofs.Common.{◌≡◌, ◌+◌, subst, ℕ, List, [], ◌∷◌, length, arith, Option, Some, None, length-append, rules}
 use Rattle.std.proofs.lemmas.List.{length-drop, length-take-le}
 use Rattle.avr_part.specs.ChipFile.{chip_file_size, state_from_file}
 use Rattle.avr_part.specs.Part.{Part}
@@ -13,16 +13,7 @@ IsReadFrom part (Some bytes) chip = (length bytes ≡ chip_file_size part) × (c
 
 pub in_file : (part : Part) (found : Option (List ℕ)) (chip : Chip) → IsReadFrom part found chip
     → IsChipInFile part found chip
-in_file part None chip read = read
-in_file part (Some bytes) chip read =
-    let most : part.flash_size ≤ length bytes = omega (arith, read.0) in
-    let rest : part.eeprom_size ≤ length (drop part.flash_size bytes) = simp length-drop (omega (arith, read.0)) in
-    subst (IsChipInFile part (Some bytes)) (sym read.1) (
-      written_again part bytes read.0,
-      length-take-le part.flash_size bytes most,
-      length-take-le part.eeprom_size (drop part.flash_size bytes) rest,
-      refl,
-    )
+in_file part found chip read = grind (arith, length-drop, written_again, length-take-le)
 
 pub from_file : (part : Part) (found : Option (List ℕ)) (chip : Chip) → IsChipInFile part found chip
     → IsReadFrom part found chip

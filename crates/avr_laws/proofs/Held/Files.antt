@@ -1,13 +1,10 @@
 -- What the text of a file holds, in its format.
-use Rattle.std.proofs.Common.{◌≡◌, ap, ℕ, List, Option, Result, Ok, Err, rules}
+use Rattle.std.proofs.Common.{◌≡◌, ℕ, List, Option, Result, Ok, Err, rules}
 use Rattle.std.proofs.lemmas.Bool.Decides.{nat_tests}
-use Rattle.std.specs.Prelude.{map}
 use Rattle.std.specs.Result.{result_map_both}
 use Rattle.avr_desk.specs.Record.{Bytes}
 use Rattle.avr_plan.specs.ImageFile.{image_of_file}
-use Rattle.avr_plan.specs.declared.intake.BadFile.TheVariants.{Record}
-use Rattle.avr_records.specs.Lines.{lines}
-use Rattle.avr_records.specs.Reading.{file_ending, image_in_text, line_result}
+use Rattle.avr_records.specs.Reading.{image_in_text}
 use Rattle.avr_records.specs.declared.kind.Ending.{Ending}
 use Rattle.avr_records.specs.declared.kind.Ending.TheVariants.{Ended}
 use Rattle.avr_records.specs.declared.kind.Found.{Found}
@@ -33,13 +30,7 @@ held_file Raw text size image ending is = search (rules, nat_tests)
 
 pub file_read : (found : Found) (text : Bytes) (size : ℕ) (image : List (Option ℕ)) → HoldsImageAs found text size image
     → (ending : Ending) × (image_of_file found text size ≡ Ok (image, ending))
-file_read Ihex text size image held = (
-  file_ending (map (line_result kind.Ihex) (lines text)),
-  ap (result_map_both (λ good. good) Record) (records_read kind.Ihex text size image held),
-)
-file_read Srec text size image held = (
-  file_ending (map (line_result kind.Srec) (lines text)),
-  ap (result_map_both (λ good. good) Record) (records_read kind.Srec text size image held),
-)
+file_read Ihex text size image held = search (rules, records_read kind.Ihex text size image held)
+file_read Srec text size image held = search (rules, records_read kind.Srec text size image held)
 file_read Elf text size image held = absurd held
 file_read Raw text size image (fits, is) = (Ended, search (rules, nat_tests, is))

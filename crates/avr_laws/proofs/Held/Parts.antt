@@ -1,5 +1,5 @@
 -- The parts that a part file holds, if its reader finds no fault.
-use Rattle.std.proofs.Common.{◌≡◌, ◌∙◌, ◌≤◌, ◌<◌, ◌%◌, sym, ap, ℕ, zero, suc, List, [], ◌∷◌, refl, Some, Option, Result, Ok, Err, Bool, true, inl, inr, arith, rules}
+use Rattle.std.proofs.Common.{◌≡◌, ◌∙◌, ◌≤◌, ◌<◌, ◌%◌, ap, ℕ, zero, suc, List, [], ◌∷◌, refl, Some, Option, Result, Ok, Err, Bool, true, inl, inr, arith, rules}
 use Rattle.std.proofs.lemmas.Bool.{and_parts, cases_lt}
 use Rattle.std.proofs.lemmas.Bool.Decides.{nat_tests}
 use Rattle.std.proofs.Math.Nat.{mod-eq_of_lt}
@@ -8,7 +8,7 @@ use Rattle.std.specs.Prelude.{pos, codes, nat_lt, ok_or, ◌&&◌, ◌==◌, if�
 use Rattle.hex.specs.Hex.{decode_sized}
 use Rattle.toml.specs.Data.{Data, Members, no_members, member, get_member, string, integer, table}
 use Rattle.avr_part.specs.Part.{Part, id_of, is_id}
-use Rattle.avr_part.specs.PartFile.{Bytes, ◌>>=◌, part_of, parts_in, parts_of, number_field, page_field, signature_field}
+use Rattle.avr_part.specs.PartFile.{Bytes, part_of, parts_in, parts_of, number_field, page_field, signature_field, ◌>>=◌}
 use Rattle.avr_laws.specs.HeldParts.{IsPartOf, ArePartsIn, HoldsParts}
 use Rattle.avr_part.specs.declared.fault.Field.{Field}
 use Rattle.avr_part.specs.declared.fault.Field.TheVariants as field
@@ -73,15 +73,7 @@ made_of id signature flash flash_page eeprom eeprom_page bit = do
 fields_of : (id signature : Result Bytes PartFault) (flash flash_page eeprom eeprom_page bit : Result ℕ PartFault)
     (part : Part) → made_of id signature flash flash_page eeprom eeprom_page bit ≡ Ok part
     → AreFields id signature flash flash_page eeprom eeprom_page bit part
-fields_of (Ok id) (Ok signature) (Ok flash) (Ok flash_page) (Ok eeprom) (Ok eeprom_page) (Ok bit) part is =
-    search (rules, nat_tests)
-fields_of (Err f) s a b c d e part is = absurd (cc is)
-fields_of (Ok id) (Err f) a b c d e part is = absurd (cc is)
-fields_of (Ok id) (Ok s) (Err f) b c d e part is = absurd (cc is)
-fields_of (Ok id) (Ok s) (Ok a) (Err f) c d e part is = absurd (cc is)
-fields_of (Ok id) (Ok s) (Ok a) (Ok b) (Err f) d e part is = absurd (cc is)
-fields_of (Ok id) (Ok s) (Ok a) (Ok b) (Ok c) (Err f) e part is = absurd (cc is)
-fields_of (Ok id) (Ok s) (Ok a) (Ok b) (Ok c) (Ok d) (Err f) part is = absurd (cc is)
+fields_of id signature flash flash_page eeprom eeprom_page bit part is = grind (arith, nat_tests)
 
 one_part : (key : Bytes) (fields : Members) (part : Part) → part_of key (table fields) ≡ Ok part
     → IsPartOf key fields part
@@ -161,10 +153,7 @@ divides_power n some few divides =
     search (rules, nat_tests, test)
 
 divides_below : (n : ℕ) → 256 % n ≡ 0 → n ≤ 256
-divides_below n divides = elim (cases_lt 256 n) [
-  | inl over ↦ absurd (let all : 256 % n ≡ 256 = mod-eq_of_lt over in omega (arith, all, divides))
-  | inr under ↦ under
-]
+divides_below n divides = search (rules, cases_lt, mod-eq_of_lt)
 
 page_read : (f : Field) (least n : ℕ) → 0 < n → least ≤ n → 256 % n ≡ 0
     → page_field f least (Some (integer (pos n))) ≡ Ok n
@@ -185,36 +174,25 @@ id_read id is = search rules
 all_made : (id signature : Result Bytes PartFault) (flash flash_page eeprom eeprom_page bit : Result ℕ PartFault)
     (part : Part) → AreFields id signature flash flash_page eeprom eeprom_page bit part
     → made_of id signature flash flash_page eeprom eeprom_page bit ≡ Ok part
-all_made (Ok id) (Ok signature) (Ok flash) (Ok flash_page) (Ok eeprom) (Ok eeprom_page) (Ok bit) part f =
-    search (rules, nat_tests)
-all_made (Err e) s a b c d h part f = absurd (cc f.id_ok)
-all_made (Ok id) (Err e) a b c d h part f = absurd (cc f.signature_ok)
-all_made (Ok id) (Ok s) (Err e) b c d h part f = absurd (cc f.flash_ok)
-all_made (Ok id) (Ok s) (Ok a) (Err e) c d h part f = absurd (cc f.flash_page_ok)
-all_made (Ok id) (Ok s) (Ok a) (Ok b) (Err e) d h part f = absurd (cc f.eeprom_ok)
-all_made (Ok id) (Ok s) (Ok a) (Ok b) (Ok c) (Err e) h part f = absurd (cc f.eeprom_page_ok)
-all_made (Ok id) (Ok s) (Ok a) (Ok b) (Ok c) (Ok d) (Err e) part f = absurd (cc f.bit_ok)
+all_made id signature flash flash_page eeprom eeprom_page bit part f = grind (arith, nat_tests)
 
 part_read : (key : Bytes) (fields : Members) (part : Part) → IsPartOf key fields part
     → part_of key (table fields) ≡ Ok part
-part_read key fields part p = all_made _ _ _ _ _ _ _ part (record {
-  id_ok = ap (λ (id : Bytes). ok_or (id_of id) (BadValue field.Id)) (sym p.id) ∙ id_read part.id p.is_part.id;
-  signature_ok = ap signature_field p.signature.1 ∙ signature_read p.signature.0 part.signature p.signature.2;
-  flash_ok = ap (number_field field.FlashSize 2 262144) p.flash_size
-      ∙ number_read field.FlashSize 2 262144 part.flash_size p.is_part.flash_some p.is_part.flash_most;
-  flash_page_ok = ap (page_field field.FlashPage 2) p.flash_page
-      ∙ page_read field.FlashPage 2 part.flash_page (omega (arith, p.is_part.flash_page)) p.is_part.flash_page
-      p.is_part.flash_fits;
-  eeprom_ok = ap (number_field field.EepromSize 1 4096) p.eeprom_size
-      ∙ number_read field.EepromSize 1 4096 part.eeprom_size p.is_part.eeprom_some p.is_part.eeprom_most;
-  eeprom_page_ok = ap (page_field field.EepromPage 1) p.eeprom_page
-      ∙ page_read field.EepromPage 1 part.eeprom_page p.is_part.eeprom_page p.is_part.eeprom_page
-      p.is_part.eeprom_fits;
-  bit_ok = ap (number_field field.EesaveBit 0 7) p.eesave_bit
-      ∙ number_read field.EesaveBit 0 7 part.eesave_bit (omega arith) (omega (arith, p.is_part.eesave_bit));
-  flash_fits = p.is_part.flash_pages;
-  eeprom_fits = p.is_part.eeprom_pages;
-})
+part_read key fields part p =
+    search (
+      rules,
+      all_made,
+      id_read,
+      signature_read p.signature.0 part.signature p.signature.2,
+      number_read
+          field.FlashSize 2 262144 part.flash_size p.is_part.flash_some p.is_part.flash_most,
+      page_read field.FlashPage
+          2 part.flash_page (omega (arith, p.is_part.flash_page)) p.is_part.flash_page p.is_part.flash_fits,
+      number_read field.EepromSize 1 4096 part.eeprom_size p.is_part.eeprom_some p.is_part.eeprom_most,
+      page_read
+          field.EepromPage 1 part.eeprom_page p.is_part.eeprom_page p.is_part.eeprom_page p.is_part.eeprom_fits,
+      number_read field.EesaveBit 0 7 part.eesave_bit (omega arith) (omega (arith, p.is_part.eesave_bit)),
+    )
 
 all_read : (tables : Members) (parts : List Part) → ArePartsIn tables parts → parts_in tables ≡ Ok parts
 all_read no_members [] are = refl

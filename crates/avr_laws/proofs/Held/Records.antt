@@ -5,35 +5,31 @@ use Rattle.std.proofs.lemmas.List.Sums.{fold-append, sum_by-append}
 use Rattle.std.specs.Char.{is_ascii_digit}
 use Rattle.std.specs.List.{list_all}
 use Rattle.std.specs.Option.{option_or}
-use Rattle.std.specs.Prelude.{map, length, not, nat_lt, flat_map, option_map, sum, take, ◌==◌, ◌-◌, ◌||◌, ◌&&◌, if◌then◌else◌}
+use Rattle.std.specs.Prelude.{map, length, not, nat_lt, flat_map, option_map, sum, ◌==◌, ◌||◌, ◌&&◌, if◌then◌else◌}
 use Rattle.hex.specs.Hex.{decode_of}
 use Rattle.hex.specs.declared.error.FromHexError.{FromHexError}
 use Rattle.avr_image.specs.Image.{image_of_pairs}
-use Rattle.avr_records.specs.Lines.{lines, trimmed_line}
-use Rattle.avr_records.specs.Record.{RecordFields, ◌and_then◌, bytes_of_digits, longest}
+use Rattle.avr_records.specs.Lines.{lines}
+use Rattle.avr_records.specs.Record.{RecordFields, ◌and_then◌, bytes_of_digits}
 use Rattle.avr_records.specs.Meaning.{Meaning, Nothing, Data, Rebase, Counted, End}
-use Rattle.avr_records.specs.Ihex.{ihex_from_fields, typed_ihex}
+use Rattle.avr_records.specs.Ihex.{ihex_from_fields}
 use Rattle.avr_records.specs.Srec.{srec_from_fields, typed_srec}
 use Rattle.avr_records.specs.Reading.{LineResult, line_result, trimmed_line_result, record_meaning, is_data_record, up_to_end, with_lines_before, base_after, places, bytes_of_line, first_outside, first_fault, image_in_text, file_ending, ok_unless, next_base}
-use Rattle.avr_laws.specs.HeldImage.{ihex_meaning, ihex_line, srec_meaning, srec_line, trimmed_line_meaning, line_meaning, placed_bytes, HoldsRecords}
+use Rattle.avr_laws.specs.HeldImage.{ihex_line, srec_meaning, srec_line, trimmed_line_meaning, line_meaning, placed_bytes, HoldsRecords}
 use Rattle.avr_laws.proofs.Held.Sized.{decoded_digits}
 use Rattle.avr_records.specs.declared.kind.Kind.{Kind}
 use Rattle.avr_records.specs.declared.kind.Kind.TheVariants.{Ihex, Srec}
 use Rattle.avr_records.specs.declared.kind.Ending.{Ending}
 use Rattle.avr_records.specs.declared.kind.AddressBase.{AddressBase}
 use Rattle.avr_records.specs.declared.fault.LineFault.{LineFault}
-use Rattle.avr_records.specs.declared.fault.LineFault.TheVariants.{Mark, Length, Sum, Count, TooLong}
+use Rattle.avr_records.specs.declared.fault.LineFault.TheVariants.{Mark, Length, Sum, Count}
 use Rattle.avr_records.specs.declared.fault.RecordFault.{RecordFault}
 
 -- ---- a line
 
-ihex_typed : (type offset : ℕ) (bytes : List ℕ) (m : Meaning)
-    → record_meaning Ihex (typed_ihex type offset bytes) ≡ Ok m → ihex_meaning type offset bytes ≡ Some m
-ihex_typed type offset bytes m is = search (rules, nat_tests)
-
 ihex_fields : (bytes : List ℕ) (m : Meaning) → record_meaning Ihex (ihex_from_fields bytes) ≡ Ok m
     → ihex_line (Ok bytes) ≡ Some m
-ihex_fields bytes m is = search (rules, nat_tests, ihex_typed)
+ihex_fields bytes m is = search (rules, nat_tests, nat_tests)
 
 srec_typed : (digit : ℕ) (bytes : List ℕ) (m : Meaning) → record_meaning Srec (typed_srec digit bytes) ≡ Ok m
     → srec_meaning digit bytes ≡ Some m
@@ -42,18 +38,12 @@ srec_typed digit bytes m is = search (rules, nat_tests)
 by_tests : (none sized summed : Bool) (r : Result RecordFields LineFault) (o : Option Meaning) (m : Meaning)
     → record_meaning Srec (if none || not sized then Err Length else if not summed then Err Sum else r) ≡ Ok m
     → (record_meaning Srec r ≡ Ok m → o ≡ Some m) → (if sized && summed then o else None) ≡ Some m
-by_tests true sized summed r o m is go_on = absurd (cc is)
-by_tests false false summed r o m is go_on = absurd (cc is)
-by_tests false true false r o m is go_on = absurd (cc is)
-by_tests false true true r o m is go_on = go_on is
+by_tests none sized summed r o m is go_on = grind (arith)
 
 srec_fields : (digit : ℕ) (bytes : List ℕ) (m : Meaning) → record_meaning Srec (srec_from_fields digit bytes) ≡ Ok m
     → srec_line digit (Ok bytes) ≡ Some m
 srec_fields digit [] m is = absurd (cc is)
-srec_fields digit (count ∷ more) m is =
-    by_tests (count == 0) (length more == count) (sum (count ∷ more) % 256 == 255)
-    (typed_srec digit (take (count - 1) more)) (srec_meaning digit (take (count - 1) more)) m is
-    (srec_typed digit (take (count - 1) more) m)
+srec_fields digit (count ∷ more) m is = search (rules, by_tests, srec_typed)
 
 decoded : (digits bytes : List ℕ) → bytes_of_digits digits ≡ Ok bytes → decode_of digits ≡ Ok bytes
 decoded digits bytes is = search rules
@@ -67,16 +57,12 @@ from_bytes kind (Err fault) f m is = absurd (cc is)
 ihex_digits : (digits : List ℕ) (m : Meaning)
     → record_meaning Ihex (bytes_of_digits digits and_then ihex_from_fields) ≡ Ok m
     → ihex_line (decode_of digits) ≡ Some m
-ihex_digits digits m is =
-    let from = from_bytes Ihex (bytes_of_digits digits) ihex_from_fields m is in
-    ap ihex_line (decoded digits from.0 from.1.0) ∙ ihex_fields from.0 m from.1.1
+ihex_digits digits m is = search (rules, from_bytes, decoded, ihex_fields)
 
 srec_digits : (digit : ℕ) (digits : List ℕ) (m : Meaning)
     → record_meaning Srec (bytes_of_digits digits and_then srec_from_fields digit) ≡ Ok m
     → srec_line digit (decode_of digits) ≡ Some m
-srec_digits digit digits m is =
-    let from = from_bytes Srec (bytes_of_digits digits) (srec_from_fields digit) m is in
-    ap (srec_line digit) (decoded digits from.0 from.1.0) ∙ srec_fields digit from.0 m from.1.1
+srec_digits digit digits m is = search (rules, from_bytes, decoded, srec_fields)
 
 trimmed_meant : (kind : Kind) (line : List ℕ) (m : Meaning) → trimmed_line_result kind line ≡ Ok m
     → trimmed_line_meaning kind line ≡ Some m
@@ -136,9 +122,7 @@ record ArePlaced (size : ℕ) (before rs : List LineResult) (os : List (Option M
 
 under : (base new : AddressBase) (count next : ℕ) (os : List (Option Meaning)) (out : Option (List (ℕ × ℕ)))
     → base ≡ new → count ≡ next → placed_bytes base count os ≡ out → placed_bytes new next os ≡ out
-under base new count next os out same equal is =
-    ap (λ (b : AddressBase). placed_bytes b next os) (sym same)
-    ∙ (ap (λ (c : ℕ). placed_bytes base c os) (sym equal) ∙ is)
+under base new count next os out same equal is = search rules
 
 module _ (size : ℕ) (before rs : List LineResult) (os : List (Option Meaning))
     (rest : (more : List LineResult) → AreFine size more rs → ArePlaced size more rs os) where
@@ -148,10 +132,7 @@ module _ (size : ℕ) (before rs : List LineResult) (os : List (Option Meaning))
   next_are : (r : LineResult) → ArePlaced size (with r) rs os
       → placed_bytes (next_base (base_after before) r) (if is_data_record r then count_by is_data_record before + 1
       else count_by is_data_record before) os ≡ Some (bytes_from (with r) rs)
-  next_are r next =
-      under (base_after (with r)) (next_base (base_after before) r) (count_by is_data_record (with r))
-      (if is_data_record r then count_by is_data_record before + 1 else count_by is_data_record before) os
-      (Some (bytes_from (with r) rs)) (base_next before r) (count_next before r) next.are
+  next_are r next = search (rules, under, base_next, count_next)
 
   step : (m : Meaning) → AreFine size before (Ok m ∷ rs) → ArePlaced size before (Ok m ∷ rs) (Some m ∷ os)
   step Nothing fine =
@@ -166,8 +147,7 @@ module _ (size : ℕ) (before rs : List LineResult) (os : List (Option Meaning))
       let these = places (base_after before) offset bytes in
       record {
         are = ap (option_map (λ (later : List (ℕ × ℕ)). these ++ later)) (next_are (Ok (Data offset bytes)) next);
-        are_inside = both_inside size these (bytes_from (with (Ok (Data offset bytes))) rs)
-            (inside size these (map_none _ _ (map_none _ _ first.0))) next.are_inside;
+        are_inside = search (rules, both_inside, inside, map_none);
       }
   step (Counted n) fine =
       let first = or_none _ _ fine in
@@ -179,18 +159,13 @@ module _ (size : ℕ) (before rs : List LineResult) (os : List (Option Meaning))
   line_step : (r : LineResult) (o : Option Meaning) → ((m : Meaning) → r ≡ Ok m → o ≡ Some m)
       → AreFine size before (r ∷ rs) → ArePlaced size before (r ∷ rs) (o ∷ os)
   line_step (Err fault) o meant fine = absurd (cc fine)
-  line_step (Ok m) o meant fine =
-      subst (λ (first : Option Meaning). ArePlaced size before (Ok m ∷ rs) (first ∷ os)) (sym (meant m refl))
-      (step m fine)
+  line_step (Ok m) o meant fine = search (rules, step m fine)
 
 lines_placed : (kind : Kind) (size : ℕ) (lines : List (List ℕ)) (before : List LineResult)
     → AreFine size before (map (line_result kind) lines)
     → ArePlaced size before (map (line_result kind) lines) (map (line_meaning kind) lines)
 lines_placed kind size [] before fine = record { are = refl; are_inside = refl }
-lines_placed kind size (line ∷ lines) before fine =
-    line_step size before (map (line_result kind) lines) (map (line_meaning kind) lines)
-    (lines_placed kind size lines) (line_result kind line) (line_meaning kind line) (line_meant kind line)
-    fine
+lines_placed kind size (line ∷ lines) before fine = search (rules, line_step, lines_placed kind size lines, line_meant)
 
 unless_ok : {A : Type 0} (o : Option RecordFault) (good made : A) → ok_unless o good ≡ Ok made
     → (o ≡ None) × (good ≡ made)
@@ -208,21 +183,13 @@ held_records kind text size image ending is =
 
 -- ---- and conversely
 
-ihex_untyped : (type offset : ℕ) (bytes : List ℕ) (m : Meaning) → ihex_meaning type offset bytes ≡ Some m
-    → record_meaning Ihex (typed_ihex type offset bytes) ≡ Ok m
-ihex_untyped type offset bytes m is = search (rules, nat_tests)
-
 ihex_read : (bytes : List ℕ) (m : Meaning) → ihex_line (Ok bytes) ≡ Some m
     → record_meaning Ihex (ihex_from_fields bytes) ≡ Ok m
-ihex_read bytes m is = search (rules, nat_tests, ihex_untyped)
+ihex_read bytes m is = search (rules, nat_tests, nat_tests)
 
 srec_untyped : (digit : ℕ) (bytes : List ℕ) (m : Meaning) → srec_meaning digit bytes ≡ Some m
     → record_meaning Srec (typed_srec digit bytes) ≡ Ok m
 srec_untyped digit bytes m is = search (rules, nat_tests)
-
-srec_digit : (digit : ℕ) (bytes : List ℕ) (m : Meaning) → srec_meaning digit bytes ≡ Some m
-    → is_ascii_digit digit ≡ true
-srec_digit digit bytes m is = search (rules, nat_tests)
 
 abbrev ok_meaning : Option Meaning → LineResult
 ok_meaning (Some m) = Ok m
@@ -238,42 +205,31 @@ untested : (none sized summed : Bool) (r : Result RecordFields LineFault) (o : O
     → (if sized && summed then o else None) ≡ Some m → ((sized && summed) ≡ true → none ≡ false)
     → (o ≡ Some m → record_meaning Srec r ≡ Ok m)
     → record_meaning Srec (if none || not sized then Err Length else if not summed then Err Sum else r) ≡ Ok m
-untested none false summed r o m is some go_on = absurd (cc is)
-untested none true false r o m is some go_on = absurd (cc is)
-untested none true true r o m is some go_on = rw (some refl) (go_on is)
+untested none sized summed r o m is some go_on = grind (arith)
 
 srec_read : (digit : ℕ) (bytes : List ℕ) (m : Meaning) → srec_line digit (Ok bytes) ≡ Some m
     → record_meaning Srec (srec_from_fields digit bytes) ≡ Ok m
 srec_read digit [] m is = absurd (cc is)
-srec_read digit (count ∷ more) m is =
-    untested (count == 0) (length more == count) (sum (count ∷ more) % 256 == 255)
-    (typed_srec digit (take (count - 1) more)) (srec_meaning digit (take (count - 1) more)) m is
-    (srec_unsized count more) (srec_untyped digit (take (count - 1) more) m)
+srec_read digit (count ∷ more) m is = search (rules, untested, srec_unsized, srec_untyped)
 
 srec_has_digit : (digit : ℕ) (bytes : List ℕ) (m : Meaning) → srec_line digit (Ok bytes) ≡ Some m
     → is_ascii_digit digit ≡ true
 srec_has_digit digit [] m is = absurd (cc is)
-srec_has_digit digit (count ∷ more) m is = search (rules, nat_tests, srec_digit)
+srec_has_digit digit (count ∷ more) m is = search (rules, nat_tests, nat_tests)
 
 undecoded : (digits bytes : List ℕ) → decode_of digits ≡ Ok bytes → bytes_of_digits digits ≡ Ok bytes
 undecoded digits bytes is = search (rules, decoded_digits)
 
 ihex_undecoded : (digits : List ℕ) (r : Result (List ℕ) FromHexError) (m : Meaning) → decode_of digits ≡ r
     → ihex_line r ≡ Some m → record_meaning Ihex (bytes_of_digits digits and_then ihex_from_fields) ≡ Ok m
-ihex_undecoded digits (Ok bytes) m same is =
-    ap (λ (r : Result (List ℕ) LineFault). record_meaning Ihex (r and_then ihex_from_fields))
-    (undecoded digits bytes same) ∙ ihex_read bytes m is
-ihex_undecoded digits (Err e) m same is = absurd (cc is)
+ihex_undecoded digits r m same is = grind (arith, undecoded, ihex_read)
 
 srec_undecoded : (digit : ℕ) (digits : List ℕ) (r : Result (List ℕ) FromHexError) (m : Meaning) → decode_of digits ≡ r
     → srec_line digit r ≡ Some m
     → (record_meaning Srec (bytes_of_digits digits and_then srec_from_fields digit) ≡ Ok m)
     × (is_ascii_digit digit ≡ true)
-srec_undecoded digit digits (Ok bytes) m same is = (
-  ap (λ (r : Result (List ℕ) LineFault). record_meaning Srec (r and_then srec_from_fields digit))
-      (undecoded digits bytes same) ∙ srec_read digit bytes m is,
-  srec_has_digit digit bytes m is,
-)
+srec_undecoded digit digits (Ok bytes) m same is =
+    search (rules, undecoded digits bytes same, srec_read digit bytes m is, srec_has_digit digit bytes m is)
 srec_undecoded digit digits (Err e) m same is = absurd (cc is)
 
 marked : {A : Type 0} (b : Bool) (o : Option A) (a : A) → (if b then o else None) ≡ Some a → (b ≡ true) × (o ≡ Some a)
@@ -284,9 +240,7 @@ trimmed_read : (kind : Kind) (line : List ℕ) (m : Meaning) → trimmed_line_me
     → trimmed_line_result kind line ≡ Ok m
 trimmed_read Ihex [] m is = ap ok_meaning is
 trimmed_read Srec [] m is = ap ok_meaning is
-trimmed_read Ihex (mark ∷ digits) m is =
-    let both = marked (mark == 58) (ihex_line (decode_of digits)) m is in
-    rw both.0 (ihex_undecoded digits (decode_of digits) m refl both.1)
+trimmed_read Ihex (mark ∷ digits) m is = search (rules, marked, ihex_undecoded)
 trimmed_read Srec (mark ∷ []) m is = absurd (cc is)
 trimmed_read Srec (mark ∷ digit ∷ digits) m is =
     let both = marked (mark == 83) (srec_line digit (decode_of digits)) m is in
@@ -300,12 +254,8 @@ long_or false o e r a is go_on = go_on is
 
 line_read : (kind : Kind) (line : List ℕ) (m : Meaning) → line_meaning kind line ≡ Some m
     → line_result kind line ≡ Ok m
-line_read Ihex line m is =
-    long_or (nat_lt longest (length line)) (trimmed_line_meaning Ihex (trimmed_line line)) TooLong
-    (trimmed_line_result Ihex (trimmed_line line)) m is (trimmed_read Ihex (trimmed_line line) m)
-line_read Srec line m is =
-    long_or (nat_lt longest (length line)) (trimmed_line_meaning Srec (trimmed_line line)) TooLong
-    (trimmed_line_result Srec (trimmed_line line)) m is (trimmed_read Srec (trimmed_line line) m)
+line_read Ihex line m is = search (rules, long_or, trimmed_read)
+line_read Srec line m is = search (rules, long_or, trimmed_read)
 
 none_outside : (size : ℕ) (placed : List (ℕ × ℕ))
     → list_all (λ (place : ℕ × ℕ). nat_lt place.0 size) placed ≡ true → first_outside size placed ≡ None
@@ -340,11 +290,7 @@ module _ (size : ℕ) (before rs : List LineResult) (os : List (Option Meaning))
   next_read : (r : LineResult) (placed : List (ℕ × ℕ))
       → placed_bytes (next_base (base_after before) r) (if is_data_record r then count_by is_data_record before + 1
       else count_by is_data_record before) os ≡ Some placed → Inside size placed → AreRead size (and_this r) rs placed
-  next_read r placed are within =
-      rest (and_this r) placed (under (next_base (base_after before) r) (base_after (and_this r))
-      (if is_data_record r then count_by is_data_record before + 1 else count_by is_data_record before)
-      (count_by is_data_record (and_this r)) os (Some placed) (sym (base_next before r)) (sym (count_next before r))
-      are) within
+  next_read r placed are within = search (rules, under, base_next, count_next)
 
   step_read : (m : Meaning) (placed : List (ℕ × ℕ))
       → placed_bytes (base_after before) (count_by is_data_record before) (Some m ∷ os) ≡ Some placed
@@ -384,8 +330,7 @@ lines_read : (kind : Kind) (size : ℕ) (lines : List (List ℕ)) (before : List
     → Inside size placed → AreRead size before (map (line_result kind) lines) placed
 lines_read kind size [] before placed are within = record { fine = refl; are = cc are }
 lines_read kind size (line ∷ lines) before placed are within =
-    meant_read size before (map (line_result kind) lines) (map (line_meaning kind) lines) (lines_read kind size lines)
-    (line_result kind line) (line_meaning kind line) placed (line_read kind line) are within
+    search (rules, meant_read, lines_read kind size lines, line_read)
 
 made_again : (size : ℕ) (made : List (Option ℕ)) (places placed : List (ℕ × ℕ)) (ending : Ending) → places ≡ placed
     → made ≡ image_of_pairs size placed
@@ -398,6 +343,4 @@ pub records_read : (kind : Kind) (text : List ℕ) (size : ℕ) (image : List (O
     → HoldsRecords kind text size image
     → image_in_text kind text size ≡ Ok (image, file_ending (map (line_result kind) (lines text)))
 records_read kind text size image (placed, are, within, is) =
-    let meant = map (line_result kind) (lines text) in
-    let read = lines_read kind size (lines text) [] placed are within in
-    rw read.fine (made_again size image (bytes_from [] meant) placed (file_ending meant) read.are is)
+    search (rules, lines_read kind size (lines text) [] placed are within, made_again)

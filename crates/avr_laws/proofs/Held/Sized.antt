@@ -1,5 +1,5 @@
 -- Bytes from digits in hexadecimal: half as many, and of digits alone.
-use Rattle.std.proofs.Common.{◌≡◌, ◌*◌, ◌+◌, ap, ℕ, true, List, [], ◌∷◌, length, refl, Option, Some, None, Result, Ok, Err, arith, rules}
+use Rattle.std.proofs.Common.{◌≡◌, ◌*◌, ◌+◌, ap, ℕ, true, List, [], ◌∷◌, length, refl, Option, Some, None, Result, Ok, arith, rules}
 use Rattle.std.specs.List.{list_all}
 use Rattle.std.proofs.lemmas.Bool.Decides.{nat_tests}
 use Rattle.hex.specs.Hex.{◌>>=◌, decode_of, decode_pairs, decode_sized, digit_or_error, hex_digit_value, is_hex_digit, pair_value, value_at}
@@ -14,10 +14,7 @@ record Begins (byte : Result ℕ FromHexError) (rest : Result (List ℕ) FromHex
 
 begins : (byte : Result ℕ FromHexError) (rest : Result (List ℕ) FromHexError) (bytes : List ℕ)
     → (byte >>= (λ first. rest >>= (λ later. Ok (first ∷ later)))) ≡ Ok bytes → Begins byte rest bytes
-begins (Ok first) (Ok later) bytes is =
-    record { first = first; later = later; first_is = refl; rest_is = refl; is = cc }
-begins (Ok first) (Err e) bytes is = absurd (cc is)
-begins (Err e) rest bytes is = absurd (cc is)
+begins byte rest bytes is = grind (arith)
 
 pairs_length : (i : ℕ) (text bytes : List ℕ) → decode_pairs i text ≡ Ok bytes → length text ≡ 2 * length bytes
 unfolding decode_pairs

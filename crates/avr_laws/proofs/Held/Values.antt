@@ -35,10 +35,7 @@ record Begins (first : Result ℕ ImageFault) (rest : Result (List ℕ) ImageFau
 
 begins : (first : Result ℕ ImageFault) (rest : Result (List ℕ) ImageFault) (bytes : List ℕ)
     → onto_ok first rest ≡ Ok bytes → Begins first rest bytes
-begins (Err fault) rest bytes is = absurd (cc is)
-begins (Ok byte) (Err fault) bytes is = absurd (cc is)
-begins (Ok byte) (Ok more) bytes is =
-    record { byte = byte; more = more; byte_is = refl; more_are = refl; is = cc is }
+begins first rest bytes is = grind (arith)
 
 tail_fits : (addr n size : ℕ) → addr < size → (0 < n → (addr + 1) + n ≤ size) → addr + suc n ≤ size
 tail_fits addr zero size one more = omega (arith, one)
@@ -53,8 +50,7 @@ all_fit size addr (text ∷ texts) bytes is =
     let first = one_fits size addr b.byte (value_of text) b.byte_is in
     let rest = all_fit size (addr + 1) texts b.more b.more_are in
     subst (AreFitting size addr (text ∷ texts)) b.is (record {
-      are = ap (λ (o : Option ℕ). o ∷ map value_of texts) first.is
-          ∙ ap (λ (os : List (Option ℕ)). Some b.byte ∷ os) rest.are;
+      are = search rules;
       are_bytes = search (rules, first.is_byte, rest.are_bytes);
       ends = search (rules, rest.ends);
       last = λ some. tail_fits addr (length b.more) size first.before rest.last;
@@ -68,9 +64,7 @@ record AreGiven (empty : Bool) (all : Result (List ℕ) ImageFault) (size : ℕ)
 
 given : (empty : Bool) (all : Result (List ℕ) ImageFault) (size : ℕ) (image : List (Option ℕ))
     → (if empty then Err (BadNumber 1) else image_of_bytes size all) ≡ Ok image → AreGiven empty all size image
-given true all size image is = absurd (cc is)
-given false (Ok bytes) size image is = record { bytes = bytes; some = refl; all_are = refl; is = cc is }
-given false (Err fault) size image is = absurd (cc is)
+given empty all size image is = grind (arith)
 
 pub held_values : (text : List ℕ) (size : ℕ) (image : List (Option ℕ)) → image_of_values text size ≡ Ok image
     → HoldsValues text size image
@@ -106,7 +100,4 @@ all_read size addr (text ∷ texts) (byte ∷ bytes) are are_bytes last =
 
 pub values_read : (text : List ℕ) (size : ℕ) (image : List (Option ℕ)) → HoldsValues text size image
     → image_of_values text size ≡ Ok image
-values_read text size image (bytes, are, are_bytes, some, last, is) =
-    let all = all_read size 0 (pieces text) bytes are are_bytes (omega (arith, last)) in
-    let same = ap length are in
-    search (rules, nat_tests, all, same, length-map)
+values_read text size image (bytes, are, are_bytes, some, last, is) = search (rules, all_read, nat_tests, length-map)

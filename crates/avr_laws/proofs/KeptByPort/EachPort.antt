@@ -16,7 +16,9 @@ use Rattle.avr_tool.specs.Sockets.{Peers}
 use Rattle.avr_tool.specs.declared.command_line.CommandLine.{Ghosts as CommandLine}
 use Rattle.stk_host.specs.Transcript.{LinkState, Transcript}
 use Rattle.avr_laws.proofs.KeptByPort.InFile.{file_kept, no_one}
+use Rattle.avr_laws.proofs.Asked.Settings.{serves_or_asks}
 use Rattle.avr_laws.specs.AskedPlan.{FileGave, IsAsked}
+use Rattle.avr_laws.specs.AskedSettings.{NamesPort}
 use Rattle.avr_laws.specs.KeptByPort.{IsKeptInFile, KeepsPlanAt, KeepsPlan, KeepsCommandLine}
 
 -- `run` with status 0 keeps so much of its plan
@@ -62,15 +64,19 @@ module _ (Kept : Plan → Transcript → Record → Record → Type 0)
   none_passed : (old new : Devices) → old.link.transcript ≡ [] → new.link ≡ old.link → new.link.transcript ≡ []
   none_passed old new silent same = ap (λ (link : LinkState). link.transcript) same ∙ silent
 
-  at_port : (peers : Peers) (port : Port) (s : Settings) (old new : Devices) → old.link.transcript ≡ []
-      → ActsAtPort peers port s old new 0
+  at_port : (peers : Peers) (text : Bytes) (port : Port) (s : Settings) (old new : Devices) → NamesPort text port
+      → old.link.transcript ≡ [] → ActsAtPort peers port s old new 0
       → KeepsPlanAt Kept peers.at_address port s new.link.transcript old.desk.kept new.desk.kept
-  at_port peers Stdio s old new silent acts = promised s old new 0 acts.0 refl silent
-  at_port peers (Emulated file) s old new silent acts =
+  at_port peers text Stdio s old new names silent acts = promised s old new 0 acts.0 refl silent
+  at_port peers text (Emulated file) s old new names silent acts =
       (none_passed old new silent acts.1, over_emulator s file old.desk new.desk acts.0)
-  at_port peers (Network address) s old new silent acts =
+  at_port peers text (Network address) s old new names silent acts =
       (none_passed old new silent acts.1, over_net peers s address old.desk new.desk acts.0)
-  at_port peers (Served port file) s old new silent acts = none_passed old new silent acts.1
+  at_port peers text (Served port file) s old new names silent acts = absurd names
+
+  served : (peers : Peers) (port file : Bytes) (s : Settings) (old new : Devices) → old.link.transcript ≡ []
+      → ActsAtPort peers (Served port file) s old new 0 → new.link.transcript ≡ []
+  served peers port file s old new silent acts = none_passed old new silent acts.1
 
   -- ---- the whole program
 
@@ -80,12 +86,19 @@ module _ (Kept : Plan → Transcript → Record → Record → Type 0)
   words_kept line peers old new status (inl (words, are, inl (inl took))) zero silent = (
     words,
     are,
-    λ takes. (
-      took.settings,
-      took.asked,
-      at_port peers took.settings.port took.settings old new silent
-          (subst (λ (k : ℕ). ActsAtPort peers took.settings.port took.settings old new k) zero took.runs),
-    ),
+    λ takes.
+        let s = took.settings in
+        let acts : ActsAtPort peers s.port s old new 0 =
+        subst (λ (k : ℕ). ActsAtPort peers s.port s old new k) zero took.runs in
+        elim (serves_or_asks words s took.asked) [
+          | inl (serves, (port, file, is)) ↦
+              inl (
+                serves,
+                served peers port file s old new silent
+                    (subst (λ (p : Port). ActsAtPort peers p s old new 0) is acts),
+              )
+          | inr asks ↦ inr (s, asks, at_port peers asks.port.0 s.port s old new asks.port.2 silent acts)
+        ],
   )
   words_kept line peers old new status (inl (words, are, inl (inr refuses))) zero silent =
       absurd (no_one (sym zero ∙ refuses.status_is))

@@ -17,9 +17,6 @@ use Rattle.avr_laws.proofs.KnownFiles.RunsInMemory.{left_by}
 use Rattle.avr_laws.specs.InMemory.{RunOutcome, run_outcome, run_over_files, LeavesOutcome}
 use Rattle.avr_laws.specs.Worked.{absent_outcome, absent_settings, worked_frames, worked_lines, no_stock, worked_replies, worked_outcome, worked_settings}
 
-some_is : (a b : RunOutcome) → ◌≡◌ {A = Option RunOutcome} (Some a) (Some b) → a ≡ b
-some_is a b e = cc
-
 -- as many ends as either requests, in any order
 ends_either : (tape : Tape) (a b : ℕ) → (tape ++ replicate a End) ++ replicate b End
     ≡ (tape ++ replicate b End) ++ replicate a End

@@ -1,5 +1,5 @@
 -- A run over a desk in memory and a tape is the function of its files and that tape.
-use Rattle.std.proofs.Common.{◌≡◌, ◌∙◌, ◌⊎◌, inl, inr, ℕ, sym, ap, subst, refl, List, [], ◌∷◌, ◌++◌, append_assoc, append-nil, map, Option, rules}
+use Rattle.std.proofs.Common.{◌≡◌, ◌∙◌, ◌⊎◌, inl, inr, ℕ, sym, ap, refl, List, [], ◌∷◌, ◌++◌, append_assoc, append-nil, map, Option, rules}
 use Rattle.std.proofs.lemmas.List.{map-append}
 use Rattle.ghosts.specs.Preserves.{Preserves}
 use Rattle.avr_plan.specs.declared.settings.Settings.{Settings}
@@ -84,14 +84,11 @@ abbrev left_after_all : List OutputEvent → Left → Left
 left_after_all [] v = v
 left_after_all (event ∷ output_events) v = left_after_all output_events (left_after event v)
 
-left_on : (event : OutputEvent) (r : Record) → left_in (after event r) ≡ left_after event (left_in r)
-left_on event r = search (rules, absent_used, files_used)
-
 left_all : (output_events : List OutputEvent) (r : Record) → left_in (after_events output_events r)
     ≡ left_after_all output_events (left_in r)
 left_all [] r = refl
 left_all (event ∷ output_events) r = left_all output_events (after event r) ∙ ap (left_after_all output_events)
-    (left_on event r)
+    (search (rules, absent_used, files_used))
 
 -- reading and reporting make no file
 abbrev joined : List Bytes → Bytes
@@ -107,8 +104,7 @@ only_reported : (output_events : List OutputEvent) (messages output : Bytes) →
 only_reported [] messages output reads = ap (λ (m : Bytes). reported_left m output) (sym (append-nil messages))
 only_reported (Opens opening ∷ output_events) messages output reads = only_reported output_events messages output reads
 only_reported (PrintsLine bytes ∷ output_events) messages output reads =
-    only_reported output_events (messages ++ bytes) output reads ∙ ap (λ (m : Bytes). reported_left m output)
-    (append_assoc messages bytes (joined (lines_in output_events)))
+    search (rules, only_reported output_events (messages ++ bytes) output reads, append_assoc)
 only_reported (event ∷ output_events) messages output reads = absurd reads
 
 -- so what planning leaves is the lines that it prints
@@ -117,11 +113,6 @@ planning_left : (output_events : List OutputEvent) → OnlyReadsAndPrints output
 planning_left output_events reads = left_all output_events nothing_kept ∙ only_reported output_events [] [] reads
 
 -- ---- planning
-
--- so were the openings before a refusal
-seen_before : (stock : Stock) (output_events : List OutputEvent) (stage_outcome : StageOutcome Plan)
-    → AreTrueOpenings stock (events_with_refusal output_events stage_outcome) → AreTrueOpenings stock output_events
-seen_before stock output_events stage_outcome seen = search (rules, seen_first)
 
 module _ (settings : Settings) (stock : Stock) (old m : DeskState) (stage_outcome : StageOutcome Plan)
     (unused : old.kept ≡ nothing_kept) (are : OpeningsAreTrue stock [] (all_uses m.kept))
@@ -149,28 +140,21 @@ module _ (settings : Settings) (stock : Stock) (old m : DeskState) (stage_outcom
   opened = ap all_openings kept_is ∙ openings_shown notice nothing_kept
 
   pub seen : AreTrueOpenings stock notice
-  seen = seen_outputs stock notice (subst (AreOpened stock) (openings_used m.kept ∙ opened)
-      (opened_uses stock (all_uses m.kept) (files_used m.kept ∙ no_files) are))
+  seen = search (rules, seen_outputs, openings_used, opened, opened_uses, files_used, no_files)
 
   both : ((planned_from_files settings stock).stage_outcome ≡ (planned settings (went.passed ++ [])).stage_outcome)
       × (lines_in (all_events_of (planned_from_files settings stock))
       ≡ lines_in (all_events_of (planned settings (went.passed ++ []))))
-  both = search (rules, seen_is_planned, seen_before, seen)
+  both = search (rules, seen_is_planned, seen_first, seen)
 
   same_result : (planned_from_files settings stock).stage_outcome ≡ stage_outcome
   same_result = both.0 ∙ ap (λ (p : StageResult Plan). p.stage_outcome) planned_is
 
   same_left : left_in (after_events (events_with_refusal (planned_from_files settings stock).output_events
       stage_outcome) nothing_kept) ≡ left_in m.kept
-  same_left =
-      let whole = all_events_of (planned_from_files settings stock) in
-      search (rules, both, same_result, planning_left, only_reads, only_read, kept_is)
+  same_left = search (rules, both, same_result, planning_left, only_reads, only_read, kept_is)
 
 -- ---- the run
-
-abbrev outcome_of : ℕ → Bytes → Left → RunOutcome
-outcome_of status sent v =
-    record { status = status; sent = sent; messages = v.messages; output = v.output; files = all_left v }
 
 -- what a run with these events and this status leaves
 abbrev pub left_by : List (Event OutputEvent) → ℕ → RunOutcome
@@ -202,9 +186,7 @@ module _ (settings : Settings) (old new : MemDeskState) (before after : LinkStat
       let p = planned_from_files settings stock in
       let verdict : ◌≡◌ {A = StageOutcome Plan} (Produced plan) NotReadToEnd → ⊥ = λ e. cc in
       let are = all_true stock between holds in
-      let stage_outcome : p.stage_outcome ≡ Produced plan =
-      same_result settings stock (memory_state old) (memory_state between) (Produced plan) unused.desk_is are verdict
-      went in
+      let stage_outcome : p.stage_outcome ≡ Produced plan = search (rules, same_result) in
       let alike = same_left settings stock (memory_state old) (memory_state between) (Produced plan) unused.desk_is are
       verdict went in
       let during : after.transcript ≡ ran.during =
@@ -228,9 +210,7 @@ module _ (settings : Settings) (old new : MemDeskState) (before after : LinkStat
       let alike = same_left settings stock (memory_state old) (memory_state new) (Refused line) unused.desk_is are
       verdict went in
       let events : map Emitted (p.output_events ++ PrintsLine line ∷ []) ++ [] ≡ map Emitted p.output_events
-      ++ Emitted (PrintsLine line) ∷ [] =
-      append-nil (map Emitted (p.output_events ++ PrintsLine line ∷ [])) ∙ map-append Emitted p.output_events
-      (PrintsLine line ∷ []) in
+      ++ Emitted (PrintsLine line) ∷ [] = search (rules, append-nil, map, map-append) in
       let left : left_by (map Emitted p.output_events ++ Emitted (PrintsLine line) ∷ []) 1
       ≡ outcome_shown 1 (sent after.transcript) new.kept =
       ap (λ (es : List (Event OutputEvent)). left_by es 1) (sym events)
@@ -262,12 +242,6 @@ module _ (settings : Settings) (old new : MemDeskState) (before after : LinkStat
 -- ---- over a tape, and over streams
 
 module _ (settings : Settings) (old new : MemDeskState) (status : ℕ) where
-  over_tape : (before after : TapeState) → before.transcript ≡ [] → ConsumesTape before after
-      → RunLeaves settings (stock_of old) (heard after.transcript) (outcome_shown status (sent after.transcript)
-      new.kept) → LeavesOutcome settings (stock_of old) before.left (outcome_shown status (sent after.transcript)
-      new.kept)
-  over_tape before after silent of_tape left = search (rules, append_assoc)
-
   pub run_is_over_tape : (before after : TapeState) (between : MemDeskState)
       (unused : AreUnused old (tape_state before)) → ConsumesTape before after → Preserves HoldsTrue old between
       → Preserves HoldsTrue old new
@@ -278,21 +252,22 @@ module _ (settings : Settings) (old new : MemDeskState) (status : ℕ) where
       (devices (tape_state after) (memory_state new)) status
   run_is_over_tape before after between unused of_tape first all runs =
       elim (run_is settings old new (tape_state before) (tape_state after) status unused between first all runs) [
-        | inl left ↦ inl (over_tape before after (ap (λ (l : LinkState). l.transcript) unused.link_is) of_tape left.is)
+        | inl left ↦ inl (search (rules, append_assoc))
         | inr stopped ↦ inr stopped
       ]
 
-  pub run_is_over_streams : {R W : Type 0} (remaining : R → Option Bytes) (contents : W → Option Bytes)
-      (before after : StreamState R W) (between : MemDeskState)
-      (unused : AreUnused old (stream_state before)) → TranscriptIsTrueSince remaining contents before after
+  pub run_is_over_streams : {R W : Type 0} (remaining : R → Option Bytes) (has_timed_out : R → Type 0)
+      (contents : W → Option Bytes) (before after : StreamState R W) (between : MemDeskState)
+      (unused : AreUnused old (stream_state before))
+      → TranscriptIsTrueSince remaining has_timed_out contents before after
       → Preserves HoldsTrue old between → Preserves HoldsTrue old new
       → RunsSettings settings (devices (stream_state before) (memory_state old)) (memory_state between)
       (devices (stream_state after) (memory_state new)) status
-      → LeavesOverStreams remaining contents settings (stock_of old) before after
+      → LeavesOverStreams remaining has_timed_out contents settings (stock_of old) before after
       (outcome_shown status (sent after.transcript) new.kept)
       ⊎ IsStopped settings (devices (stream_state before) (memory_state old))
       (devices (stream_state after) (memory_state new)) status
-  run_is_over_streams remaining contents before after between unused true_since first all runs =
+  run_is_over_streams remaining has_timed_out contents before after between unused true_since first all runs =
       elim (run_is settings old new (stream_state before) (stream_state after) status unused between first all runs) [
         | inl left ↦ inl (search rules)
         | inr stopped ↦ inr stopped

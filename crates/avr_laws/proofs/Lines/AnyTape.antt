@@ -71,8 +71,7 @@ module _ {P : Type 0} (m : Device P) where
     on_time = after_execution execution (m.after bytes p) p m.reset
 
     arrives : on_time ≡ after_execution execution (after_frame m (frame n bytes) p) p m.reset
-    arrives = ap (λ q. after_execution execution q p m.reset)
-        (sym (search (rules, cond-true, frame_is_good, body_of_frame)))
+    arrives = search (rules, cond-true, frame_is_good, body_of_frame)
 
     abbrev on_asking : Option (Reading × Tape) → Played E R
     on_asking o = prepend_events (Frame (frame n bytes)
@@ -92,17 +91,13 @@ module _ {P : Type 0} (m : Device P) where
       fs = frames_in (played_along m goes.reply_count (go_on (reading_of_exchange one_exchange (m.reply bytes p)))
           (next n) (after_exchange one_exchange (m.after bytes p) p m.reset) later goes.left).events
 
-      stands : (k : ℕ) → k ≤ suc (length fs) → (state_after m k (Ask bytes go_on) p (one_exchange ∷ later)).programmer
-          ≡ after_sent_frames m (take k (frame n bytes ∷ fs)) executions p
-      stands k le = search (rules, arrives)
-
       by_exchange : ReadAs m (Ask bytes go_on) n tape p executions (one_exchange ∷ later)
       by_exchange = record {
         reply_count = suc goes.reply_count;
         left = goes.left;
         play = ap on_asking read ∙ ap (prepend_events (Frame (frame n bytes) ∷ [])) goes.play;
         all = λ r seq rest o. ap suc (goes.all r seq rest o);
-        programmer = stands;
+        programmer = search (rules, arrives);
       }
 
     asked : (o : Option (Reading × Tape)) → answer n tape ≡ o
@@ -196,14 +191,18 @@ module _ {P : Type 0} (m : Device P) where
   let_through_after [] [] p = refl
   let_through_after [] (piece ∷ sent) p = let_through_after [] sent p
   let_through_after (first ∷ more) [] p = refl
-  let_through_after (first ∷ more) (piece ∷ sent) p = getting_after first piece (received_frames more sent) p
-      ∙ let_through_after more sent (after_execution first (after_frame m piece p) p m.reset)
+  let_through_after (first ∷ more) (piece ∷ sent) p = search (
+    rules,
+    getting_after,
+    let_through_after more sent
+        (after_execution first (after_frame m piece p) p m.reset),
+  )
 
   good_later : (got : List ℕ) (later : List (List ℕ)) (p : P)
       → after_received_bytes m got later p ≡ after_got (good_frames got) (map good_frames later) p
   good_later got [] p = good_alone (frames got) p
-  good_later got (first ∷ later) p = good_later first later (m.reset (after_frames m (frames got) p))
-      ∙ ap (λ (q : P). after_got (good_frames first) (map good_frames later) (m.reset q)) (good_alone (frames got) p)
+  good_later got (first ∷ later) p =
+      search (rules, good_later first later (m.reset (after_frames m (frames got) p)), good_alone)
 
   pub through_after : (got : List ℕ) (later : List (List ℕ)) (sent : List (List ℕ)) (executions : List Execution)
       (p : P) → ReceivedSentFrames got later sent executions → after_received_bytes m got later p

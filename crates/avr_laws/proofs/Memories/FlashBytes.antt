@@ -1,26 +1,19 @@
 -- A byte of flash, after items.
-use Rattle.std.proofs.Common.{◌≡◌, ◌⊎◌, ◌<◌, ℕ, zero, suc, List, [], ◌∷◌, length, get_or, take, bit_and, refl, sym, ap, ◌∙◌, subst, inl, inr, Bool, true, if◌then◌else◌, Some, rules}
+use Rattle.std.proofs.Common.{◌≡◌, ◌⊎◌, ◌<◌, ℕ, zero, suc, List, [], ◌∷◌, length, get_or, take, bit_and, refl, sym, ap, ◌∙◌, inl, inr, Bool, true, Some, rules, if◌then◌else◌}
 use Rattle.std.proofs.lemmas.Bool.{true≢false}
 use Rattle.std.proofs.lemmas.List.{length-replicate, get_or-replicate}
 use Rattle.avr_image.specs.Image.{byte_at}
 use Rattle.avr_part.specs.Part.{Part}
 use Rattle.avr_part.specs.declared.part.Mem.TheVariants.{Flash}
-use Rattle.avr_plan.specs.Plan.{Plan}
 use Rattle.stk_emu.specs.Effect.{Image, Item, Erase, Write, Memories, and_in, are_locked, effect, effects}
 use Rattle.stk_emu.proofs.Memories.LaidImages.{length-and_in, get_and_in}
-use Rattle.avr_tool.specs.Items.{items, has_erase}
-use Rattle.avr_tool.specs.Outcome.{write_operations, HasFirstOperations, IsDone}
+use Rattle.avr_tool.specs.Items.{has_erase}
 use Rattle.avr_laws.specs.WrittenBytes.{IsWrittenAt, AreWrittenAt, and_all, IsMadeByImages}
 
 are_later : (item : Item) (xs : List Item) (addr : ℕ) (bytes : List ℕ) → AreWrittenAt xs addr bytes
     → AreWrittenAt (item ∷ xs) addr bytes
 are_later item xs addr [] are = tt
 are_later item xs addr (b ∷ bytes) are = (inr are.0, are_later item xs addr bytes are.1)
-
--- an erase
-erased : (xs : List Item) (addr before mid after : ℕ) → mid ≡ 255 → IsMadeByImages xs addr mid after
-    → IsMadeByImages (Erase ∷ xs) addr before after
-erased xs addr before mid after e m = search (rules, are_later)
 
 -- a write whose byte is ANDed to the one before
 anded : (image : Image) (xs : List Item) (addr before byte mid after : ℕ) → byte_at image addr ≡ Some byte
@@ -48,10 +41,6 @@ abbrev Writes : Image → ℕ → ℕ → ℕ → Type 0
 Writes image addr before mid = (mid ≡ before)
     ⊎ ((byte : ℕ) × (byte_at image addr ≡ Some byte) × (mid ≡ bit_and before byte))
 
-writes : (image : Image) (xs : List ℕ) (addr : ℕ) (lock : Bool) → addr < length xs
-    → Writes image addr (get_or xs addr 0) (get_or (if lock then xs else and_in image xs) addr 0)
-writes image xs addr lock l = search (rules, get_and_in)
-
 still_inside : (image : Image) (xs : List ℕ) (addr : ℕ) (lock : Bool) → addr < length xs
     → addr < length (if lock then xs else and_in image xs)
 still_inside image xs addr lock l = search (rules, length-and_in)
@@ -70,7 +59,7 @@ module _ (part : Part) (addr : ℕ) where
   made (Erase ∷ xs) m l =
       search (
         rules,
-        erased,
+        are_later,
         get_or-replicate,
         length-replicate,
         made xs (effect part Erase m) (search (rules, length-replicate)),
@@ -79,7 +68,7 @@ module _ (part : Part) (addr : ℕ) where
       search (
         rules,
         joined,
-        writes,
+        get_and_in,
         still_inside,
         made xs (effect part (Write Flash image) m) (still_inside image m.flash addr (are_locked m) l),
       )
@@ -92,34 +81,13 @@ there_of (suc k) [] addr byte is = absurd is
 there_of (suc k) (x ∷ xs) addr byte (inl is) = inl is
 there_of (suc k) (x ∷ xs) addr byte (inr is) = inr (there_of k xs addr byte is)
 
-all_there : (k : ℕ) (xs : List Item) (addr : ℕ) (bytes : List ℕ) → AreWrittenAt (take k xs) addr bytes
+pub all_there : (k : ℕ) (xs : List Item) (addr : ℕ) (bytes : List ℕ) → AreWrittenAt (take k xs) addr bytes
     → AreWrittenAt xs addr bytes
 all_there k xs addr [] are = tt
 all_there k xs addr (b ∷ bytes) are = (there_of k xs addr b are.0, all_there k xs addr bytes are.1)
 
-erase_of : (k : ℕ) (xs : List Item) → has_erase (take k xs) ≡ true → has_erase xs ≡ true
+pub erase_of : (k : ℕ) (xs : List Item) → has_erase (take k xs) ≡ true → has_erase xs ≡ true
 erase_of zero xs has = absurd (true≢false (sym has))
 erase_of (suc k) [] has = has
 erase_of (suc k) (Erase ∷ xs) has = refl
 erase_of (suc k) (Write mem image ∷ xs) has = erase_of k xs has
-
-pub done_made : (plan : Plan) (before after : Memories) (addr : ℕ) → addr < length before.flash
-    → IsDone plan before after
-    → IsMadeByImages (items plan) addr (get_or before.flash addr 0) (get_or after.flash addr 0)
-done_made plan before after addr l done = search (rules, made)
-
-pub touched_made : (plan : Plan) (before after : Memories) (addr : ℕ) → addr < length before.flash
-    → HasFirstOperations plan before after
-    → IsMadeByImages (write_operations plan) addr (get_or before.flash addr 0) (get_or after.flash addr 0)
-touched_made plan before after addr l touched =
-    let m : IsMadeByImages (take touched.count (write_operations plan)) addr (get_or before.flash addr 0)
-    (get_or after.flash addr 0) =
-    subst (λ (n : Memories). IsMadeByImages (take touched.count (write_operations plan)) addr
-    (get_or before.flash addr 0) (get_or n.flash addr 0)) (sym touched.memories)
-    (made plan.part addr (take touched.count (write_operations plan)) before l) in
-    let first_is : (m.first ≡ get_or before.flash addr 0)
-    ⊎ ((m.first ≡ 255) × (has_erase (write_operations plan) ≡ true)) =
-    elim m.first_is [
-      | inl same ↦ inl same
-      | inr blank ↦ inr (blank.0, erase_of touched.count (write_operations plan) blank.1)
-    ] in search (rules, all_there)

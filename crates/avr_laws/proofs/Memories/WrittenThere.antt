@@ -1,17 +1,16 @@
 -- An image that a memory takes is there once it is written.
-use Rattle.std.proofs.Common.{◌≡◌, ◌<◌, ℕ, List, [], ◌∷◌, ◌++◌, length, get_or, refl, sym, ◌∙◌, arith, Bool, true, false, Option, Some, rules}
+use Rattle.std.specs.Prelude.{if◌then◌else◌}
+use Rattle.std.proofs.Common.{◌≡◌, ◌<◌, ℕ, List, [], ◌∷◌, length, get_or, refl, sym, ◌∙◌, arith, Bool, true, false, Option, Some, rules}
 use Rattle.std.proofs.lemmas.Bool.{cases_Bool, eqb-true, true≢false}
 use Rattle.std.proofs.lemmas.List.{length-replicate, get_or-replicate}
-use Rattle.std.specs.Prelude.{if◌then◌else◌}
 use Rattle.avr_image.specs.Image.{byte_at, HoldsBytes}
 use Rattle.avr_part.specs.Part.{Part}
 use Rattle.avr_part.specs.declared.part.Mem.{Mem}
 use Rattle.avr_part.specs.declared.part.Mem.TheVariants.{Flash, Lock}
-use Rattle.stk_emu.specs.Effect.{Image, Item, Erase, Write, Memories, with_image, and_in, and_with, effect, effects, write_effect, memory_in}
+use Rattle.stk_emu.specs.Effect.{Image, Item, Erase, Write, Memories, with_image, and_with, effect, effects, write_effect, memory_in}
 use Rattle.stk_emu.specs.StepData.{HoldsImage}
 use Rattle.avr_laws.proofs.Memories.Bytes.{and_from_blank, laid_holds}
 use Rattle.stk_emu.proofs.Memories.LaidImages.{length-and_in, get_and_in}
-use Rattle.avr_tool.proofs.WriteOperations.Pages.{effects_on}
 use Rattle.avr_tool.specs.Items.{has_erase}
 use Rattle.avr_laws.specs.WrittenBytes.{LeaveUnwritten, IsErasedFor, WriteTakesEffect}
 use Rattle.avr_tool.proofs.WriteOperations.EachMemory.{same_memory, size_stays, others_stay}
@@ -34,17 +33,35 @@ module _ (part : Part) (mem : Mem) (addr : ℕ)
   stays_blank [] m inside free blank = blank
   stays_blank (Erase ∷ xs) m inside free blank =
       stays_blank xs (effect part Erase m) (omega (arith, inside, sized m)) free (blanked m inside)
-  stays_blank (Write other image ∷ xs) m inside free blank =
-      stays_blank xs (write_effect other image m) (omega (arith, inside, size_stays part other mem image m)) free.1
-      ((search (rules, cases_Bool, same_memory, write_keeps, eqb-true, others_stay)) ∙ blank)
+  stays_blank (Write other image ∷ xs) m inside free blank = search (
+    rules,
+    stays_blank xs (write_effect other image
+        m) (omega (arith, inside, size_stays part other mem image m)) free.1 ((search (
+          rules,
+          cases_Bool,
+          same_memory,
+          write_keeps,
+          eqb-true,
+          others_stay,
+        )) ∙ blank),
+    size_stays,
+    cases_Bool,
+    same_memory,
+    write_keeps,
+    eqb-true,
+    others_stay,
+  )
 
   pub erased_is_blank : (xs : List Item) (m : Memories) → IsInside m → LeaveUnwritten xs mem addr → has_erase xs ≡ true
       → held (effects part xs m) ≡ 255
   erased_is_blank [] m inside free has = absurd (true≢false (sym has))
   erased_is_blank (Erase ∷ xs) m inside free has = search (rules, stays_blank)
-  erased_is_blank (Write other image ∷ xs) m inside free has =
-      erased_is_blank xs (write_effect other image m) (omega (arith, inside, size_stays part other mem image m)) free.1
-      has
+  erased_is_blank (Write other image ∷ xs) m inside free has = search (
+    rules,
+    erased_is_blank xs (write_effect other
+        image m) (omega (arith, inside, size_stays part other mem image m)) free.1 has,
+    size_stays,
+  )
 
   pub sizes_stay : (xs : List Item) (m : Memories)
       → length (memory_in part mem (effects part xs m)) ≡ length (memory_in part mem m)
@@ -57,17 +74,9 @@ module _ (part : Part) (mem : Mem) (addr : ℕ)
 anded_blank : (o : Option ℕ) (x b : ℕ) → o ≡ Some b → x ≡ 255 → b < 256 → and_with o x ≡ b
 anded_blank o x b is blank small = search (rules, and_from_blank)
 
-flash_there : (image : Image) (xs : List ℕ) (is_locked : Bool) → is_locked ≡ false → HoldsBytes image
-    → ((i b : ℕ) → byte_at image i ≡ Some b → i < length xs → get_or xs i 0 ≡ 255)
-    → HoldsImage image (if is_locked then xs else and_in image xs)
-flash_there image xs is_locked free bytes blank = search (rules, true≢false, length-and_in, get_and_in, anded_blank)
-
 eeprom_there : (image : Image) (xs : List ℕ) (is_locked : Bool) → is_locked ≡ false
     → HoldsImage image (if is_locked then xs else with_image image xs)
 eeprom_there image xs is_locked free = search (rules, true≢false, laid_holds)
-
-one_there : (image : Image) (y : ℕ) → ((b : ℕ) → byte_at image 0 ≡ Some b → y ≡ b) → HoldsImage image (y ∷ [])
-one_there image y there d' b is l = search (rules, there)
 
 module _ (part : Part) (image : Image) (first : List Item) (before : Memories) (bytes : HoldsBytes image) where
   abbrev mid : Memories
@@ -88,11 +97,17 @@ module _ (part : Part) (image : Image) (first : List Item) (before : Memories) (
   lock_blank erased b is = erased_is_blank part Lock 0 (λ m inside. refl) (λ m. refl) first before (omega arith)
       (erased.1 0 b is) erased.0
 
-  there : (mem : Mem) → WriteTakesEffect mem image first mid
+  pub there : (mem : Mem) → WriteTakesEffect mem image first mid
       → HoldsImage image (memory_in part mem (write_effect mem image mid))
-  there mem taken = search (rules, flash_there, flash_blank, eeprom_there, true≢false, anded_blank, lock_blank)
-
-pub written_there : (part : Part) (before now : Memories) (mem : Mem) (image : Image) (first : List Item)
-    → HoldsBytes image → now ≡ effects part (first ++ Write mem image ∷ []) before
-    → WriteTakesEffect mem image first (effects part first before) → HoldsImage image (memory_in part mem now)
-written_there part before now mem image first bytes is taken = search (rules, effects_on, there)
+  there mem taken = search (
+    rules,
+    true≢false,
+    length-and_in,
+    get_and_in,
+    anded_blank,
+    flash_blank,
+    eeprom_there,
+    true≢false,
+    anded_blank,
+    lock_blank,
+  )

@@ -76,9 +76,12 @@ module _ (plan : Plan) where
   abbrev later : List Action
   later = erase_actions s plan.tasks ++ tasks_actions s plan.tasks
 
+  abbrev pub later_actions : Dialog OutputEvent Standing
+  later_actions = actions_dialog plan.part s later
+
   -- what a session does after an operation at its beginning; and all of it, from the handshake on
   abbrev after : Dialog OutputEvent Standing → Dialog OutputEvent ℕ
-  after d = d >>= unless_fault (actions_dialog plan.part s later) >>= ending plan.part s
+  after d = d >>= unless_fault later_actions >>= ending plan.part s
       >>= λ standing. Done (status_of standing)
 
   abbrev pub from_handshake : Dialog ⊥ StepOutcome → Dialog OutputEvent ℕ
@@ -130,13 +133,13 @@ module _ (plan : Plan) where
   no_fault (event ∷ outputs) standing n tape seq left is = no_fault outputs standing n tape seq left is
 
   -- the signature that a chip gave, if it was accepted
-  abbrev HasAccepted : StepOutcome → Type 0
+  abbrev pub HasAccepted : StepOutcome → Type 0
   HasAccepted outcome = (found : Bytes) × (outcome ≡ Ok found) × (s.force ≡ false → found ≡ plan.part.signature)
 
-  no_host_fault : (fault : StepFault) → standing {A = Bytes} (Err (host_fault fault)) ≡ NoFault → ⊥
+  pub no_host_fault : (fault : StepFault) → standing {A = Bytes} (Err (host_fault fault)) ≡ NoFault → ⊥
   no_host_fault fault is = search rules
 
-  accepted : (outcome : StepOutcome)
+  pub accepted : (outcome : StepOutcome)
       → standing (checked_by (signature_checked plan.part.signature s.force) outcome) ≡ NoFault → HasAccepted outcome
   accepted (Ok found) is = (
     found,

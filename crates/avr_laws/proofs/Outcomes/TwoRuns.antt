@@ -1,27 +1,32 @@
 -- A run that ended anywhere, and then one with status 0, leave what one run leaves.
 use Rattle.std.proofs.Common.{◌≡◌, ℕ, true, false, List, [], All, refl, subst, sym}
 use Rattle.avr_desk.specs.Record.{Record}
-use Rattle.avr_part.specs.Part.{Part}
+use Rattle.avr_part.specs.Part.{Part, IsPart}
 use Rattle.avr_part.specs.Sound.{IsSoundChip}
 use Rattle.avr_part.specs.declared.part.Mem.{Mem}
 use Rattle.avr_plan.specs.Plan.{Plan, IsFitted}
 use Rattle.avr_session.specs.Session.{session}
-use Rattle.stk_emu.specs.Device.{device}
+use Rattle.stk_emu.specs.Device.{Device, device}
 use Rattle.stk_emu.specs.Effect.{Memories, effects, erase_keeps_eeprom, memories_of, memory_in}
 use Rattle.stk_emu.specs.Programmer.{Programmer}
 use Rattle.stk_emu.specs.Exchange.{Execution}
+use Rattle.stk_emu.specs.Settled.{FitsPart}
 use Rattle.stk_frame.specs.Cut.{frames}
 use Rattle.stk_host.specs.Dialog.{bytes_sent, played}
 use Rattle.stk_host.specs.Play.{IsBytePrefixOf}
 use Rattle.stk_host.specs.Transcript.{Transcript, heard, sent}
 use Rattle.stk_emu.specs.StepData.{HoldsImage}
 use Rattle.avr_tool.specs.Items.{asked_items, has_erase, items}
-use Rattle.avr_tool.specs.Outcome.{IsDone}
+use Rattle.avr_tool.specs.Outcome.{HasFirstOperations}
 use Rattle.avr_tool.specs.Written.{written_to}
 use Rattle.avr_tool.proofs.OverExchanges.{its_sizes}
 use Rattle.avr_laws.specs.Again.{ItemsKeepEeprom}
 use Rattle.avr_laws.specs.AnyLink.{ReportsOverExchanges}
 use Rattle.avr_laws.specs.AnyTape.{ReceivedSentFrames, after_received_bytes, exchanges_on_tape}
+use Rattle.avr_laws.specs.BegunByPort.{IsBegunByAny}
+use Rattle.avr_laws.specs.KeptByAny.{IsKeptByAny}
+use Rattle.avr_laws.specs.Sheet.{IsVouched, SuitsPlan}
+use Rattle.avr_laws.specs.Table.{IsProgrammer}
 use Rattle.avr_laws.specs.Kept.{HasGeometryOf, IsKept, KeepsOnPart, NoneForged, on_part}
 use Rattle.avr_laws.specs.NoForgedFrame.{ForgesNoFrame}
 use Rattle.avr_laws.proofs.AnyLink.{end_bytes}
@@ -30,6 +35,55 @@ use Rattle.avr_laws.proofs.Outcomes.ByTasks.{is_done}
 use Rattle.avr_laws.proofs.Outcomes.Kept.{alike_forges_none}
 use Rattle.avr_laws.proofs.Outcomes.OtherPart.{session_alike, tasks_fit}
 use Rattle.avr_laws.proofs.SecondRun.Status.{done_again}
+
+-- one run leaves this, and its images if it was verified
+abbrev AsOne : Plan → Part → Memories → Memories → Type 0
+AsOne plan part before after = (after ≡ effects part (items plan) before) × (plan.switches.no_verify ≡ false
+    → (mem : Mem) → HoldsImage (written_to part mem (asked_items plan)) (memory_in part mem after))
+
+-- what both left, on a chip of this part
+module _ (plan : Plan) (part : Part) (sound : IsPart part) (fits : HasGeometryOf plan.part part)
+    (fitted : All (IsFitted plan.part) plan.tasks) (before left after : Memories) (sizes : FitsPart part before)
+    (keeping : has_erase (items plan) ≡ true → erase_keeps_eeprom part before ≡ true
+    → ItemsKeepEeprom part (items plan)) (old now : Record) (there : KeepsOnPart part plan left after old now)
+    (begun : HasFirstOperations (on_part part plan) before left) where
+  as_one : AsOne plan part before after
+  as_one = (
+    done_again (on_part part plan) before left after sound (tasks_fit plan part fits fitted) sizes keeping begun
+        (is_done (on_part part plan) left after old now there.keeps),
+    λ verified mem. (there.keeps.images verified).images mem,
+  )
+
+-- ---- at any programmer that keeps the rows
+
+module _ {P : Type 0} (part : Part) (m : Device P) (view : P → Memories) (IsIn IsReady : P → Type 0)
+    (becomes : Mem → ℕ → ℕ) where
+  pub as_one_by_any : (plan : Plan) (first second : Transcript) (old now : Record) (p q : P)
+      → IsBegunByAny part m view IsIn IsReady becomes plan first
+      → IsKeptByAny part m view IsIn IsReady becomes plan second old now
+      → All (IsFitted plan.part) plan.tasks → IsPart part → HasGeometryOf plan.part part
+      → IsProgrammer part m view IsIn IsReady (IsVouched becomes part)
+      → (has_erase (items plan) ≡ true → erase_keeps_eeprom part (view p) ≡ true
+      → ItemsKeepEeprom part (items plan))
+      → (got : List ℕ) (later : List (List ℕ)) (executions : List Execution) → IsIn p → FitsPart part (view p)
+      → SuitsPlan becomes (on_part part plan) (view p)
+      → ReceivedSentFrames got later (frames (sent first)) executions
+      → NoneForged m (frames (sent first)) (heard first) p executions []
+      → (over : List ℕ) (more : List (List ℕ)) (others : List Execution) → IsIn q
+      → view q ≡ view (after_received_bytes m got later p) → FitsPart part (view q)
+      → SuitsPlan becomes (on_part part plan) (view q)
+      → ReceivedSentFrames over more (frames (sent second)) others
+      → NoneForged m (frames (sent second)) (heard second) q others []
+      → AsOne plan part (view p) (view (after_received_bytes m over more q))
+  as_one_by_any plan first second old now p q begun kept fitted sound fits meets keeping got later executions is_in
+      sizes suits came none over more others is_in_then left sizes_then suits_then came_then none_then =
+      let there = kept sound fits meets q over more others is_in_then sizes_then suits_then came_then none_then in
+      as_one plan part sound fits fitted (view p) (view q) (view (after_received_bytes m over more q)) sizes keeping old
+      now there
+      (subst (HasFirstOperations (on_part part plan) (view p)) (sym left)
+      (begun sound fits there.signature meets p got later executions is_in sizes suits came none))
+
+-- ---- at the emulated one
 
 module _ (plan : Plan) (first second : Transcript) (old now : Record) (p q : Programmer)
     (fitted : All (IsFitted plan.part) plan.tasks) (sound : IsSoundChip p.chip)
@@ -71,13 +125,10 @@ module _ (plan : Plan) (first second : Transcript) (old now : Record) (p q : Pro
         (alike_forges_none device (session plan) (session its_plan) 1 (heard first) p executions [] are_alike none)
         (subst (IsBytePrefixOf (sent first)) (same_bytes are_alike 1 (heard first)) prefix)
 
-    pub as_one : after ≡ effects p.chip.part (items plan) (memories_of p.chip)
-    as_one = done_again its_plan (memories_of p.chip) (memories_of (after_received_bytes device got later p).chip)
-        after sound.part its_tasks (its_sizes its_plan p sound refl its_tasks) keeping
-        (record { count = ended.leaves.write_operations.count; memories = ended.leaves.write_operations.memories })
-        (subst (λ (m : Memories). IsDone its_plan m after) left
-        (is_done its_plan (memories_of q.chip) after old now there.keeps))
-
-    pub images_there : plan.switches.no_verify ≡ false
-        → (mem : Mem) → HoldsImage (written_to p.chip.part mem (asked_items plan)) (memory_in p.chip.part mem after)
-    images_there verified mem = (there.keeps.images verified).images mem
+    pub emulated_as_one : AsOne plan p.chip.part (memories_of p.chip) after
+    emulated_as_one = as_one plan p.chip.part sound.part fits fitted (memories_of p.chip) (memories_of q.chip) after
+        (its_sizes its_plan p sound refl its_tasks) keeping old now there
+        (subst (HasFirstOperations its_plan (memories_of p.chip)) (sym left) (record {
+          count = ended.leaves.write_operations.count;
+          memories = ended.leaves.write_operations.memories;
+        }))

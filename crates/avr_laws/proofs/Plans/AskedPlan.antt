@@ -1,7 +1,7 @@
 -- A plan that was made over some openings is the one that settings and these files ask for.
-use Rattle.std.proofs.Common.{rules}
+use Rattle.std.proofs.Common.{rules, arith}
 use Rattle.std.proofs.Common.{◌≡◌, ◌≤◌, ◌∙◌, sym, ap, subst, ℕ, List, [], ◌∷◌, ◌++◌, append_assoc, append-nil, refl, Some, None, Option, Result, Ok, true, inl, inr, length}
-use Rattle.std.specs.Prelude.{find, ok_or}
+use Rattle.std.specs.Prelude.{ok_or}
 use Rattle.std.proofs.lemmas.Bool.{cases_Bool}
 use Rattle.std.proofs.lemmas.Bool.Decides.{nat_tests}
 use Rattle.avr_plan.specs.declared.settings.Settings.{Settings}
@@ -16,7 +16,6 @@ use Rattle.avr_desk.specs.OutputEvents.{OutputEvent, Opens}
 use Rattle.avr_desk.specs.Stage.{Stage, Produced, ◌>>=◌, result_stage, output_stage, file_stage}
 use Rattle.avr_desk.specs.declared.record.Opening.{Opening}
 use Rattle.avr_desk.specs.declared.record.Opening.TheVariants.{Absent, Found}
-use Rattle.avr_part.specs.BuiltIn.{built_in_parts, has_id}
 use Rattle.avr_part.specs.Mem.{is_writable}
 use Rattle.avr_part.specs.Part.{Part, size_of}
 use Rattle.avr_part.specs.PartFile.{parts_of}
@@ -34,7 +33,7 @@ use Rattle.avr_laws.specs.AskedPlan.{GivesText, HasImage, IsTaskOf, AreTasksOf, 
 use Rattle.avr_plan.specs.ImageFile.{image_within, kind_of, image_of_file}
 use Rattle.avr_plan.specs.Plan.{Plan}
 use Rattle.avr_plan.specs.Lines.{no_part_line}
-use Rattle.avr_plan.specs.Planning.{planned, checked_parts, or_line, parts_stage, part_stage, tasks_stage, task_stage, op_stage, update_image, image_stage, file_image_stage, checked_image, warning_events}
+use Rattle.avr_plan.specs.Planning.{planned, checked_parts, or_line, parts_stage, tasks_stage, task_stage, op_stage, update_image, image_stage, file_image_stage, checked_image, warning_events}
 use Rattle.avr_laws.proofs.Limits.{LARGEST_IMAGE_FILE, LARGEST_PART_FILE}
 use Rattle.avr_plan.specs.declared.planned.Task.{Task}
 use Rattle.avr_plan.specs.declared.planned.Task.TheVariants.{Write, Verify}
@@ -147,18 +146,13 @@ module _ (Gives : GivesText) where
           subst (IsTaskOf Gives part u) (sym made.1.1) (is, refl, made.1.0)
       | inr never ↦ let none = saw.made in cc (rw never at none)
     ]
-    operation u op.Verify openings task is saw =
-        let made = imaged u (Verify u.memory) openings task saw in
-        subst (IsTaskOf Gives part u) (sym made.1.1) (is, refl, made.1.0)
+    operation u op.Verify openings task is saw = search (rules, imaged u (Verify u.memory) openings task saw)
     operation u op.Read openings task is saw = search rules
 
     tasks : (before : List Task) (updates : List Update) (openings : List Opening) (made : List Task)
         → Saw (tasks_stage switches part before updates) openings made
         → (later : List Task) × ((made ≡ before ++ later) × AreTasksOf Gives part updates later)
-    tasks before [] openings made saw =
-        let last : Produced before ≡ Produced made = saw.made in
-        let same : made ≡ before = cc in
-        ([], (same ∙ sym (append-nil before), tt))
+    tasks before [] openings made saw = search (rules, append-nil)
     tasks before (u ∷ updates) openings made saw =
         let first = saw_first (task_stage switches part u)
         (λ task. tasks_stage switches part (before ++ task ∷ []) updates) openings made saw in
@@ -184,27 +178,10 @@ module _ (Gives : GivesText) where
 
   parts_saw : (file : Option Bytes) (openings : List Opening) (parts : List Part)
       → Saw (parts_stage file) openings parts → ArePartsOf Gives file parts
-  parts_saw None openings parts saw = search rules
-  parts_saw (Some name) openings parts saw =
-      let file = file_saw name LARGEST_PART_FILE (checked_parts name) (limited_parts name) openings parts saw in
-      (file.0, file.1.0, held_parts file.0 parts (parts_given name file.0 parts file.1.1))
+  parts_saw file openings parts saw = grind (arith, file_saw, limited_parts, held_parts, parts_given)
 
   -- THE LAW
   pub plan_asked : (s : Settings) (openings : List Opening) (plan : Plan) → AreGiven (planned s openings).output_events
       → (planned s openings).stage_outcome ≡ Produced plan → IsAsked s Gives plan
   plan_asked s openings plan are made =
-      let of_part : Part → Stage Plan = λ part. tasks_stage s.switches part [] s.updates
-      >>= λ tasks. result_stage (Ok (record { part = part; tasks = tasks; switches = s.switches })) in
-      let whole : Saw (planned s) openings plan = record { made = made; are = are } in
-      let parts = saw_first (parts_stage s.parts) (λ all. part_stage s.part all >>= of_part) openings plan whole in
-      let part = saw_first (part_stage s.part parts.0) of_part _ plan parts.1.1 in
-      let done = saw_first (tasks_stage s.switches part.0 [] s.updates)
-      (λ ts. result_stage (Ok (record { part = part.0; tasks = ts; switches = s.switches }))) _ plan part.1.1 in
-      let same : record { part = part.0; tasks = done.0; switches = s.switches } ≡ plan = cc in
-      subst (IsAsked s Gives) same (record {
-        parts = parts.0;
-        are_parts = parts_saw s.parts openings parts.0 parts.1.0;
-        part = found (find (has_id s.part) (parts.0 ++ built_in_parts)) part.0 (search (rules, part_given, settled));
-        tasks = all_tasks s.switches part.0 s.updates _ done.0 done.1.0;
-        switches = refl;
-      })
+      search (rules, tasks, saw_first, parts_saw, found, part_given, settled, all_tasks)

@@ -1,5 +1,5 @@
 -- Lifts a fact about single stages of planning to the whole of it. The fact may name the files that a stage reads.
-use Rattle.std.proofs.Common.{ℕ, List, [], ◌∷◌, ◌++◌, append-nil, Bool, true, false, Option, Some, None, Result, Ok, Err, if◌then◌else◌, rules}
+use Rattle.std.proofs.Common.{ℕ, List, [], ◌∷◌, ◌++◌, append-nil, Bool, true, false, Option, Some, None, Result, Ok, Err, rules, if◌then◌else◌}
 use Rattle.avr_plan.specs.declared.settings.Settings.{Settings}
 use Rattle.avr_plan.specs.declared.settings.Switches.{Switches}
 use Rattle.avr_plan.specs.declared.update.Format.{Format}
@@ -17,7 +17,7 @@ use Rattle.avr_laws.proofs.Limits.{LARGEST_IMAGE_FILE, LARGEST_PART_FILE}
 use Rattle.avr_laws.specs.FilesRead.{part_file, image_file, file_of_op, files_of, files_read}
 use Rattle.avr_plan.specs.Lines.{read_only_line, no_part_line}
 use Rattle.avr_plan.specs.Plan.{Plan}
-use Rattle.avr_plan.specs.Planning.{checked_parts, parts_stage, or_line, part_stage, warning_events, checked_image, file_image_stage, image_stage, update_image, write_stage, op_stage, task_stage, tasks_stage, planned}
+use Rattle.avr_plan.specs.Planning.{checked_parts, parts_stage, or_line, part_stage, warning_events, checked_image, image_stage, update_image, write_stage, op_stage, task_stage, tasks_stage, planned}
 use Rattle.avr_plan.specs.declared.planned.Task.{Task}
 use Rattle.avr_plan.specs.declared.planned.Task.TheVariants.{Write}
 use Rattle.avr_records.specs.declared.kind.Ending.{Ending}
@@ -41,14 +41,10 @@ module _ (Holds : (A : Type 0) → Stage A → List Bytes → Type 0)
   parts (Some name) = of_parts name
 
   module _ (s : Switches) where
-    file_image : (name : Bytes) (kind : Format) (size : ℕ)
-        → Holds (List (Option ℕ)) (file_image_stage s name kind size) (name ∷ [])
-    file_image name kind size = search (rules, last)
-
     image : (memory : Mem) (size : ℕ) (name : Bytes) (kind : Format)
         → Holds (List (Option ℕ)) (image_stage s memory size name kind) (image_file name kind)
     image memory size name format.Immediate = search rules
-    image memory size name kind = file_image name kind size
+    image memory size name kind = search (rules, last)
 
     module _ (part : Part) where
       -- an update's image, then its task

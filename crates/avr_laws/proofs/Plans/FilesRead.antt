@@ -1,5 +1,5 @@
 -- Planning over the bytes that were read of some files is planning over the whole files, stage by stage.
-use Rattle.std.proofs.Common.{◌≡◌, ap, refl, arith, ℕ, ◌≤◌, ◌<◌, List, [], ◌∷◌, ◌++◌, append_assoc, length, take, drop, false, nat_le, Result, length-append, rules}
+use Rattle.std.proofs.Common.{◌≡◌, ap, refl, arith, ℕ, ◌≤◌, ◌<◌, List, [], ◌∷◌, ◌++◌, append_assoc, length, take, false, nat_le, Result, length-append, rules}
 use Rattle.std.proofs.lemmas.Bool.Decides.{nat_tests}
 use Rattle.std.proofs.lemmas.List.{take-append-le, take-append-drop, length-take-le, map-append}
 use Rattle.avr_plan.specs.declared.settings.Settings.{Settings}
@@ -60,11 +60,7 @@ module _ (stock : Stock) where
   settled_fixed result openings rest seen read = same_verdict result result openings rest refl
 
   output_fixed : (output_events : List OutputEvent) → Sees (output_stage output_events) []
-  output_fixed output_events openings rest seen read = record {
-    stage_outcome = refl;
-    lines = refl;
-    openings_left = λ made is. refl;
-  }
+  output_fixed output_events openings rest seen read = search rules
 
   onward : {A B : Type 0} (stage : Stage A) (go_on : A → Stage B) (prefix back : List Bytes) → Sees stage prefix
       → ((a : A) → Sees (go_on a) back) → Sees (stage >>= go_on) (prefix ++ back)
@@ -93,15 +89,6 @@ module _ (stock : Stock) where
 
   module _ {A : Type 0} (name : Bytes) (limit : ℕ) (judge : Bytes → Result A Bytes)
       (limited : IsLimited limit judge) where
-    -- the bytes seen of it, and the whole of it
-    of_opening : (opening : Opening) (openings rest : List Opening)
-        → IsTrueOpening stock [] (renamed_opening name opening)
-        → ((content_stage name limit judge (renamed_opening name opening) openings).stage_outcome ≡ NotReadToEnd → ⊥)
-        → IsSame (content_stage name limit judge (renamed_opening name opening) openings)
-        (content_stage name limit judge (renamed_opening name (read_whole name (content_of_name stock [] name))) rest)
-        rest
-    of_opening opening openings rest is read = search (rules, same_verdict)
-
     -- the same, after its opening
     behind_opening : (opening : Opening) (openings rest : List Opening)
         → IsTrueOpening stock [] (renamed_opening name opening)
@@ -109,21 +96,15 @@ module _ (stock : Stock) where
         → IsSame (with_events_before (Opens (renamed_opening name opening) ∷ [])
         (content_stage name limit judge (renamed_opening name opening) openings))
         (file_stage name limit judge (read_whole name (content_of_name stock [] name) ∷ rest)) rest
-    behind_opening opening openings rest is read = search (rules, of_opening)
+    behind_opening opening openings rest is read = search (rules, same_verdict)
 
     file : Sees (file_stage name limit judge) (name ∷ [])
     file x0 rest seen read = search (rules, behind_opening)
 
-  pub limited_parts : (name : Bytes) → IsLimited LARGEST_PART_FILE (checked_parts name)
-  limited_parts name bytes more past = search (rules, length-append)
-
   same_kind : (kind : Format) (bytes more : Bytes) → 1024 ≤ length bytes
       → kind_of kind (bytes ++ more) ≡ kind_of kind bytes
   same_kind kind bytes more long =
-      let prefix = take 1024 bytes in
-      let back = drop 1024 bytes in
-      let len : length prefix ≡ 1024 = length-take-le 1024 bytes long in
-      let whole : prefix ++ back ≡ bytes = take-append-drop 1024 bytes in search (rules, kind-prefix, append_assoc)
+      search (rules, length-take-le 1024 bytes long, take-append-drop 1024 bytes, kind-prefix, append_assoc)
 
   pub limited_image : (name : Bytes) (kind : Format) (size : ℕ)
       → IsLimited LARGEST_IMAGE_FILE (checked_image name kind size)
@@ -144,7 +125,7 @@ module _ (stock : Stock) where
   plan_sees : (s : Settings) → Sees (planned s) (files_read s)
   plan_sees = whole_plan (λ A stage names. Sees {A = A} stage names) (λ A result. settled_fixed result)
       (λ s name ending. output_fixed (warning_events s name ending))
-      (λ name. file name LARGEST_PART_FILE (checked_parts name) (limited_parts name))
+      (λ name. file name LARGEST_PART_FILE (checked_parts name) (search (rules, length-append)))
       (λ name kind size. file name LARGEST_IMAGE_FILE (checked_image name kind size) (limited_image name kind size))
       (λ A B stage go_on first back f g. onward stage go_on first back f g)
 

@@ -11,7 +11,7 @@ use Rattle.avr_plan.specs.declared.update.Op.{Op}
 use Rattle.avr_plan.specs.declared.update.Op.TheVariants as op
 use Rattle.avr_plan.specs.declared.update.Update.{Update}
 use Rattle.avr_image.specs.declared.fault.ImageFault.{ImageFault}
-use Rattle.avr_image.specs.Values.{image_of_values, all_ok, onto_ok, fitting, byte_of_value, value_of}
+use Rattle.avr_image.specs.Values.{all_ok, onto_ok, fitting, byte_of_value, value_of}
 use Rattle.avr_image.proofs.Lemmas.{laid_size, from_zero_is_a_span}
 use Rattle.avr_desk.specs.Record.{Bytes}
 use Rattle.avr_desk.specs.Stage.{Stage, Produced, ◌>>=◌, result_stage, open_stage, file_stage, content_stage, output_stage}
@@ -24,7 +24,7 @@ use Rattle.avr_plan.proofs.Stages.Tasks.{all_one}
 use Rattle.avr_plan.specs.ImageFile.{ImageOrBadFile, image_within}
 use Rattle.avr_plan.specs.Plan.{Plan, IsFitted}
 use Rattle.avr_plan.specs.Lines.{bad_file_line}
-use Rattle.avr_plan.specs.Planning.{planned, parts_stage, part_stage, tasks_stage, task_stage, op_stage, write_stage, update_image, file_image_stage, checked_image, or_line, warning_events}
+use Rattle.avr_plan.specs.Planning.{planned, tasks_stage, task_stage, op_stage, write_stage, update_image, file_image_stage, checked_image, or_line, warning_events}
 use Rattle.avr_laws.proofs.Limits.{LARGEST_IMAGE_FILE}
 use Rattle.avr_plan.specs.declared.planned.Task.{Task}
 use Rattle.avr_plan.specs.declared.planned.Task.TheVariants.{Write, Verify, Read}
@@ -84,9 +84,6 @@ inside size k (text ∷ texts) bytes is =
     let one = onto (fitting size k (value_of text)) rest bytes is in
     let more = inside size (k + 1) texts one.1 one.2.1.0 in search rules
 
-value_size : (text : Bytes) (size : ℕ) (image : Image) → image_of_values text size ≡ Ok image → length image ≡ size
-value_size text size image is = search (rules, from_zero_is_a_span, laid_size, length-replicate, inside)
-
 -- ---- the tasks
 
 module _ (switches : Switches) (part : Part) where
@@ -95,7 +92,7 @@ module _ (switches : Switches) (part : Part) where
       ≡ Produced task → (image : Image) × ((length image ≡ size_of u.memory part) × (task ≡ make image))
   imaged u make openings task is =
       let first = earlier (update_image switches part u) (λ image. result_stage (Ok (make image))) openings task
-      is in search (rules, value_size, file_size)
+      is in search (rules, from_zero_is_a_span, laid_size, length-replicate, inside, file_size)
 
   write : (u : Update) (openings : List Opening) (task : Task)
       → (write_stage switches part u openings).stage_outcome ≡ Produced task → IsFitted part task
@@ -131,13 +128,4 @@ module _ (switches : Switches) (part : Part) where
 
 pub plan_fitted : (s : Settings) (openings : List Opening) (plan : Plan)
     → (planned s openings).stage_outcome ≡ Produced plan → All (IsFitted plan.part) plan.tasks
-plan_fitted s openings plan is =
-    let of_part : Part → Stage Plan = λ part. tasks_stage s.switches part [] s.updates
-    >>= λ tasks. result_stage (Ok (record { part = part; tasks = tasks; switches = s.switches })) in
-    let parts = earlier (parts_stage s.parts) (λ all. part_stage s.part all >>= of_part) openings plan is in
-    let part = earlier (part_stage s.part parts.0) of_part _ plan parts.1.1 in
-    let done = earlier (tasks_stage s.switches part.0 [] s.updates)
-    (λ ts. result_stage (Ok (record { part = part.0; tasks = ts; switches = s.switches }))) _ plan part.1.1 in
-    let same : record { part = part.0; tasks = done.0; switches = s.switches } ≡ plan = cc in
-    subst (λ (p : Plan). All (IsFitted p.part) p.tasks) same
-    (tasks s.switches part.0 [] s.updates _ done.0 (search rules) done.1.0)
+plan_fitted s openings plan is = search (rules, tasks, earlier)

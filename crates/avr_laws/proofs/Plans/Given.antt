@@ -1,5 +1,5 @@
 -- What openings gave: at files in memory, and by the record of any desk.
-use Rattle.std.proofs.Common.{◌≡◌, ◌∙◌, sym, ap, subst, ℕ, zero, suc, Bool, true, List, [], ◌∷◌, ◌++◌, append_assoc, append-nil, refl, length, drop, arith, rules, Option, Some, None}
+use Rattle.std.proofs.Common.{◌≡◌, ◌∙◌, sym, ap, subst, ℕ, zero, suc, true, List, [], ◌∷◌, ◌++◌, append_assoc, append-nil, refl, length, drop, arith, rules, Option, Some, None}
 use Rattle.std.proofs.lemmas.List.Elements.{Contains-append_left, Contains-append_right}
 use Rattle.std.specs.Prelude.{Contains}
 use Rattle.avr_plan.specs.declared.settings.Settings.{Settings}
@@ -18,7 +18,6 @@ use Rattle.avr_part.specs.Part.{Part}
 use Rattle.avr_plan.specs.Plan.{Plan}
 use Rattle.avr_plan.specs.Planning.{planned}
 use Rattle.avr_plan.specs.declared.planned.Task.{Task}
-use Rattle.avr_plan.specs.declared.planned.Task.TheVariants.{Write, Verify, Read}
 use Rattle.avr_laws.proofs.Plans.Fitted.{Image}
 use Rattle.avr_laws.proofs.Plans.AskedPlan.{AreGiven, plan_asked}
 use Rattle.avr_laws.specs.AskedPlan.{ArePartsOf, AreTasksOf, FileGave, GivesText, HasImage, FileHolds, IsAsked, IsTaskOf}
@@ -36,9 +35,7 @@ seen_given stock (event ∷ output_events) seen = seen_given stock output_events
 pub seen_asked : (stock : Stock) (s : Settings) (openings : List Opening) (plan : Plan)
     → AreTrueOpenings stock (planned s openings).output_events
     → (planned s openings).stage_outcome ≡ Produced plan → IsAsked s (FileHolds (content_of_name stock [])) plan
-seen_asked stock s openings plan seen made =
-    plan_asked (FileHolds (content_of_name stock [])) s openings plan
-    (seen_given stock (planned s openings).output_events seen) made
+seen_asked stock s openings plan seen made = search (rules, plan_asked, seen_given)
 
 -- ---- by a desk's record
 
@@ -60,13 +57,15 @@ later first openings name text among = Contains-append_right first openings _ am
 
 among : (output_events : List OutputEvent) → AreGiven (Among (openings_in output_events)) output_events
 among [] = tt
-among (Opens (Found reading) ∷ output_events) = (
-  λ ended. subst (λ (b : Bool). Contains (Found reading ∷ openings_in output_events)
-      (Found (record reading { ended = b })))
-      ended (0, omega arith, refl),
-  given_more (Among (openings_in output_events)) (Among (Found reading ∷ openings_in output_events))
-      (later (Found reading ∷ []) (openings_in output_events)) output_events (among output_events),
-)
+among (Opens (Found reading) ∷ output_events) =
+    search (
+      rules,
+      given_more (Among (openings_in output_events)) (Among (Found reading ∷ openings_in output_events))
+          (later (Found reading ∷ []) (openings_in output_events)) output_events (among output_events),
+      later (Found
+          reading ∷ []) (openings_in output_events),
+      among output_events,
+    )
 among (Opens (Absent name) ∷ output_events) =
     given_more (Among (openings_in output_events)) (Among (Absent name ∷ openings_in output_events))
     (later (Absent name ∷ []) (openings_in output_events)) output_events (among output_events)
@@ -84,10 +83,7 @@ past (x ∷ xs) ys = past xs ys
 -- what was opened since is in the output
 since : (old new : DeskState) (outputs : List OutputEvent) → ChangesRecord (after_events outputs) old new
     → drop (length (all_openings old.kept)) (all_openings new.kept) ≡ openings_in outputs
-since old new outputs passes =
-    ap (λ (r : Record). drop (length (all_openings old.kept)) (all_openings r)) passes
-    ∙ (ap (drop (length (all_openings old.kept))) (openings_shown outputs old.kept)
-    ∙ past (all_openings old.kept) (openings_in outputs))
+since old new outputs passes = search (rules, openings_shown, past)
 
 -- so a plan is the one that the settings and the files that were opened ask for
 pub desk_asked : (s : Settings) (openings : List Opening) (plan : Plan) (old new : DeskState)
@@ -127,9 +123,7 @@ module _ (G H : GivesText) (each : (name text : Bytes) → G name text → H nam
   image_more name kind size image has = (has.0, each name has.0 has.1, has.2, has.3)
 
   task_more : (part : Part) (u : Update) (task : Task) → IsTaskOf G part u task → IsTaskOf H part u task
-  task_more part u (Write mem image) (op, memory, has) = (op, memory, image_more u.file u.format _ image has)
-  task_more part u (Verify mem image) (op, memory, has) = (op, memory, image_more u.file u.format _ image has)
-  task_more part u (Read mem format file) is = is
+  task_more part u task is = grind (arith, image_more)
 
   tasks_more : (part : Part) (updates : List Update) (tasks : List Task) → AreTasksOf G part updates tasks
       → AreTasksOf H part updates tasks
@@ -143,13 +137,7 @@ module _ (G H : GivesText) (each : (name text : Bytes) → G name text → H nam
   parts_more (Some name) parts (text, gives, is) = (text, each name text gives, is)
 
   asked_more : (s : Settings) (plan : Plan) → IsAsked s G plan → IsAsked s H plan
-  asked_more s plan asked = record {
-    parts = asked.parts;
-    are_parts = parts_more s.parts asked.parts asked.are_parts;
-    part = asked.part;
-    tasks = tasks_more plan.part s.updates plan.tasks asked.tasks;
-    switches = asked.switches;
-  }
+  asked_more s plan asked = search (rules, parts_more, tasks_more)
 
 pub later_asked : (s : Settings) (plan : Plan) (old mid new : Record) (more : List Opening)
     → all_openings new ≡ all_openings mid ++ more → IsAsked s (FileGave old mid) plan

@@ -1,5 +1,5 @@
 -- Planning only reads and reports, stage by stage.
-use Rattle.std.proofs.Common.{ℕ, List, [], ◌∷◌, ◌++◌, Result, rules}
+use Rattle.std.proofs.Common.{ℕ, List, [], ◌∷◌, ◌++◌, Result, rules, arith}
 use Rattle.avr_plan.specs.declared.settings.Settings.{Settings}
 use Rattle.avr_desk.specs.declared.record.Opening.{Opening}
 use Rattle.avr_desk.specs.Record.{Bytes}
@@ -8,7 +8,7 @@ use Rattle.avr_laws.proofs.Limits.{LARGEST_IMAGE_FILE, LARGEST_PART_FILE}
 use Rattle.avr_laws.proofs.Plans.EachStage.{whole_plan}
 use Rattle.avr_laws.specs.OnlyReading.{OnlyReadsAndPrints}
 use Rattle.avr_plan.specs.Planning.{checked_parts, checked_image, planned}
-use Rattle.avr_desk.specs.Stage.{Stage, StageOutcome, Produced, Refused, events_with_refusal, all_events_of, continued_stage, ◌>>=◌, file_stage}
+use Rattle.avr_desk.specs.Stage.{Stage, StageOutcome, Refused, events_with_refusal, all_events_of, continued_stage, file_stage}
 
 -- a stage that only reads and reports
 abbrev Reads : {A : Type 0} → Stage A → Type 0
@@ -23,13 +23,7 @@ both (event ∷ xs) ys f g = absurd f
 going : {A B : Type 0} (output_events : List OutputEvent) (openings_left : List Opening) (go_on : A
     → Stage B) (stage_outcome : StageOutcome A) → OnlyReadsAndPrints output_events → ((a : A) → Reads (go_on a))
     → OnlyReadsAndPrints (continued_stage output_events openings_left go_on stage_outcome).output_events
-going output_events openings_left go_on (Produced a) f g =
-    both output_events (go_on a openings_left).output_events f (g a openings_left)
-going output_events openings_left go_on stage_outcome f g = f
-
-onward : {A B : Type 0} (stage : Stage A) (go_on : A → Stage B) → Reads stage → ((a : A) → Reads (go_on a))
-    → Reads (stage >>= go_on)
-onward stage go_on f g openings = search (rules, going)
+going output_events openings_left go_on stage_outcome f g = grind (arith, both)
 
 file : {A : Type 0} (name : Bytes) (limit : ℕ) (judge : Bytes → Result A Bytes) → Reads (file_stage name limit judge)
 file name limit judge = search rules
@@ -39,7 +33,7 @@ reads_plan = whole_plan (λ A stage names. Reads {A = A} stage) (λ A result. (s
     (λ s name ending openings. (search rules))
     (λ name. file name LARGEST_PART_FILE (checked_parts name))
     (λ name kind size. file name LARGEST_IMAGE_FILE (checked_image name kind size))
-    (λ A B stage go_on first back f g. onward stage go_on f g)
+    (λ A B stage go_on first back f g. (search (rules, going)))
 
 -- so is the line of a refusal
 refused_so : {A : Type 0} (output_events : List OutputEvent) (stage_outcome : StageOutcome A)
@@ -48,5 +42,4 @@ refused_so output_events (Refused line) f = both output_events (PrintsLine line 
 refused_so output_events stage_outcome f = f
 
 pub only_reads : (s : Settings) (openings : List Opening) → OnlyReadsAndPrints (all_events_of (planned s openings))
-only_reads s openings = refused_so (planned s openings).output_events (planned s openings).stage_outcome
-    (reads_plan s openings)
+only_reads s openings = search (rules, refused_so, reads_plan)

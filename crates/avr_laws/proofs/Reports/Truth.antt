@@ -21,19 +21,19 @@ use Rattle.stk_host.specs.Operations.{difference_from, comparison, host_fault}
 use Rattle.stk_host.specs.declared.fault.HostFault.{HostFault}
 use Rattle.stk_host.specs.declared.fault.StepFault.{StepFault}
 use Rattle.stk_emu.specs.Exchange.{Exchange}
-use Rattle.stk_emu.specs.Device.{device}
+use Rattle.stk_emu.specs.Device.{Device, device}
 use Rattle.stk_emu.specs.Effect.{Memories, Image, Item, Erase, Write, effect, effects, memories_of, memory_in}
 use Rattle.stk_emu.specs.Programmer.{Programmer}
-use Rattle.stk_emu.specs.Settled.{HasMemories, FitsPart}
-use Rattle.stk_emu.proofs.Repeatable.{Settled}
+use Rattle.stk_emu.specs.Settled as of_emulated
+use Rattle.stk_emu.specs.Settled.{FitsPart}
 use Rattle.avr_tool.proofs.Given.Comparisons.{no_difference}
 use Rattle.avr_tool.proofs.WriteOperations.Pages.{effects_on}
 use Rattle.avr_tool.specs.Items.{action_items, actions_items, items}
 use Rattle.avr_laws.specs.TrueReports.{ReportsTrue, count_line, saved_bytes, IsTrueReport, ChipErased, BytesWritten, BytesVerified, Differed, BytesSaved, BytesRead, EraseLeftOut, WriteLeftOut, StepFailed, SessionDone}
 use Rattle.stk_host.specs.ReadSteps.{signature_steps}
 use Rattle.avr_tool.proofs.Emulated.{actions_work, all_work, emulated}
-use Rattle.avr_tool.proofs.Real.{Real}
-use Rattle.avr_tool.proofs.OverFaultyLink.EachAction.{Comes, Passes, ActionTrue, ActionsTrue, opening_comes}
+use Rattle.avr_tool.proofs.Real.{ActionsWork, AllWork, HasMemories, Real, Settled}
+use Rattle.avr_tool.proofs.OverFaultyLink.EachAction.{ActionTrue, ActionsTrue, opening_comes}
 use Rattle.avr_tool.proofs.OverFaultyLink.Sessions.{AtMoment, AtEnd, anyhow, session_prints}
 use Rattle.avr_laws.proofs.Memories.Bytes.{bytes_same, no_difference_if_fine}
 use Rattle.avr_tool.proofs.Hosts.OneLink.{Spot, on_link, this_link}
@@ -43,78 +43,76 @@ use Rattle.avr_tool.proofs.Plans.Fits.{FitsAction, AllFitActions, work, work_fit
 use Rattle.avr_tool.proofs.Plans.Items.{items_on}
 use Rattle.avr_laws.proofs.Plans.Items.{erase_first}
 
-abbrev link : World (Spot Programmer) ⊤
-link = this_link device
+module _ {P : Type 0} (m : Device P) where
+  abbrev link : World (Spot P) ⊤
+  link = this_link m
 
--- each output event of a dialog that prints what is true is true at that moment
-all_true : (True : OutputEvent → Programmer → Type 0) {R : Type 0} (Now : Moment Programmer)
-    (After : End Programmer R) (k : ℕ) (d : Dialog OutputEvent R) (z : Spot Programmer)
-    → PrintsFrom device True Now After d z
-    → ReportsTrue device (λ q event. True event q) k d z.0 z.1
-all_true True Now After k (Done r) z h = tt
-all_true True Now After k (Emit event d) z h =
-    (h.0, all_true True (λ x. Now (event ∷ x)) (λ r x. After r (event ∷ x)) k d z h.1)
-all_true True Now After zero (Ask bytes go_on) z h = tt
-all_true True Now After (suc k) (Ask bytes go_on) z h = all_true True Now After k (go_on _) (link.after bytes z tt) h.1
+  -- each output event of a dialog that prints what is true is true at that moment
+  all_true : (True : OutputEvent → P → Type 0) {R : Type 0} (Now : Moment P) (After : End P R) (k : ℕ)
+      (d : Dialog OutputEvent R) (z : Spot P) → PrintsFrom m True Now After d z
+      → ReportsTrue m (λ q event. True event q) k d z.0 z.1
+  all_true True Now After k (Done r) z h = tt
+  all_true True Now After k (Emit event d) z h =
+      (h.0, all_true True (λ x. Now (event ∷ x)) (λ r x. After r (event ∷ x)) k d z h.1)
+  all_true True Now After zero (Ask bytes go_on) z h = tt
+  all_true True Now After (suc k) (Ask bytes go_on) z h =
+      all_true True Now After k (go_on _) (link.after bytes z tt) h.1
 
-hold_on : (T : OutputEvent → Programmer → Type 0) (xs ys : List OutputEvent) (q : Programmer) → AllTrue T xs q
-    → AllTrue T ys q → AllTrue T (xs ++ ys) q
-hold_on T [] ys q f g = g
-hold_on T (x ∷ xs) ys q f g = (f.0, hold_on T xs ys q f.1 g)
+module _ {P : Type 0} (T : OutputEvent → P → Type 0) where
+  hold_on : (xs ys : List OutputEvent) (q : P) → AllTrue T xs q → AllTrue T ys q → AllTrue T (xs ++ ys) q
+  hold_on [] ys q f g = g
+  hold_on (x ∷ xs) ys q f g = (f.0, hold_on xs ys q f.1 g)
 
-hold_unless : (T : OutputEvent → Programmer → Type 0) (b : Bool) (x : OutputEvent) (q : Programmer) → T x q
-    → AllTrue T (if b then [] else x ∷ []) q
-hold_unless T true x q t = tt
-hold_unless T false x q t = (t, tt)
+  hold_unless : (b : Bool) (x : OutputEvent) (q : P) → T x q → AllTrue T (if b then [] else x ∷ []) q
+  hold_unless true x q t = tt
+  hold_unless false x q t = (t, tt)
 
-module _ (plan : Plan) (sound : IsPart plan.part) (m0 : Memories) (f0 : FitsPart plan.part m0) where
-  abbrev real : Real plan.part
-  real = emulated plan.part sound
+module _ (plan : Plan) (sound : IsPart plan.part) (real : Real plan.part) (m0 : Memories)
+    (f0 : FitsPart plan.part m0) where
+  abbrev pub T : OutputEvent → real.P → Type 0
+  T event q = IsTrueReport plan m0 (real.memories q) event
 
-  abbrev pub T : OutputEvent → Programmer → Type 0
-  T event q = IsTrueReport plan m0 (memories_of q.chip) event
-
-  informs_hold : (quiet : ℕ) (pieces : List Bytes) (q : Programmer) → T (PrintsLine (information pieces)) q
+  informs_hold : (quiet : ℕ) (pieces : List Bytes) (q : real.P) → T (PrintsLine (information pieces)) q
       → AllTrue T (informs quiet pieces) q
   informs_hold quiet pieces q t = hold_unless T (nat_lt 0 quiet) (PrintsLine (information pieces)) q t
 
-  counts_hold : (mem : Mem) (count : ℕ) (done_text : Bytes) (q : Programmer) → T (count_line mem count done_text) q
+  counts_hold : (mem : Mem) (count : ℕ) (done_text : Bytes) (q : real.P) → T (count_line mem count done_text) q
       → AllTrue T (bytes_output plan.switches.quiet mem count done_text) q
   counts_hold mem count done_text q t = search (rules, informs_hold)
 
-  failed : (fault : StepFault) (q : Programmer) → AllTrue T (PrintsLine (fault_line plan.part (host_fault fault))
+  failed : (fault : StepFault) (q : real.P) → AllTrue T (PrintsLine (fault_line plan.part (host_fault fault))
       ∷ []) q
   failed fault q = (StepFailed fault refl, tt)
 
   -- ---- the opening
 
-  own_signature : (quiet : ℕ) (q : Programmer) → AllTrue T (opening_output quiet plan.part (Ok plan.part.signature)) q
+  own_signature : (quiet : ℕ) (q : real.P) → AllTrue T (opening_output quiet plan.part (Ok plan.part.signature)) q
   own_signature quiet q = search (rules, hold_on, informs_hold, bytes_same)
 
   -- ---- the actions after it
 
-  compared_now : (mem : Mem) (image : Image) (q : Programmer) → Contains (actions plan) (CompareImage mem image)
-      → (r : Result ⊤ HostFault) → comparison mem image (memory_in plan.part mem (memories_of q.chip)) ≡ r
+  compared_now : (mem : Mem) (image : Image) (q : real.P) → Contains (actions plan) (CompareImage mem image)
+      → (r : Result ⊤ HostFault) → comparison mem image (memory_in plan.part mem (real.memories q)) ≡ r
       → AllTrue T (verified_output plan.switches.quiet plan.part mem image r) q
   compared_now mem image q has (Ok a) e =
       counts_hold mem (byte_count image) (codes " bytes verified") q
       (BytesVerified mem image has refl
-      (no_difference 0 image (memory_in plan.part mem (memories_of q.chip))
-      (no_difference_if_fine mem (difference_from 0 image (memory_in plan.part mem (memories_of q.chip)))
+      (no_difference 0 image (memory_in plan.part mem (real.memories q))
+      (no_difference_if_fine mem (difference_from 0 image (memory_in plan.part mem (real.memories q)))
       (ap standing e))))
   compared_now mem image q has (Err fault) e = (Differed mem image fault has refl e, tt)
 
-  saved_now : (b : Bool) (mem : Mem) (format : Format) (file : Bytes) (q : Programmer)
+  saved_now : (b : Bool) (mem : Mem) (format : Format) (file : Bytes) (q : real.P)
       → Contains (actions plan) (SaveMemory mem format file) → (text : Bytes)
-      → text ≡ file_text format (saved_bytes plan mem (memories_of q.chip))
+      → text ≡ file_text format (saved_bytes plan mem (real.memories q))
       → AllTrue T (if b then WritesOutput text ∷ [] else CreatesFile file ∷ WritesFile text ∷ []) q
   saved_now true mem format file q has text e = (BytesSaved mem format file has (inr (inr (ap WritesOutput e))), tt)
   saved_now false mem format file q has text e =
       (BytesSaved mem format file has (inl refl), (BytesSaved mem format file has (inr (inl (ap WritesFile e))), tt))
 
-  written_now : (mem : Mem) (image : Image) (first later : List Item) (q : Programmer)
+  written_now : (mem : Mem) (image : Image) (first later : List Item) (q : real.P)
       → items plan ≡ first ++ Write mem image ∷ later
-      → memories_of q.chip ≡ effects plan.part (Write mem image ∷ []) (effects plan.part first m0)
+      → real.memories q ≡ effects plan.part (Write mem image ∷ []) (effects plan.part first m0)
       → AllTrue T (written_output plan.switches.quiet plan.part mem image (Ok tt)) q
   written_now mem image first later q order is =
       counts_hold mem (byte_count image) (codes " bytes written") q
@@ -149,15 +147,15 @@ module _ (plan : Plan) (sound : IsPart plan.part) (m0 : Memories) (f0 : FitsPart
       by_kind (CompareImage mem image) fits has order = λ q is.
           subst (λ z. AllTrue T (verified_output plan.switches.quiet plan.part mem image
           (comparison mem image (memory_in plan.part mem z))) q) is
-          (compared_now mem image q has (comparison mem image (memory_in plan.part mem (memories_of q.chip))) refl)
+          (compared_now mem image q has (comparison mem image (memory_in plan.part mem (real.memories q))) refl)
       by_kind (SaveMemory mem format file) fits has order = λ q is.
           subst (λ z. AllTrue T (read_output plan.switches mem format file (memory_in plan.part mem z)) q) is
-          (hold_on T (saving_output file (file_text format (saved_bytes plan mem (memories_of q.chip))))
-          (bytes_output plan.switches.quiet mem (length (saved_bytes plan mem (memories_of q.chip)))
+          (hold_on T (saving_output file (file_text format (saved_bytes plan mem (real.memories q))))
+          (bytes_output plan.switches.quiet mem (length (saved_bytes plan mem (real.memories q)))
           (codes " bytes read")) q
           (saved_now (bytes_eq file (codes "-")) mem format file q has
-          (file_text format (saved_bytes plan mem (memories_of q.chip))) refl)
-          (counts_hold mem (length (saved_bytes plan mem (memories_of q.chip))) (codes " bytes read") q
+          (file_text format (saved_bytes plan mem (real.memories q))) refl)
+          (counts_hold mem (length (saved_bytes plan mem (real.memories q))) (codes " bytes read") q
           (BytesRead mem format file has refl)))
       by_kind (SkipAction SkippedErase) fits has order = λ q is.
           hold_unless T (nat_lt 1 plan.switches.quiet) (PrintsLine (warning (codes "chip not erased because of -n"
@@ -181,31 +179,26 @@ module _ (plan : Plan) (sound : IsPart plan.part) (m0 : Memories) (f0 : FitsPart
 
   -- ---- a session
 
-  -- over any link, or if no step fails
-  pub session_prints_true : All (IsFitted plan.part) plan.tasks → (At : Memories → Spot Programmer → Type 0)
-      (Fails : Type 0) → Passes plan.part real plan.switches At Fails → (z : Spot Programmer)
-      → Comes plan.part real plan.switches At Fails OpenSession m0 z
-      → Prints device T (AtMoment plan real m0) (AtEnd plan real m0 Fails) (session plan) z
-  session_prints_true fitted At Fails pass z opened =
-      session_prints plan sound real fitted T failed
-      (λ q. informs_hold plan.switches.quiet (codes "done" ∷ []) q (SessionDone refl)) At Fails pass m0 f0
-      (actions_work plan.part sound (work plan) m0)
-      (λ q is. own_signature plan.switches.quiet q)
-      (actions_true (work plan) (OpenSession ∷ []) (work_fits plan fitted) refl) z opened
+  pub session_reports : All (IsFitted plan.part) plan.tasks → AllWork real signature_steps m0
+      → ActionsWork real (work plan) m0 → (k : ℕ) (p : real.P) (exchanges : List Exchange) → HasMemories real m0 p
+      → ReportsTrue real.device (λ q event. IsTrueReport plan m0 (real.memories q) event) k (session plan) p exchanges
+  session_reports fitted signs works k p exchanges idle =
+      all_true real.device T (AtMoment plan real m0) (AtEnd plan real m0 ⊤) k (session plan) (p, exchanges) prints.holds
+    where
+      prints : Prints real.device T (AtMoment plan real m0) (AtEnd plan real m0 ⊤) (session plan) (p, exchanges)
+      prints =
+          session_prints plan sound real fitted T failed
+          (λ q. informs_hold plan.switches.quiet (codes "done" ∷ []) q (SessionDone refl))
+          (λ m z. Settled real m z.0) ⊤ (anyhow plan.part sound real plan.switches) m0 f0 works
+          (λ q is. own_signature plan.switches.quiet q)
+          (actions_true (work plan) (OpenSession ∷ []) (work_fits plan fitted) refl) (p, exchanges)
+          (on_link real.device (opening_comes plan.part sound real plan.switches m0 f0 signs p idle))
 
-  pub session_goes : All (IsFitted plan.part) plan.tasks → (p : Programmer) (exchanges : List Exchange)
-      → HasMemories plan.part m0 p
-      → Prints device T (AtMoment plan real m0) (AtEnd plan real m0 ⊤) (session plan) (p, exchanges)
-  session_goes fitted p exchanges idle =
-      session_prints_true fitted (λ m z. Settled plan.part m z.0) ⊤ (anyhow plan.part sound real plan.switches) (
-        p,
-        exchanges,
-      ) (on_link device (opening_comes plan.part sound real plan.switches m0 f0
-      (all_work plan.part sound signature_steps m0) p idle))
-
-  pub session_reports : All (IsFitted plan.part) plan.tasks → (k : ℕ) (p : Programmer) (exchanges : List Exchange)
-      → HasMemories plan.part m0 p
-      → ReportsTrue device (λ q event. IsTrueReport plan m0 (memories_of q.chip) event) k (session plan) p exchanges
-  session_reports fitted k p exchanges idle =
-      all_true T (AtMoment plan real m0) (AtEnd plan real m0 ⊤) k (session plan) (p, exchanges)
-      (session_goes fitted p exchanges idle).holds
+-- so at the emulated programmer
+pub emulated_reports : (plan : Plan) → IsPart plan.part → All (IsFitted plan.part) plan.tasks → (m : Memories)
+    → FitsPart plan.part m → (k : ℕ) (p : Programmer) (exchanges : List Exchange)
+    → of_emulated.HasMemories plan.part m p
+    → ReportsTrue device (λ q event. IsTrueReport plan m (memories_of q.chip) event) k (session plan) p exchanges
+emulated_reports plan sound fitted m f k p exchanges idle =
+    session_reports plan sound (emulated plan.part sound) m f fitted (all_work plan.part sound signature_steps m)
+    (actions_work plan.part sound (work plan) m) k p exchanges idle

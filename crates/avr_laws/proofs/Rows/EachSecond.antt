@@ -1,11 +1,10 @@
 -- A programmer that refuses each second command keeps the table, if it otherwise does as one that keeps it. A refused
 -- LOAD_ADDRESS leaves the address of an earlier one.
-use Rattle.std.proofs.Common.{◌≡◌, ◌⊎◌, ◌∙◌, inl, inr, ℕ, List, [], ◌∷◌, ◌++◌, length, refl, sym, ap, subst, arith, Bool, true, false, Option, Some, None}
+use Rattle.std.proofs.Common.{◌≡◌, ◌⊎◌, inl, inr, ℕ, List, [], ◌∷◌, length, refl, ap, arith, Bool, true, false, Option, Some, None}
 use Rattle.std.specs.Prelude.{slice_index}
 use Rattle.avr_part.specs.Part.{Part}
 use Rattle.stk_emu.specs.Device.{Device}
 use Rattle.stk_emu.specs.Effect.{Memories, effects}
-use Rattle.stk_emu.specs.Settled.{FitsPart}
 use Rattle.avr_laws.specs.Table.{IsDoneOrNot, IsLoaded, IsProgrammer, RefusesRow, IsRow, Row, Stands, addressed, enter_body, load_body, ErasesChip, WritesFlashPage, WritesEepromRun, WritesFuse, WritesLock, ReadsFlash, ReadsEeprom, ReadsFuse, ReadsLock, ReadsSignature, ReadsCalibration}
 
 -- the second byte of a good reply is 0

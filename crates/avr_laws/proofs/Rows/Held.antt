@@ -4,6 +4,7 @@ use Rattle.std.specs.List.{list_all}
 use Rattle.std.specs.Prelude.{codes, nat_lt, pos}
 use Rattle.hex.specs.Hex.{decode_pairs}
 use Rattle.toml.specs.Data.{Members, integer, member, no_members, string}
+use Rattle.avr_image.specs.Image.{image_of_pairs}
 use Rattle.avr_part.specs.BuiltIn.{m328p}
 use Rattle.avr_part.specs.Part.{IsPart, Part}
 use Rattle.avr_records.specs.declared.kind.Found.TheVariants as file
@@ -40,6 +41,55 @@ an_s_record = ((1, 5) ∷ [], refl, refl, refl)
 pub wrong_sum : (image : List (Option ℕ)) → HoldsRecords Ihex (codes ":0100000005FB\n") 2 image → ⊥
 unfolding decode_pairs
 wrong_sum image has = search rules
+
+-- ---- the other rows of Intel HEX in README's table
+
+pub bytes_behind_offset : HoldsRecords Ihex (codes ":0300100041424327\n:00000001FF\n") 32
+    (image_of_pairs 32 ((0x10, 65) ∷ (0x11, 66) ∷ (0x12, 67) ∷ []))
+unfolding decode_pairs
+bytes_behind_offset = ((0x10, 65) ∷ (0x11, 66) ∷ (0x12, 67) ∷ [], refl, refl, refl)
+
+pub base_of_segment : HoldsRecords Ihex (codes ":020000021200EA\n:0100000007F8\n:00000001FF\n") 131072
+    (image_of_pairs 131072 ((0x12000, 7) ∷ []))
+unfolding decode_pairs
+base_of_segment = ((0x12000, 7) ∷ [], refl, refl, refl)
+
+pub wrapped_in_segment : HoldsRecords Ihex (codes ":020000021200EA\n:02FFFF000102FD\n:00000001FF\n") 262144
+    (image_of_pairs 262144 ((0x21fff, 1) ∷ (0x12000, 2) ∷ []))
+unfolding decode_pairs
+wrapped_in_segment = ((0x21fff, 1) ∷ (0x12000, 2) ∷ [], refl, refl, refl)
+
+pub linear_base : HoldsRecords Ihex (codes ":020000040001F9\n:0100000007F8\n:00000001FF\n") 131072 (image_of_pairs
+    131072 ((0x10000, 7) ∷ []))
+unfolding decode_pairs
+linear_base = ((0x10000, 7) ∷ [], refl, refl, refl)
+
+pub not_wrapped : HoldsRecords Ihex (codes ":02FFFF000102FD\n:00000001FF\n") 131072
+    (image_of_pairs 131072 ((0xffff, 1) ∷ (0x10000, 2) ∷ []))
+unfolding decode_pairs
+not_wrapped = ((0xffff, 1) ∷ (0x10000, 2) ∷ [], refl, refl, refl)
+
+pub starts_mean_nothing : HoldsRecords Ihex (codes ":0400000300003800C1\n:04000005000000CD2A\n:00000001FF\n") 2 (None
+    ∷ None ∷ [])
+unfolding decode_pairs
+starts_mean_nothing = ([], refl, refl, refl)
+
+pub later_over_earlier : HoldsRecords Ihex (codes ":0100000005FA\n:0100000006F9\n:00000001FF\n") 2 (Some 6 ∷ None ∷ [])
+unfolding decode_pairs
+later_over_earlier = ((0, 5) ∷ (0, 6) ∷ [], refl, refl, refl)
+
+pub nothing_behind_end : HoldsRecords Ihex (codes ":0100000005FA\n:00000001FF\n:0100000006F9\nmore\n") 2 (Some 5 ∷
+    None ∷ [])
+unfolding decode_pairs
+nothing_behind_end = ((0x0, 5) ∷ [], refl, refl, refl)
+
+pub byte_missing : (image : List (Option ℕ)) → HoldsRecords Ihex (codes ":0200000005F9\n:00000001FF\n") 2 image → ⊥
+unfolding decode_pairs
+byte_missing image has = search rules
+
+pub outside_memory : (image : List (Option ℕ)) → HoldsRecords Ihex (codes ":0100020005F8\n:00000001FF\n") 2 image → ⊥
+unfolding decode_pairs
+outside_memory image has = search rules
 
 -- ---- raw bytes
 

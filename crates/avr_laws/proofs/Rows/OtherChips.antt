@@ -1,7 +1,7 @@
 -- Programmers other than the emulated one that keep the table as far as a sheet vouches for it. The chip of one has a
 -- calibration of its own, so it doesn't keep the whole table. The extended fuse of another keeps five bits. A third
 -- refuses each second command.
-use Rattle.std.proofs.Common.{◌≡◌, ◌⊎◌, ◌∙◌, inl, inr, ℕ, List, [], ◌∷◌, length, refl, sym, ap, subst, Bool, true, false, Option, Some, None}
+use Rattle.std.proofs.Common.{◌≡◌, ◌⊎◌, ◌∙◌, inl, inr, ℕ, List, [], ◌∷◌, refl, sym, ap, subst, Bool, true, Option, Some, None}
 use Rattle.std.specs.Prelude.{◌==◌, ◌&&◌, bit_or, slice_index, if◌then◌else◌}
 use Rattle.avr_part.specs.declared.part.Mem.{Mem}
 use Rattle.avr_part.specs.declared.part.Mem.TheVariants.{Efuse}

@@ -1,7 +1,7 @@
 -- Nothing in the promise is empty. First a run that meets all its premises, and what this run kept. It is `-p m328p
 -- -U lfuse:w:0xE2:m` over a fresh chip, on a link that loses nothing. Then worlds that meet relations of the law, and
 -- worlds that these refuse. docs/PROOFS.md has the table.
-use Rattle.std.proofs.Common.{◌≡◌, ◌∙◌, ap, sym, subst, refl, arith, rules, ℕ, true, ◌<◌, List, [], ◌∷◌, ◌++◌, length, append-nil, Option, Some, None, Result, Ok}
+use Rattle.std.proofs.Common.{◌≡◌, ◌∙◌, ap, sym, subst, refl, arith, rules, inl, inr, ℕ, true, ◌<◌, List, [], ◌∷◌, ◌++◌, length, append-nil, Option, Some, None, Result, Ok, append_assoc}
 use lib.Utf8.{encode}
 use Rattle.std.proofs.lemmas.List.{length-replicate}
 use Rattle.std.proofs.lemmas.List.Elements.{All-cons, All-nil, All-replicate}
@@ -11,9 +11,10 @@ use Rattle.std.specs.declared.io.Read.{Ghosts as Reads}
 use Rattle.std.specs.declared.io.Write.{Ghosts as Writes}
 use Rattle.clap.specs.Takes.{flags_pass, walk_passes}
 use Rattle.clap.specs.Walk.{bundle_met, walked}
-use Rattle.clap.specs.Words.{takes}
+use Rattle.clap.specs.Words.{first_of, matches_of, takes}
 use Rattle.avr_plan.specs.Command.{avrstk, options, settings_from_arguments}
-use Rattle.avr_plan.specs.declared.settings.Port.TheVariants.{Stdio, Emulated, Network}
+use Rattle.avr_plan.specs.Settings.{no_switches}
+use Rattle.avr_plan.specs.declared.settings.Port.TheVariants.{Stdio, Emulated, Network, Served}
 use Rattle.avr_plan.specs.declared.settings.Settings.{Settings}
 use Rattle.avr_plan.specs.declared.settings.SettingsFault.{SettingsFault}
 use Rattle.avr_plan.specs.declared.update.Format.TheVariants.{Immediate}
@@ -52,9 +53,10 @@ use Rattle.stk_emu.specs.Programmer.{Programmer}
 use Rattle.stk_frame.specs.Cut.{frames}
 use Rattle.stk_frame.specs.Frame.{frame}
 use Rattle.stk_host.specs.Dialog.{Dialog, Done, Emit, Ask, bytes_sent, frames_in, next, outputs, played}
-use Rattle.stk_host.specs.Links.{StreamState, TranscriptIsTrueSince}
+use Rattle.stk_host.specs.Links.{StreamState, EachTimedOut, TimedOutAfter, TranscriptIsTrueSince}
 use Rattle.stk_host.specs.Operations.{handshake, opening, closing, operation}
 use Rattle.stk_host.specs.Steps.{exchange, attempt, attempts_or_fault, play}
+use Rattle.stk_host.specs.declared.link.Item.TheVariants.{Byte, Silence, End}
 use Rattle.stk_host.specs.Tape.{Replied, Tape, answer, bytes_on_tape, on_tape}
 use Rattle.stk_host.specs.Transcript.{LinkState, Transcript, Sent, Got, heard, sent}
 use Rattle.avr_tool.proofs.OverFaultyLink.FrameSizes.{session_asks}
@@ -63,15 +65,17 @@ use Rattle.avr_tool.specs.Items.{asked_items}
 use Rattle.avr_tool.specs.Sockets.{IsOverAddress}
 use Rattle.avr_tool.specs.Written.{IsWritten}
 use Rattle.avr_tool.specs.declared.network.Network.{Ghosts as Networks}
+use Rattle.avr_laws.proofs.Asked.Settings.{serves_or_asks, settings_are, settings_read}
 use Rattle.avr_laws.proofs.KnownFiles.OneOutcome.{run_more}
 use Rattle.avr_laws.proofs.Lines.Damaged.{brings_no_frame}
 use Rattle.avr_laws.proofs.Outcomes.Kept.{its_none_forged, kept}
 use Rattle.avr_laws.proofs.Held.Chip.{from_file}
 use Rattle.avr_laws.proofs.Rows.Held.{one_value}
 use Rattle.avr_laws.proofs.Rows.Kept.{executed, programmer, reading_plan, worked_came, worked_forges_none}
-use Rattle.avr_laws.proofs.TwoProcesses.PerfectLine.{calls_of, host_in_turn}
+use Rattle.avr_laws.proofs.Rows.PerfectLine.{perfect_transcript, in_turn}
 use Rattle.avr_laws.specs.AnyTape.{ReceivedSentFrames, after_received_bytes}
 use Rattle.avr_laws.specs.AskedPlan.{FileGave, GivesText, IsAsked}
+use Rattle.avr_laws.specs.AskedSettings.{AsksFor, AsksToServe}
 use Rattle.avr_laws.specs.ChipFound.{IsChipInFile}
 use Rattle.avr_laws.specs.Damaged.{Arrival, FrameArrives, BringsReplies, tape_of_arrivals}
 use Rattle.avr_laws.specs.Kept.{FilesAreSaved, HasGeometryOf, IsKept, Keeps, KeepsOnPart, NoneForged, PlanAgrees, saved_files}
@@ -84,7 +88,6 @@ use Rattle.avr_laws.proofs.Table.Emulated.{emulated_meets}
 use Rattle.avr_laws.proofs.Table.Kept.{kept_by_any}
 use Rattle.avr_tool.proofs.Given.FirstSteps.{sound_fits, sound_idle}
 use Rattle.avr_laws.specs.KeptByPort.{ConnectionState, IsKeptInFile, KeepsCommandLine, KeepsPlanAt}
-use Rattle.avr_laws.specs.TwoProcesses.{host_transcript}
 use Rattle.avr_laws.specs.Worked.{fuse_plan, worked_frames, worked_replies, worked_settings}
 
 -- ---- the run
@@ -97,9 +100,8 @@ settings = record worked_settings {
 abbrev plan : Plan
 plan = record { part = m328p; tasks = Write Lfuse (Some 0xE2 ∷ []) ∷ []; switches = worked_settings.switches }
 
--- each frame is received and replied to at once
 abbrev passed : Transcript
-passed = host_transcript (calls_of (session plan) 1 programmer)
+passed = perfect_transcript (session plan) 1 programmer
 
 abbrev executions : List Execution
 executions = Executed ∷ Executed ∷ Executed ∷ Executed ∷ Executed ∷ Executed ∷ Executed ∷ Executed ∷ []
@@ -113,7 +115,7 @@ sends : (openings : List Opening) → bytes_sent (run settings openings (heard p
 unfolding session opening handshake operation closing play attempts_or_fault attempt exchange answer
 sends openings = refl
 
-is_part : IsPart m328p
+pub is_part : IsPart m328p
 is_part = search rules
 
 asks : SendsValidBodies (session plan)
@@ -134,7 +136,7 @@ ran = record {
   next = 9;
   left = [];
   is = λ later more. run_more settings later (heard passed) more 0 9 [] (succeeds later);
-  in_turn = λ later. host_in_turn (session plan) 1 programmer asks;
+  in_turn = λ later. in_turn (session plan) 1 programmer asks;
   all_sent = sends [];
   grows = refl;
   kept = refl;
@@ -251,7 +253,7 @@ run_is_kept_by_any =
 pub rows_kept : IsProgrammer m328p device chip_memories (HasPart m328p) (HasEmptyBuffers m328p) (IsVouched whole m328p)
 rows_kept = emulated_meets m328p is_part (IsVouched whole m328p)
 
-is_in : HasPart m328p programmer
+pub is_in : HasPart m328p programmer
 is_in =
     let idle = sound_idle programmer chip_is_sound in
     record { part_is = idle.part_is; flash_buffer = idle.flash_buffer; eeprom_buffer = idle.eeprom_buffer }
@@ -364,6 +366,9 @@ chip_unsaved name other old new none kept =
 abbrev reads : Reads (List ℕ)
 reads = record { remaining = λ unread. Some unread }
 
+abbrev timed_out : List ℕ → Type 0
+timed_out reader = Unit {0}
+
 abbrev writes : Writes (List ℕ)
 writes = record { contents = λ taken. Some taken }
 
@@ -371,15 +376,56 @@ abbrev streams : List ℕ → List ℕ → Transcript → StreamState (List ℕ)
 streams unread taken transcript =
     record { reader = unread; writer = taken; failures = 0; last_error = None; transcript = transcript }
 
-pub all_passed : (during : Transcript) → TranscriptIsTrueSince reads.remaining writes.contents
-    (streams (bytes_on_tape (heard during)) [] []) (streams [] (sent during) during)
-all_passed during = search (rules, append-nil)
+each_timeout : (before : List ℕ) (tape : Tape)
+    → EachTimedOut (TimedOutAfter reads.remaining timed_out (before ++ bytes_on_tape tape)) before tape
+each_timeout before [] = tt
+each_timeout before (Silence ∷ tape) = ((bytes_on_tape tape, tt, refl), each_timeout before tape)
+each_timeout before (Byte byte ∷ tape) =
+    subst
+    (λ (bytes : List ℕ). EachTimedOut (TimedOutAfter reads.remaining timed_out bytes) (before ++ byte ∷ []) tape)
+    (append_assoc before (byte ∷ []) (bytes_on_tape tape)) (each_timeout (before ++ byte ∷ []) tape)
+each_timeout before (End ∷ tape) = each_timeout before tape
 
-pub byte_lost : TranscriptIsTrueSince reads.remaining writes.contents (streams [] [] [])
+pub all_passed : (during : Transcript) → TranscriptIsTrueSince reads.remaining timed_out writes.contents
+    (streams (bytes_on_tape (heard during)) [] []) (streams [] (sent during) during)
+all_passed during = let paused = each_timeout [] (heard during) in search (rules, append-nil)
+
+pub byte_lost : TranscriptIsTrueSince reads.remaining timed_out writes.contents (streams [] [] [])
     (streams [] [] (Sent (0 ∷ []) ∷ [])) → ⊥
 byte_lost truly =
     let none : 0 ≡ 1 = ap (λ (bytes : List ℕ). length bytes) (truly.took ∙ ap sent (sym truly.grows)) in
     omega (arith, none)
+
+-- a reader that times out only after its last byte
+abbrev spent : List ℕ → Type 0
+spent unread = unread ≡ []
+
+pub pause_passed : TranscriptIsTrueSince reads.remaining spent writes.contents (streams (0 ∷ []) [] [])
+    (streams [] [] (Got (Byte 0 ∷ Silence ∷ []) ∷ []))
+pause_passed = record {
+  during = Got (Byte 0 ∷ Silence ∷ []) ∷ [];
+  grows = refl;
+  gave = refl;
+  paused = (([], refl, refl), tt);
+  took = refl;
+  counted = omega arith;
+}
+
+-- the timeout before that byte
+pub pause_moved : TranscriptIsTrueSince reads.remaining spent writes.contents (streams (0 ∷ []) [] [])
+    (streams [] [] (Got (Silence ∷ Byte 0 ∷ []) ∷ [])) → ⊥
+pause_moved truly =
+    let first = (subst (λ (during : Transcript). EachTimedOut (TimedOutAfter reads.remaining spent (0 ∷ [])) []
+    (heard during)) (sym truly.grows) truly.paused).0 in
+    let none : 1 ≡ 0 = ap (λ (bytes : List ℕ). length bytes) (first.2 ∙ first.1) in
+    omega (arith, none)
+
+-- a timeout that no reader had
+pub pause_made_up : TranscriptIsTrueSince reads.remaining (λ reader. ⊥) writes.contents (streams [] [] [])
+    (streams [] [] (Got (Silence ∷ []) ∷ [])) → ⊥
+pause_made_up truly =
+    (subst (λ (during : Transcript). EachTimedOut (TimedOutAfter reads.remaining (λ (reader : List ℕ). ⊥) []) []
+    (heard during)) (sym truly.grows) truly.paused).0.1
 
 abbrev address : Bytes
 address = codes "here:1"
@@ -394,11 +440,11 @@ network = record {
 }
 
 pub connected : (during : Transcript)
-    → IsOverAddress network reads writes (λ side. Unit {0}) address (Some (link_state during 0))
+    → IsOverAddress network reads timed_out writes (λ side. Unit {0}) address (Some (link_state during 0))
 connected during = search (rules, all_passed during)
 
 pub elsewhere : (now : LinkState)
-    → IsOverAddress network reads writes (λ side. Unit {0}) (codes "away:1") (Some now) → ⊥
+    → IsOverAddress network reads timed_out writes (λ side. Unit {0}) (codes "away:1") (Some now) → ⊥
 elsewhere now over =
     let first : 97 ≡ 104 = ap (λ (name : Bytes). get_or name 0 0) over.new.reader in omega (arith, first)
 
@@ -466,8 +512,8 @@ call_unrecorded truly =
 pub over_streams : (At : ConnectionState) → KeepsPlanAt Any At Stdio settings passed nothing_kept reported.kept
 over_streams At = (plan, (plan_asked (FileGave nothing_kept reported.kept), run_is_kept_by_any))
 
-pub over_network : KeepsPlanAt Any (IsOverAddress network reads writes (λ side. Unit {0})) (Network address) settings
-    [] nothing_kept reported.kept
+pub over_network : KeepsPlanAt Any (IsOverAddress network reads timed_out writes (λ side. Unit {0})) (Network address)
+    settings [] nothing_kept reported.kept
 over_network = (
   refl,
   (
@@ -514,9 +560,58 @@ words_read : settings_from_arguments words ≡ Ok settings
 unfolding avrstk options bundle_met walked chars encode
 words_read = refl
 
+none_serves : first_of (codes "serve") (matches_of avrstk words) ≡ None
+unfolding avrstk options bundle_met walked chars encode
+none_serves = refl
+
+pub settings_asked : AsksFor (matches_of avrstk words) settings
+settings_asked = settings_are (matches_of avrstk words) settings words_read none_serves
+
+-- these words name another part
+pub part_unasked : AsksFor (matches_of avrstk words) unknown → ⊥
+part_unasked asks =
+    let clash : ◌≡◌ {A = Option Bytes} (Some (codes "none")) (Some (codes "m328p")) =
+    sym asks.part ∙ settings_asked.part in
+    absurd (cc clash)
+
+-- a service, and a run that is none
+abbrev service_words : List Bytes
+service_words =
+    codes "avrstk" ∷ codes "-p" ∷ codes "m328p" ∷ codes "--serve" ∷ codes "5000" ∷ codes "--chip" ∷ codes "c.bin" ∷ []
+
+abbrev service : Settings
+service = record {
+  part = codes "m328p";
+  port = Served (codes "5000") (codes "c.bin");
+  parts = None;
+  updates = [];
+  switches = no_switches;
+}
+
+service_read : settings_from_arguments service_words ≡ Ok service
+unfolding avrstk options bundle_met walked chars encode
+service_read = refl
+
+service_given : first_of (codes "serve") (matches_of avrstk service_words) ≡ Some (codes "5000")
+unfolding avrstk options bundle_met walked chars encode
+service_given = refl
+
+pub service_asked : AsksToServe (matches_of avrstk service_words)
+service_asked = elim (serves_or_asks service_words service (sym service_read)) [
+  | inl (serves, named) ↦ serves
+  | inr asks ↦
+      let clash : ◌≡◌ {A = Option Bytes} (Some (codes "5000")) None = sym service_given ∙ asks.runs in
+      absurd (cc clash)
+]
+
+pub service_unasked : AsksToServe (matches_of avrstk words) → ⊥
+service_unasked serves =
+    let clash : ◌≡◌ {A = Option Bytes} None (Some serves.number.0) = sym none_serves ∙ serves.number.1 in
+    absurd (cc clash)
+
 pub line_kept : KeepsCommandLine Any (λ given. given ≡ words) (λ name seen. ⊥) passed nothing_kept
     reported.kept
-line_kept = (words, refl, λ taken. (settings, sym words_read, over_streams (λ name seen. ⊥)))
+line_kept = (words, refl, λ taken. inr (settings, settings_asked, over_streams (λ name seen. ⊥)))
 
 abbrev other_words : List Bytes
 other_words = codes "avrstk" ∷ codes "-p" ∷ codes "none" ∷ codes "-P" ∷ codes "stdio:" ∷ []
@@ -529,12 +624,23 @@ other_read : settings_from_arguments other_words ≡ Ok unknown
 unfolding avrstk options bundle_met walked chars encode
 other_read = refl
 
+none_serves_others : first_of (codes "serve") (matches_of avrstk other_words) ≡ None
+unfolding avrstk options bundle_met walked chars encode
+none_serves_others = refl
+
 ok_is : (a b : Settings) → ◌≡◌ {A = Result Settings SettingsFault} (Ok a) (Ok b) → a ≡ b
 ok_is a b e = cc
 
 pub line_unkept : (At : ConnectionState) (during : Transcript) (old new : Record)
     → KeepsCommandLine Any (λ given. given ≡ other_words) At during old new → ⊥
-line_unkept At during old new (given, is, keeps) =
-    let k = keeps (ap (takes avrstk) is ∙ other_taken) in
-    part_unknown At during old new (subst (λ (s : Settings). KeepsPlanAt Any At s.port s during old new)
-    (ok_is k.0 unknown (k.1 ∙ (ap settings_from_arguments is ∙ other_read))) k.2)
+line_unkept At during old new (given, is, keeps) = elim (keeps (ap (takes avrstk) is ∙ other_taken)) [
+  | inl (serves, none) ↦
+      let clash : ◌≡◌ {A = Option Bytes} None (Some serves.number.0) =
+      sym (ap (λ (w : List Bytes). first_of (codes "serve") (matches_of avrstk w)) is ∙ none_serves_others)
+      ∙ serves.number.1 in
+      absurd (cc clash)
+  | inr (s, asks, keeps_plan) ↦
+      part_unknown At during old new (subst (λ (s : Settings). KeepsPlanAt Any At s.port s during old new)
+      (ok_is s unknown (sym (settings_read (matches_of avrstk given) s asks) ∙ (ap settings_from_arguments is
+      ∙ other_read))) keeps_plan)
+]

@@ -1,5 +1,5 @@
 -- A dialog over a tape that carries a programmer's replies in their order, with timeouts between them. All that is read
--- is authentic, and if all came the dialog doesn't wait.
+-- is authentic.
 use Rattle.std.proofs.Common.{◌≡◌, ℕ, zero, suc, ◌+◌, ◌≤◌, List, [], ◌∷◌, ◌++◌, length, refl, sym, ap, ◌∙◌, subst, append_assoc, arith, inl, inr, ◌⊎◌, Option, Some, None, length-append, rules}
 use Rattle.std.specs.List.{concat}
 use Rattle.stk_frame.specs.Frame.{frame}
@@ -17,7 +17,7 @@ use Rattle.stk_emu.specs.Exchange.{Executed, WasExecuted, after_execution, IsAut
 use Rattle.stk_emu.proofs.Replies.BodySizes.{RepliesFitFrames}
 use Rattle.stk_emu.proofs.Wires.Arrivals.{none_skipped}
 use Rattle.avr_laws.specs.TwoProcesses.{all_executed}
-use Rattle.avr_laws.proofs.TwoProcesses.Slots.{Slot, slots_tape, came, IsStub, AreOld, IsOwn, all_older, old_and_own, Finds, FindsNone, Waits, Reads, reads}
+use Rattle.avr_laws.proofs.TwoProcesses.Slots.{Slot, slots_tape, came, IsStub, AreOld, IsOwn, all_older, old_and_own, Finds, FindsNone, Reads, reads}
 
 -- From here on at most this many commands of a dialog get no reply in a row, and never more than eight.
 abbrev pub MissesFew : {E R : Type 0} → ℕ → Dialog E R → Type 0
@@ -75,18 +75,10 @@ pub record ComesNone {E R P : Type 0} (m : Device P) (bytes : List ℕ) (go_on :
   pub brings : Brings m (go_on Silent) (next n) left
       (after_execution (first_execution (all_executed h)) (m.after bytes p) p m.reset) (one_less h) count more
 
-pub record StillWaits (n : ℕ) (tape : Tape) (h : ℕ) (more : List (List ℕ)) : Type 0 where
-  pub is : answer n tape ≡ None
-  pub none : more ≡ [] → h ≡ 0
-
 abbrev pub Comes : {E R P : Type 0} → Device P → List ℕ → (Reading → Dialog E R) → ℕ → Tape → P → ℕ → ℕ → List (List ℕ)
     → Type 0
 Comes m bytes go_on n tape p h count more =
-    ComesOwn m bytes go_on n tape p h more ⊎ (ComesNone m bytes go_on n tape p h count more ⊎ StillWaits n tape h more)
-
-no_middle : {A : Type 0} (xs : List A) (x : A) (ys : List A) → [] ≡ xs ++ x ∷ ys → ⊥
-no_middle [] x ys e = cc
-no_middle (y ∷ xs) x ys e = cc
+    ComesOwn m bytes go_on n tape p h more ⊎ (ComesNone m bytes go_on n tape p h count more ⊎ (answer n tape ≡ None))
 
 module _ {P : Type 0} (m : Device P) (sound : RepliesFitFrames m) where
   pub reply_is : (n : ℕ) (bytes : List ℕ) (p : P) → IsFrameBody bytes
@@ -189,15 +181,11 @@ module _ {P : Type 0} (m : Device P) (sound : RepliesFitFrames m) where
             };
           }
 
-      waits_for : (h : ℕ) (tape : Tape) (more : List (List ℕ)) (t : Tape) → t ≡ tape
-          → Waits n t more (due h (answer n tape)) → StillWaits n tape h more
-      waits_for h tape more t same f = search (rules, no_middle)
-
       by_reads : (h count missed length_old : ℕ) (tape : Tape) (last : List ℕ) (stub : IsStub last)
           (more : List (List ℕ)) (t : Tape) → t ≡ tape → missed + suc count ≡ 8 → length_old ≤ missed
           → Reads n missed length_old t last more (due h (answer n tape)) → Comes m bytes go_on n tape p h count more
       by_reads h count missed length_old tape last stub more t same counts le x12 =
-          search (rules, finds, finds_none, waits_for)
+          search (rules, finds, finds_none)
 
       pub asked : (h count : ℕ) (tape : Tape) (more : List (List ℕ))
           → Brings m (Ask bytes go_on) n tape p h (suc count) more → Comes m bytes go_on n tape p h count more
@@ -247,46 +235,12 @@ module _ {P : Type 0} (m : Device P) (sound : RepliesFitFrames m) where
   -- THE JOINT
   pub in_order_authentic : {E R : Type 0} (d : Dialog E R) (n : ℕ) → Authentic d n
   in_order_authentic (Done r) n tape p h left more b few asks = tt
-  in_order_authentic (Emit e d) n tape p h left more b few asks = in_order_authentic d n tape p h left more
-      (search rules) few asks
+  in_order_authentic (Emit e d) n tape p h left more b few asks =
+      search (rules, in_order_authentic d n tape p h left more (search rules) few asks)
   in_order_authentic (Ask bytes go_on) n tape p h zero more b few asks = absurd few
   in_order_authentic (Ask bytes go_on) n tape p h (suc count) more b few asks =
       authentic_by bytes go_on n tape p h count more (λ reading. in_order_authentic (go_on reading) (next n))
       (asked bytes go_on n p asks.0 h count tape more b) few asks
-
-  -- ---- if all came
-
-  abbrev Ends : {E R : Type 0} → Dialog E R → ℕ → Type 0
-  Ends d n = (tape : Tape) (p : P) (h left : ℕ) → Brings m d n tape p h left [] → MissesFew left d → SendsValidBodies d
-      → length (frames_in (played d n tape).events) ≤ h → (played d n tape).outcome ≡ None → ⊥
-
-  ends_by : {E R : Type 0} (bytes : List ℕ) (go_on : Reading → Dialog E R) (n : ℕ) (tape : Tape) (p : P) (h count : ℕ)
-      → ((reading : Reading) → Ends (go_on reading) (next n)) → Comes m bytes go_on n tape p h count []
-      → MissesFew (suc count) (Ask bytes go_on) → SendsValidBodies (Ask bytes go_on)
-      → suc (length (frames_in (continue_with_reading (λ reading. played (go_on reading) (next n))
-      (answer n tape)).events)) ≤ h → (continue_with_reading (λ reading. played (go_on reading) (next n))
-      (answer n tape)).outcome ≡ None → ⊥
-  ends_by bytes go_on n tape p h count each (inl c) few asks all none =
-      each (Replied (m.reply bytes p)) c.left (after_execution (first_execution (all_executed h)) (m.after bytes p) p
-      m.reset) (one_less h) 8 c.brings (few.0 (m.reply bytes p)) (asks.1 (Replied (m.reply bytes p)))
-      (search rules)
-      (ap (λ o. (continue_with_reading (λ reading. played (go_on reading) (next n)) o).outcome) (sym c.is) ∙ none)
-  ends_by bytes go_on n tape p h count each (inr (inl c)) few asks all none =
-      each Silent c.left (after_execution (first_execution (all_executed h)) (m.after bytes p) p m.reset) (one_less h)
-      count c.brings few.1 (asks.1 Silent)
-      (search rules)
-      (ap (λ o. (continue_with_reading (λ reading. played (go_on reading) (next n)) o).outcome) (sym c.is) ∙ none)
-  ends_by bytes go_on n tape p h count each (inr (inr c)) few asks all none = search rules
-
-  -- IT DOESN'T WAIT
-  pub in_order_ends : {E R : Type 0} (d : Dialog E R) (n : ℕ) → Ends d n
-  in_order_ends (Done r) n tape p h left b few asks all none = search rules
-  in_order_ends (Emit e d) n tape p h left b few asks all none = in_order_ends d n tape p h left
-      (search rules) few asks all none
-  in_order_ends (Ask bytes go_on) n tape p h zero b few asks all none = absurd few
-  in_order_ends (Ask bytes go_on) n tape p h (suc count) b few asks all none =
-      ends_by bytes go_on n tape p h count (λ reading. in_order_ends (go_on reading) (next n))
-      (asked bytes go_on n p asks.0 h count tape [] b) few asks all none
 
   -- ---- what was sent in order
 

@@ -1,17 +1,14 @@
 -- A host that runs a dialog, and a server, at the two ends of a link that keeps their bytes in order.
 use Rattle.std.proofs.lemmas.Grind.{common_steps}
-use Rattle.std.proofs.Common.{◌≡◌, ℕ, ◌≤◌, List, [], ◌∷◌, ◌++◌, length, refl, ap, ◌∙◌, subst, append_assoc, arith, Some, None, rules}
+use Rattle.std.proofs.Common.{◌≡◌, ℕ, List, [], ◌∷◌, ◌++◌, length, refl, ap, ◌∙◌, append_assoc, arith, rules}
 use Rattle.std.proofs.lemmas.List.{append-nil}
-use Rattle.std.proofs.lemmas.List.Elements.{filter-append}
 use Rattle.std.specs.List.{concat}
-use Rattle.std.specs.Prelude.{filter}
-use Rattle.stk_frame.specs.Cut.{cut, rest, frames, is_frame}
-use Rattle.stk_frame.proofs.Cuts.{cut_append}
+use Rattle.stk_frame.specs.Cut.{frames}
 use Rattle.stk_frame.proofs.Laws.{frame_is_piece, length_frame}
 use Rattle.stk_host.specs.Dialog.{Dialog, Event, played, frames_in, bytes_sent}
 use Rattle.stk_host.specs.Play.{IsBytePrefixOf}
 use Rattle.stk_host.specs.Transcript.{Transcript, sent, heard}
-use Rattle.stk_host.specs.Tape.{Tape, bytes_on_tape}
+use Rattle.stk_host.specs.Tape.{bytes_on_tape}
 use Rattle.stk_emu.specs.DialogOverExchanges.{SendsValidBodies}
 use Rattle.avr_laws.specs.AnyTape.{after_sent_frames}
 use Rattle.avr_tool.specs.Authentic.{RepliesAreAuthentic}
@@ -24,9 +21,8 @@ use Rattle.stk_emu.proofs.Replies.BodySizes.{replies_fit_frames, reply_fits_fram
 use Rattle.avr_tool.proofs.Lines.InTurn.{sends_whole, frames_prefix}
 use Rattle.avr_tool.specs.Serving.{HasNoEnd, RepliesToAll, LastReplyFailed, ServingLeaves}
 use Rattle.avr_tool.specs.declared.serving_link.Served.{Served}
-use Rattle.avr_laws.specs.TwoProcesses.{IsJoined, HasNoTimeout, TimesOutBetweenReplies, HasServed, all_executed}
-use Rattle.avr_laws.proofs.TwoProcesses.InOrder.{MissesFew, first_of, reply_frames, Brings, in_order_authentic, in_order_ends, replies_joined, after_first}
-use Rattle.avr_laws.proofs.TwoProcesses.NeverSilent.{Straight, goes_straight}
+use Rattle.avr_laws.specs.TwoProcesses.{IsJoined, TimesOutBetweenReplies, HasServed, all_executed}
+use Rattle.avr_laws.proofs.TwoProcesses.InOrder.{MissesFew, first_of, reply_frames, Brings, in_order_authentic, replies_joined, after_first}
 use Rattle.avr_laws.proofs.TwoProcesses.ReplyParts.{IsShort, AreShort, InSlots, parted}
 
 first_prefix : (xs ys : List (List ℕ)) → first_of (length xs) (xs ++ ys) ≡ xs
@@ -61,19 +57,6 @@ has_served served p transcript left l = search (rules, all_served, broken_served
 
 -- ---- both ends
 
--- the server executed the frames that it took, and this is its state after them
-pub meet_sent : (p left : Programmer) (host server : Transcript) (serves : HasServed p server left)
-    → IsJoined host server
-    → after_sent_frames device (frames (sent host)) (all_executed (length (frames serves.used))) p ≡ left
-meet_sent p left host server serves joined =
-    let arrived = length (frames serves.used) in
-    let more = serves.unused ++ joined.up.0 in
-    let all : serves.used ++ more ≡ sent host =
-    search (rules, append_assoc) in
-    let others = filter is_frame (cut (rest serves.used ++ more)) in
-    let first : first_of arrived (frames (sent host)) ≡ frames serves.used =
-    search (rules, cut_append, filter-append, first_prefix) in search (rules, after_first, replies_fit_frames)
-
 module _ {E R : Type 0} (d : Dialog E R) (asks : SendsValidBodies d) (p left : Programmer) (host server : Transcript)
     (serves : HasServed p server left) (joined : IsJoined host server)
     (plays : IsBytePrefixOf (sent host) (bytes_sent (played d 1 (heard host)).events)) where
@@ -105,7 +88,7 @@ module _ {E R : Type 0} (d : Dialog E R) (asks : SendsValidBodies d) (p left : P
     received_are : bytes_on_tape (heard host) ++ unreceived ≡ concat given
     received_are = search (rules, append_assoc, replies_joined, replies_fit_frames)
 
-    slots : InSlots [] (heard host) given unreceived
+    slots : InSlots [] (heard host) given
     slots = search (rules, parted, replies_short, received_are)
 
     brings : Brings device d 1 (heard host) p arrived 8 slots.more
@@ -113,17 +96,4 @@ module _ {E R : Type 0} (d : Dialog E R) (asks : SendsValidBodies d) (p left : P
 
     -- what the host reads is authentic, by what arrived
     pub meet_authentic : RepliesAreAuthentic device d 1 (heard host) p (all_executed arrived)
-    meet_authentic = in_order_authentic device replies_fit_frames d 1 (heard host) p arrived 8 slots.more brings few
-        asks
-
-    -- if all was received, the host doesn't wait
-    pub meet_ends : unreceived ≡ [] → length (frames_in events) ≤ arrived → (played d 1 (heard host)).outcome ≡ None → ⊥
-    meet_ends none all waits =
-        in_order_ends device replies_fit_frames d 1 (heard host) p arrived 8
-        (subst (λ more. Brings device d 1 (heard host) p arrived 8 more) (slots.complete none) brings) few asks all
-        waits
-
-    -- on a link without timeouts all goes straight
-    pub meet_straight : HasNoTimeout (heard host) → (r : R) (seq : ℕ) (unread : Tape)
-        → (played d 1 (heard host)).outcome ≡ Some (r, seq, unread) → Straight device d 1 (heard host) p arrived r
-    meet_straight prompt r seq unread e = search (rules, goes_straight, replies_fit_frames, brings)
+    meet_authentic = search (rules, in_order_authentic, replies_fit_frames, brings)

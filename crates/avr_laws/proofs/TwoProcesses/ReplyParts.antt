@@ -1,5 +1,5 @@
 -- Bytes of replies in their order, with timeouts between them, are slots of a tape.
-use Rattle.std.proofs.Common.{◌≡◌, ℕ, suc, ◌≤◌, ◌<◌, List, [], ◌∷◌, ◌++◌, length, take, drop, refl, sym, ap, ◌∙◌, append_assoc, arith, inl, inr, length-append, rules}
+use Rattle.std.proofs.Common.{◌≡◌, ℕ, suc, ◌≤◌, ◌<◌, List, [], ◌∷◌, ◌++◌, length, drop, refl, sym, ap, ◌∙◌, append_assoc, arith, inl, inr, length-append, rules}
 use Rattle.std.proofs.lemmas.Bool.{cases_lt, lt-leb}
 use Rattle.std.proofs.lemmas.List.{append-nil, append_cancel_left, take-append-le, take-append-drop, take_all, drop_all}
 use Rattle.std.specs.List.{concat}
@@ -27,31 +27,17 @@ abbrev pub SilentBetween : List ℕ → Tape → Type 0
 SilentBetween prefix tape = (before after : Tape) → tape ≡ before ++ Silence ∷ after
     → rest (prefix ++ bytes_on_tape before) ≡ []
 
-pub record InSlots (prefix : List ℕ) (tape : Tape) (pieces : List (List ℕ)) (unreceived : List ℕ) : Type 0 where
+pub record InSlots (prefix : List ℕ) (tape : Tape) (pieces : List (List ℕ)) : Type 0 where
   pub slots : List Slot
   pub last : List ℕ
   pub more : List (List ℕ)
   pub stub : IsStub last
   pub tape_is : slots_tape slots last ≡ on_tape prefix ++ tape
   pub pieces_are : came slots ++ more ≡ pieces
-  pub complete : unreceived ≡ [] → more ≡ []
 
 -- bytes that begin with others
 begins : (x a y b : List ℕ) → length y ≤ length x → x ++ a ≡ y ++ b → x ≡ y ++ drop (length y) x
-begins x a y b le e =
-    let prefix : take (length y) x ≡ y = sym (take-append-le (length y) x a le)
-    ∙ (search (rules, take-append-le, take_all)) in search (rules, take-append-drop)
-
--- bytes in which no piece is whole are shorter than the first piece
-shorter : (prefix more piece later : List ℕ) → length prefix < piece_size prefix → IsPiece piece
-    → prefix ++ more ≡ piece ++ later → length prefix < length piece
-shorter prefix more piece later part whole e = search rules
-
--- if every byte was received, no piece is missing
-none_missing : (prefix unreceived : List ℕ) (pieces : List (List ℕ)) → length prefix < piece_size prefix
-    → AreShort pieces → prefix ++ unreceived ≡ concat pieces → unreceived ≡ [] → pieces ≡ []
-none_missing prefix unreceived [] part short e none = refl
-none_missing prefix unreceived (piece ∷ pieces) part short e none = search (rules, length-append)
+begins x a y b le e = search (rules, take-append-le (length y) x a le, take-append-le, take_all, take-append-drop)
 
 one_more : (prefix : List ℕ) (b : ℕ) (tape : Tape)
     → on_tape (prefix ++ b ∷ []) ++ tape ≡ on_tape prefix ++ Byte b ∷ tape
@@ -59,7 +45,7 @@ one_more prefix b tape = search (rules, on_tape_append, append_assoc)
 
 pub parted : (prefix : List ℕ) (tape : Tape) (pieces : List (List ℕ)) (unreceived : List ℕ)
     → length prefix < piece_size prefix → AreShort pieces → HasNoEnd tape → SilentBetween prefix tape
-    → prefix ++ (bytes_on_tape tape ++ unreceived) ≡ concat pieces → InSlots prefix tape pieces unreceived
+    → prefix ++ (bytes_on_tape tape ++ unreceived) ≡ concat pieces → InSlots prefix tape pieces
 parted prefix [] pieces unreceived part short endless silent e = record {
   slots = [];
   last = prefix;
@@ -67,7 +53,6 @@ parted prefix [] pieces unreceived part short endless silent e = record {
   stub = search rules;
   tape_is = sym (append-nil (on_tape prefix));
   pieces_are = refl;
-  complete = none_missing prefix unreceived pieces part short e;
 }
 parted prefix (End ∷ tape) pieces unreceived part short endless silent e = absurd endless
 parted [] (Silence ∷ tape) pieces unreceived part short endless silent e =
@@ -80,7 +65,6 @@ parted [] (Silence ∷ tape) pieces unreceived part short endless silent e =
       stub = inner.stub;
       tape_is = ap (λ t. Silence ∷ t) inner.tape_is;
       pieces_are = inner.pieces_are;
-      complete = inner.complete;
     }
 parted (b ∷ prefix) (Silence ∷ tape) pieces unreceived part short endless silent e =
     absurd (cons_none b prefix (sym (sym (search (rules, rest_none, lt-leb))
@@ -92,7 +76,7 @@ parted prefix (Byte b ∷ tape) (piece ∷ pieces) unreceived part short endless
     let whole = short.0.whole in
     let split : now ++ left ≡ piece ++ concat pieces = append_assoc prefix (b ∷ []) left ∙ e in
     let size : length now ≡ suc (length prefix) = omega (arith, length-append prefix (b ∷ [])) in
-    let before_it : length prefix < length piece = shorter prefix (b ∷ left) piece (concat pieces) part whole e in
+    let before_it : length prefix < length piece = (search rules) in
     elim (cases_lt (length now) (length piece)) [
       | inl lt ↦
           let inner = parted now tape (piece ∷ pieces) unreceived (search rules)
@@ -106,7 +90,6 @@ parted prefix (Byte b ∷ tape) (piece ∷ pieces) unreceived part short endless
             stub = inner.stub;
             tape_is = inner.tape_is ∙ one_more prefix b tape;
             pieces_are = inner.pieces_are;
-            complete = inner.complete;
           }
       | inr ge ↦
           let is : now ≡ piece =
@@ -125,6 +108,5 @@ parted prefix (Byte b ∷ tape) (piece ∷ pieces) unreceived part short endless
             stub = inner.stub;
             tape_is = search (rules, one_more);
             pieces_are = ap (λ ps. piece ∷ ps) inner.pieces_are;
-            complete = inner.complete;
           }
     ]

@@ -1,5 +1,5 @@
 -- A tape that carries replies in their order, with timeouts between them: what is read of it for one command.
-use Rattle.std.proofs.Common.{◌≡◌, ℕ, suc, ◌+◌, ◌*◌, ◌%◌, ◌≤◌, List, [], ◌∷◌, ◌++◌, length, refl, sym, ap, ◌∙◌, append_assoc, arith, inl, inr, ◌⊎◌, Some, None, length-append, rules}
+use Rattle.std.proofs.Common.{◌≡◌, ℕ, suc, ◌+◌, ◌*◌, ◌%◌, ◌≤◌, List, [], ◌∷◌, ◌++◌, length, refl, sym, ap, ◌∙◌, append_assoc, arith, inl, ◌⊎◌, Some, None, length-append, rules}
 use Rattle.std.proofs.lemmas.List.{append-nil}
 use Rattle.stk_frame.specs.Frame.{frame}
 use Rattle.stk_frame.specs.Cut.{cut}
@@ -102,15 +102,9 @@ pub record FindsNone (n c count : ℕ) (t : Tape) (last : List ℕ) (more replie
   pub is : answer n t ≡ Some (Silent, slots_tape slots last)
   pub left : came slots ++ more ≡ old ++ replies
 
--- it waits
-pub record Waits (n : ℕ) (t : Tape) (more replies : List (List ℕ)) : Type 0 where
-  pub old : List (List ℕ)
-  pub is : answer n t ≡ None
-  pub left : more ≡ old ++ replies
-
 abbrev pub Reads : ℕ → ℕ → ℕ → Tape → List ℕ → List (List ℕ) → List (List ℕ) → Type 0
 Reads n c count t last more replies = Finds n t last more replies
-    ⊎ (FindsNone n c count t last more replies ⊎ Waits n t more replies)
+    ⊎ (FindsNone n c count t last more replies ⊎ (answer n t ≡ None))
 
 old_length : (n c : ℕ) (piece : List ℕ) → IsOld n c piece → length piece ≤ 281
 old_length n c piece o = let few = o.carried.few in rw (o.is, length_frame o.seq o.bytes) (omega (arith, few))
@@ -129,14 +123,7 @@ module _ (n c : ℕ) (most : c ≤ 255) (last : List ℕ) (stub : IsStub last) (
       → came slots ++ more ≡ old ++ replies
       → Reads n c (length old) (on_tape prefix ++ slots_tape slots last) last more replies
   reads prefix [] old replies passed short are_old own e =
-      let few = stub.few in
-      inr (inr (record {
-        old = old;
-        is = ap (answer n) (sym (on_tape_append prefix last))
-            ∙ reading_waits n (prefix ++ last) (stub_none prefix passed)
-            (rw (length-append prefix last) (omega (arith, short, few)));
-        left = e;
-      }))
+      search (rules, on_tape_append prefix last, reading_waits, stub_none prefix passed, length-append prefix last)
   reads prefix (Quiet ∷ slots) old replies passed short are_old own e = search (rules, reading_silent, prefix_none)
   reads prefix (Came piece ∷ slots) (first ∷ old) replies passed short are_old own e =
       let same : piece ≡ first = head_is piece first (came slots ++ more) (old ++ replies) e in

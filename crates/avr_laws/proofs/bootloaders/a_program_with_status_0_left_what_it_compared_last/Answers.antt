@@ -13,7 +13,8 @@ returns g c = record {
       words_kept (λ plan passed old now. LastIsThere g.T.AnyReader.device g.T.AnyReader.view g.T.AnyReader.IsIn
       g.T.AnyReader.Reads plan passed)
       (promised_last g.T.AnyReader.device g.T.AnyReader.view g.T.AnyReader.IsIn g.T.AnyReader.Reads) g.C.CommandLine
-      (peers_of g.N.Network g.N.Listener.Callers g.N.Stream.Read g.N.Stream.Write g.N.Stream.Side.closed)
+      (peers_of g.N.Network g.N.Listener.Callers g.N.Stream.Read g.N.Stream.Inlet.has_timed_out
+      g.N.Stream.Write g.N.Stream.Side.closed)
       (devices (stream_state c.args.link.now) (system_desk_view c.args.desk.now))
       (devices (stream_state c.run_command_line.new.link) (system_desk_view c.run_command_line.new.desk))
       c.run_command_line.result c.run_command_line.ensures.starts zero silent;

@@ -12,7 +12,8 @@ returns-clause-plan g c = λ zero silent.
     let t = g.T.AnyProgrammer in
     words_kept (IsKeptByAny t.part t.device t.view t.IsIn t.IsReady t.becomes)
     (promised_by_any t.part t.device t.view t.IsIn t.IsReady t.becomes) g.C.CommandLine
-    (peers_of g.N.Network g.N.Listener.Callers g.N.Stream.Read g.N.Stream.Write g.N.Stream.Side.closed)
+    (peers_of g.N.Network g.N.Listener.Callers g.N.Stream.Read g.N.Stream.Inlet.has_timed_out
+    g.N.Stream.Write g.N.Stream.Side.closed)
     (devices (stream_state c.args.link.now) (system_desk_view c.args.desk.now))
     (devices (stream_state c.run_command_line.new.link) (system_desk_view c.run_command_line.new.desk))
     c.run_command_line.result c.run_command_line.ensures.starts zero silent

@@ -11,7 +11,8 @@ pub returns : goal.returns
 returns g c = record {
   plan = λ zero silent.
       words_kept IsKept promised g.C.CommandLine
-      (peers_of g.N.Network g.N.Listener.Callers g.N.Stream.Read g.N.Stream.Write g.N.Stream.Side.closed)
+      (peers_of g.N.Network g.N.Listener.Callers g.N.Stream.Read g.N.Stream.Inlet.has_timed_out
+      g.N.Stream.Write g.N.Stream.Side.closed)
       (devices (stream_state c.args.link.now) (system_desk_view c.args.desk.now))
       (devices (stream_state c.run_command_line.new.link) (system_desk_view c.run_command_line.new.desk))
       c.run_command_line.result c.run_command_line.ensures.starts zero silent;

@@ -7,5 +7,5 @@ returns-clause-tape g c = λ s old new before after status unused between of_tap
 
 pub returns-clause-streams : goal.returns-clause-streams
 returns-clause-streams g c = λ s old new before after status unused between truly all.
-    run_is_over_streams s old new status g.R.Read.remaining g.W.Write.contents before after between.between unused truly
-    between.stays all between.runs
+    run_is_over_streams s old new status g.R.Read.remaining g.R.Inlet.has_timed_out g.W.Write.contents before after
+    between.between unused truly between.stays all between.runs

@@ -1,8 +1,12 @@
-use Rattle.avr_laws.proofs.ChipFile.FewBadThenAgain.{sound_expected, sound_images}
+use Rattle.std.proofs.Common.{rules, inl, inr}
 use Rattle.avr_laws.proofs.runs.a_sound_run_is_its_expected_run.Goals as goal
 
 pub returns-clause-expected_run : goal.returns-clause-expected_run
-returns-clause-expected_run c = sound_expected
+returns-clause-expected_run c = λ plan w v d e a b status few sound has_memory is_over. search rules
 
 pub returns-clause-images : goal.returns-clause-images
-returns-clause-images c = sound_images
+returns-clause-images c = λ plan w v d e a b status few sound has_memory verified erases both is_over.
+    elim is_over.end [
+      | inl came ↦ let zero = came.0.again few erases both in (zero, came.0.comes.images zero verified)
+      | inr broke ↦ absurd (search rules)
+    ]

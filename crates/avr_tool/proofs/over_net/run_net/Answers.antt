@@ -13,7 +13,8 @@ returns-clause-runs g c =
     let new = rw c.place_of-address.ensures at c.in-Ok-connect.ensures.new in
     let then_is = rw (new.quiet, new.fresh) at c.drive-status.ensures.runs in
     let truly = c.drive-status.ensures.comes c.in-Ok-connect.link
-    (true_now g.N.Stream.Read.remaining g.N.Stream.Write.contents c.in-Ok-connect.link) in
+    (true_now g.N.Stream.Read.remaining g.N.Stream.Inlet.has_timed_out g.N.Stream.Write.contents
+    c.in-Ok-connect.link) in
     let after = c.drive-status.new.link in
     inl (record { transcript = after.transcript; failures = after.failures }, search rules, search rules)
 

@@ -14,7 +14,7 @@ pub returns-in-Ok-clause-all : goal.returns-in-Ok-clause-all
 returns-in-Ok-clause-all g c = reported_all _ _ _ _ _ _ c.run_program.ensures.stays
 
 pub returns-in-Err-clause-is_reported : goal.returns-in-Err-clause-is_reported
-returns-in-Err-clause-is_reported g c = true_link _ _ _
+returns-in-Err-clause-is_reported g c = true_link _ _ _ _
 
 pub returns-in-Err-clause-shows : goal.returns-in-Err-clause-shows
 returns-in-Err-clause-shows g c = c.refuse_text.ensures.stays c.args.desk.now (true_now _ _ _ _ _ _ c.args.desk.now)

@@ -9,7 +9,7 @@ returns-in-Err-Words-clause-runs g c =
     let leaves = rw c.in-Err-Words.field-0-is at c.report_allocation_only.ensures.leaves in search (rules, untaken)
 
 pub returns-in-Err-Words-clause-is_reported : goal.returns-in-Err-Words-clause-is_reported
-returns-in-Err-Words-clause-is_reported g c = true_now _ _ _
+returns-in-Err-Words-clause-is_reported g c = true_now _ _ _ _
 
 pub returns-in-Err-Refused-clause-is_reported : goal.returns-in-Err-Refused-clause-is_reported
-returns-in-Err-Refused-clause-is_reported g c = true_now _ _ _
+returns-in-Err-Refused-clause-is_reported g c = true_now _ _ _ _

@@ -16,7 +16,8 @@ returns-in-Err-clause-comes g c = λ start since.
       transcript = c.put_bytes.new.history.items;
     } in
     let counted : c.self.inside.failures ≤ c.saturating_add-self-inside.result = search rules in
-    true_on g.R.Read.remaining g.W.Write.contents start c.args.self.now after since
+    true_on g.R.Read.remaining g.R.Inlet.has_timed_out g.W.Write.contents start c.args.self.now after since
     (subst (λ (mid : StreamState g.row.R.Denot g.row.W.Denot). TranscriptIsTrueSince g.R.Read.remaining
-    g.W.Write.contents mid after) c.self.view_is
-    (true_of_taken g.R.Read.remaining g.W.Write.contents _ after c.args.bytes.now refl counted c.in-Err.ensures.taken))
+    g.R.Inlet.has_timed_out g.W.Write.contents mid after) c.self.view_is
+    (true_of_taken g.R.Read.remaining g.R.Inlet.has_timed_out g.W.Write.contents _ after c.args.bytes.now refl counted
+    c.in-Err.ensures.taken))
