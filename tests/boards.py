@@ -276,6 +276,20 @@ def refused():
         check_equal(f"bytes sent for {body}", board.sent - sent, 0)
 
 
+def keeps_no_clock():
+    """No firmware keeps the ISP clock that `-B` of AVRDUDE sets (parameter 89): optiboot stops, ATmegaBOOT replies OK
+    and reads 0, ArduinoISP refuses it and reads 0."""
+    in_sync = b"\x14\x10"
+    wanted = {"optiboot": (b"", b""), "ATmegaBOOT": (in_sync, b"\x14\0\x10")}
+    wanted |= {"ArduinoISP": (b"\x15\x15\x15", b"\x14\0\x10")} if SKETCH else {}
+    for kind, replies in wanted.items():
+        board, found = Board(kind), []
+        for command in (b"0 ", b"0 ", b"@\x89\x20 ", b"A\x89 "):
+            board.send(command)
+            found.append(board.receive(8, 0.3))
+        check_equal(f"{kind}: replies to -B", tuple(found), (in_sync, in_sync, *replies))
+
+
 def session(kind, size, words, fates, old=b""):
     """Returns the status of a run with faults, whether the image is there, whether all else is as it should be, and the
     number of faults."""
@@ -679,7 +693,7 @@ def leaves_to_another():
 
 
 CASES = named(
-    *(clean, refused, each_byte, lossy, damaged_erases, lost_end),
+    *(clean, refused, keeps_no_clock, each_byte, lossy, damaged_erases, lost_end),
     *(typed, avrdude_beside, lost_end_of_wiring, leaves_to_another),
     *(measured, lost_byte_of_a_page),
 )
