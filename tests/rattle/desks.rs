@@ -207,6 +207,14 @@ fn another_file_than_the_held_one_is_replaced(rt: HostRuntime) -> Result<(), Fai
     Ok(())
 }
 
+/// Prints to both streams, and the rest of the output to a created `-`.
+fn print<D: Desk>(desk: &mut D) -> Result<(), DeskFault> {
+    put(desk, Stream::Output, b"out")?;
+    put(desk, Stream::Messages, b"a message\n")?;
+    desk.create("-")?;
+    put(desk, Stream::File, b"put")
+}
+
 /// Prints at a desk over these two writers.
 fn print_both<'a>(
     rt: &'a HostRuntime,
@@ -214,11 +222,7 @@ fn print_both<'a>(
     messages: &'a mut Vec<u8>,
 ) -> Result<(), DeskFault> {
     let mut desk = SystemDesk::new(rt, output, messages);
-    put(&mut desk, Stream::Output, b"out")?;
-    put(&mut desk, Stream::Messages, b"a message\n")?;
-    desk.create("-")?;
-    put(&mut desk, Stream::File, b"put")?;
-    Ok(())
+    print(&mut desk)
 }
 
 #[test]
@@ -228,6 +232,15 @@ fn each_stream_has_its_writer(rt: HostRuntime) {
     assert!(rt; print_both(&rt, &mut output, &mut messages) == Ok(()));
     assert!(rt; output.as_slice() == b"output".as_slice());
     assert!(rt; messages.as_slice() == b"a message\n".as_slice());
+}
+
+#[test]
+fn a_created_dash_is_standard_output(rt: HostRuntime) {
+    let mut desk = MemDesk::empty(rt.alloc());
+    assert!(rt; print(&mut desk) == Ok(()));
+    assert!(rt; desk.output() == b"out".as_slice());
+    assert!(rt; desk.file("-") == Some(b"put".as_slice()));
+    assert!(rt; desk.messages() == b"a message\n".as_slice());
 }
 
 /// A writer that takes one byte at a time. Its first write and first flush are interrupted, and its third flush fails.

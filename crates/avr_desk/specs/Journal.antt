@@ -1,5 +1,5 @@
 -- The calls of a system for files, and those that a desk's record shows.
-use Rattle.std.specs.Prelude.{◌≡◌, ◌⊎◌, ℕ, ◌+◌, List, [], ◌∷◌, ◌++◌, Option, Some, None, if◌then◌else◌}
+use Rattle.std.specs.Prelude.{◌≡◌, ◌⊎◌, ℕ, ◌+◌, List, [], ◌∷◌, ◌++◌, Option, Some, None, Result, Ok, Err, if◌then◌else◌}
 use Rattle.avr_desk.specs.Named.{is_dash}
 use Rattle.avr_desk.specs.Record.{Bytes, Record, all_uses}
 use Rattle.avr_desk.specs.declared.record.FileUse.{FileUse}
@@ -37,6 +37,21 @@ with_one_more_held done = record done { holds = done.holds + 1 }
 -- Whatever the system had done, it has now done `change` of it.
 abbrev pub ChangesCalls : {S : Type 0} → (SystemCalls → S → Type 0) → (SystemCalls → SystemCalls) → S → S → Type 0
 ChangesCalls has_done change old new = (done : SystemCalls) → has_done done old → has_done (change done) new
+
+-- After a success the system has done these calls too. After an error it has done nothing more.
+abbrev pub AddsCalls : {S A E : Type 0} → (SystemCalls → S → Type 0) → List FileCall → S → S → Result A E → Type 0
+AddsCalls has_done calls old new (Ok value) = ChangesCalls has_done (with_calls calls) old new
+AddsCalls has_done calls old new (Err error) = Preserves has_done old new
+
+-- A call that is to hold a file ensures this. If it returns a lock, `IsLock` is true of the lock, and the system holds
+-- one more file. If it returns none, `denied` is true. If it fails, `Fails` is true of the error. Without a lock the
+-- system has done nothing more.
+abbrev pub TakesHold : {S L E : Type 0} → (SystemCalls → S → Type 0) → (L → Type 0) → Type 0 → (E → Type 0) → S → S
+    → Result (Option L) E → Type 0
+TakesHold has_done IsLock denied Fails old new (Ok (Some lock)) =
+    IsLock lock × ChangesCalls has_done with_one_more_held old new
+TakesHold has_done IsLock denied Fails old new (Ok None) = denied × Preserves has_done old new
+TakesHold has_done IsLock denied Fails old new (Err error) = Fails error × Preserves has_done old new
 
 -- the held file was released, if there was one
 abbrev pub ReleasesHeld : {S H : Type 0} → (SystemCalls → S → Type 0) → Option H → S → S → Type 0

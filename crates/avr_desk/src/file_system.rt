@@ -1,9 +1,9 @@
 //! The files of a system by their names, as a program's desk uses them.
-ghost use Rattle.std.specs.Prelude.{◌≡◌, ◌∷◌, [], IfErr, MatchOption, MatchResult, Option, Some, true};
+ghost use Rattle.std.specs.Prelude.{◌≡◌, ◌∷◌, [], IfOk, MatchResult, Option, Some, true};
 ghost use Rattle.std.specs.IoError.{error_kind};
 ghost use Rattle.std.specs.declared.io.Error.{Error};
 ghost use Rattle.std.specs.Option.{option_copied};
-ghost use Rattle.avr_desk.specs.Journal.{Counts, ChangesCalls, SystemCalls, Gives, CrashMayAlsoLeave, CrashLeavesNoMore, Opens, IsUncounted, with_calls, count_of, with_one_more_held, made};
+ghost use Rattle.avr_desk.specs.Journal.{AddsCalls, Counts, ChangesCalls, SystemCalls, Gives, CrashMayAlsoLeave, CrashLeavesNoMore, Opens, IsUncounted, TakesHold, with_calls, count_of, with_one_more_held, made};
 ghost use Rattle.avr_desk.specs.Record.{Bytes};
 ghost use Rattle.ghosts.specs.Preserves.{Preserves};
 
@@ -78,9 +78,7 @@ pub trait FileSystem {
         ensures named { Counts has_done (count_of (option_copied hold.entry)) self.old
             → MatchResult result (λ file. is_of file name.now)
             (λ error. error_kind error ≡ ErrorKind.NotFound → lacks name.now) }
-        ensures opens { MatchResult result
-            (λ file. ChangesCalls has_done (with_calls (Opens name.now ∷ [])) self.old self.new)
-            (λ error. Preserves has_done self.old self.new) }
+        ensures opens { AddsCalls has_done (Opens name.now ∷ []) self.old self.new result }
         ensures keeps { CrashLeavesNoMore left self.old self.new };
 
     /// Creates a file, or empties an existing one, but never the held one. `hold` is what this run holds.
@@ -89,9 +87,8 @@ pub trait FileSystem {
     ///
     /// The system's error, `ResourceBusy` if the file is held.
     fn create_named(&mut self, name: &str, hold: Option<&Self::Hold>) -> io::Result<Self::File>
-        ensures creates { MatchResult result
-            (λ file. is_of file name.now × ChangesCalls has_done (with_calls (made name.now)) self.old self.new)
-            (λ error. Preserves has_done self.old self.new) }
+        ensures named { IfOk result (λ file. is_of file name.now) }
+        ensures creates { AddsCalls has_done (made name.now) self.old self.new result }
         ensures keeps { Counts has_done (count_of (option_copied hold.entry)) self.old
             → CrashLeavesNoMore left self.old self.new };
 
@@ -111,11 +108,8 @@ pub trait FileSystem {
     ///
     /// The system's error.
     fn hold_named(&mut self, name: &str) -> io::Result<Option<Self::Hold>>
-        ensures locks { MatchResult result
-            (λ lock. MatchOption lock (denies name.now × Preserves has_done self.old self.new)
-            (λ hold. holds hold name.now × ChangesCalls has_done with_one_more_held self.old self.new))
-            (λ error. Preserves has_done self.old self.new) }
-        ensures fails { IfErr result (fails name.now) }
+        ensures locks { TakesHold has_done (λ hold. holds hold name.now) (denies name.now) (fails name.now)
+            self.old self.new result }
         ensures leaves { CrashMayAlsoLeave left name.now (began name.now) self.old self.new };
 
     /// Returns whether `hold` is the lock on the file of this name.

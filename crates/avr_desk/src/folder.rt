@@ -1,7 +1,7 @@
 ghost use Rattle.std.specs.Prelude.{◌≡◌, ◌⊎◌, ◌++◌, ◌∷◌, [], true, false, IfErr, IfOk, MatchOption, MatchResult, None, OnOk, Option, Some};
 ghost use Rattle.std.specs.IoError.{error_kind};
 ghost use Rattle.std.specs.declared.io.Error.{Error};
-ghost use Rattle.avr_desk.specs.Journal.{Counts, ChangesCalls, SystemCalls, Gives, CrashMayAlsoLeave, CrashLeavesNoMore, Opens, IsUncounted, with_calls, with_one_more_held, made};
+ghost use Rattle.avr_desk.specs.Journal.{AddsCalls, Counts, ChangesCalls, SystemCalls, Gives, CrashMayAlsoLeave, CrashLeavesNoMore, Opens, IsUncounted, TakesHold, with_calls, with_one_more_held, made};
 ghost use Rattle.avr_desk.specs.Record.{Bytes};
 ghost use Rattle.ghosts.specs.Preserves.{Preserves};
 
@@ -125,16 +125,13 @@ pub trait Folder {
         ensures named { Counts has_done 0 self.old ⊎ is_free self.old name.now
             → MatchResult result (λ file. is_of file name.now)
             (λ error. error_kind error ≡ ErrorKind.NotFound → lacks name.now) }
-        ensures opens { MatchResult result
-            (λ file. ChangesCalls has_done (with_calls (Opens name.now ∷ [])) self.old self.new)
-            (λ error. Preserves has_done self.old self.new) }
+        ensures opens { AddsCalls has_done (Opens name.now ∷ []) self.old self.new result }
         ensures keeps { CrashLeavesNoMore left self.old self.new };
 
     /// Creates a file, or empties an existing one.
     fn create(&mut self, name: &str) -> io::Result<Self::File>
-        ensures creates { MatchResult result
-            (λ file. is_of file name.now × ChangesCalls has_done (with_calls (made name.now)) self.old self.new)
-            (λ error. Preserves has_done self.old self.new) }
+        ensures named { IfOk result (λ file. is_of file name.now) }
+        ensures creates { AddsCalls has_done (made name.now) self.old self.new result }
         ensures alone { Counts has_done 0 self.old → CrashLeavesNoMore left self.old self.new }
         ensures keeps { leads_to_no_held_file self.old name.now → CrashLeavesNoMore left self.old self.new };
 
@@ -168,10 +165,8 @@ pub trait Folder {
     /// Holds the place if the lock file still has its name. Returns `None` if another run removed it since it was
     /// opened.
     fn confirm(&mut self, place: Self::Place, lock: Self::Lock) -> io::Result<Option<Self::Held>>
-        ensures holds { MatchResult result
-            (λ held. MatchOption held (denies (name_of place) × Preserves has_done self.old self.new) (λ held.
-            (held_name held ≡ name_of place) × ChangesCalls has_done with_one_more_held self.old self.new))
-            (λ error. fails (name_of place) error × Preserves has_done self.old self.new) }
+        ensures holds { TakesHold has_done (λ held. held_name held ≡ name_of place) (denies (name_of place))
+            (fails (name_of place)) self.old self.new result }
         ensures leaves { CrashMayAlsoLeave left (name_of place) (began (name_of place)) self.old self.new };
 
     /// Returns whether the held file has this name.
@@ -191,9 +186,7 @@ pub trait Folder {
         requires { ∥ saw held.now seen.now ∥₁ }
         ensures named { MatchResult result (λ file. is_of file (held_name held.now))
             (λ error. error_kind error ≡ ErrorKind.NotFound → lacks (held_name held.now)) }
-        ensures opens { MatchResult result
-            (λ file. ChangesCalls has_done (with_calls (Opens (held_name held.now) ∷ [])) self.old self.new)
-            (λ error. Preserves has_done self.old self.new) }
+        ensures opens { AddsCalls has_done (Opens (held_name held.now) ∷ []) self.old self.new result }
         ensures keeps { CrashLeavesNoMore left self.old self.new };
 
     /// Fails with `ResourceBusy` if a name leads to the held place, to the file that was seen there, to the lock file, or
@@ -287,10 +280,8 @@ pub trait Folder {
     /// Overwrites the file in place and waits until it is on the disk. A crash before that may leave any part.
     fn write_over(&mut self, held: &Self::Held, bytes: &[u8]) -> io::Result<()>
         requires { is_mounted (held_name held.now) }
-        ensures lasts { MatchResult result
-            (λ done. lasts (held_name held.now) bytes.now
-            × ChangesCalls has_done (with_calls (made (held_name held.now))) self.old self.new)
-            (λ error. Preserves has_done self.old self.new) }
+        ensures lasts { OnOk result (lasts (held_name held.now) bytes.now) }
+        ensures writes { AddsCalls has_done (made (held_name held.now)) self.old self.new result }
         ensures spare { OnOk result (is_spare self.new (held_name held.now)) }
         ensures keeps { CrashLeavesNoMore left self.old self.new };
 

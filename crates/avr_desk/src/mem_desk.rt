@@ -11,7 +11,8 @@ use std::alloc::{AllocError, Global};
 use std::marker::Model;
 use std::mem;
 
-/// A desk that holds files, input, output and messages in memory. Its methods show all that was done over it.
+/// A desk that holds files, input, output and messages in memory. Its methods show all that was done over it. `-` is
+/// standard input to `open`, and standard output to `create`.
 ///
 /// If allocation fails within a call, the call fails and is counted; nothing else changes. The journal has what only
 /// proofs use: all replacements, and how many releases were asked for.
@@ -143,7 +144,8 @@ impl MemDesk {
         Ok(())
     }
 
-    /// Returns the bytes of a file: those written since it was last created, else those last put.
+    /// Returns the bytes of a file: those written since it was last created, else those last put. If `-` was created,
+    /// its bytes are those written to standard output since then, except by `out`.
     #[tactic(auto, using(crate::proofs::FileUses::Names::newest_append))]
     pub fn file(&self, name: &str) -> Option<&[u8]>
         ensures { option_copied result ≡ newest name.now None (self.now.stored ++ all_files self.now.kept) }
@@ -157,7 +159,7 @@ impl MemDesk {
         }
     }
 
-    /// Returns all bytes written to standard output.
+    /// Returns all bytes that `out` wrote to standard output. `file("-")` returns those written to a created `-`.
     pub fn output(&self) -> &[u8]
         ensures { result.now ≡ self.now.kept.output }
     {

@@ -4,9 +4,9 @@
 //! The run locks NAME.avrstk-lock; the system unlocks it if the run is killed. The new bytes go to NAME.avrstk-new,
 //! which only the lock holder touches. Once they are on the disk, that file is renamed to NAME. If there was no file to
 //! replace, it gets NAME as a second name, which never takes the place of another file.
-ghost use Rattle.std.specs.Prelude.{◌≡◌, ◌⊎◌, [], IfErr, IfOk, MatchOption, MatchResult, OnOk, Option, Some};
+ghost use Rattle.std.specs.Prelude.{◌≡◌, ◌⊎◌, [], IfOk, MatchResult, OnOk, Option, Some};
 ghost use Rattle.avr_desk.specs.Handles.{IsHeldBy};
-ghost use Rattle.avr_desk.specs.Journal.{ChangesCalls, CrashLeavesNoMore, CrashMayAlsoLeave, IsUncounted, with_calls, with_one_more_held, made};
+ghost use Rattle.avr_desk.specs.Journal.{ChangesCalls, CrashLeavesNoMore, CrashMayAlsoLeave, IsUncounted, TakesHold, with_calls, made};
 ghost use Rattle.avr_desk.specs.Record.{Bytes};
 ghost use Rattle.ghosts.specs.Preserves.{Preserves};
 
@@ -26,10 +26,8 @@ pub struct Replacement<F: Folder> {
 
 /// Locks a place. Returns `None` if another process has locked it.
 fn hold_place<F: Folder>(folder: &mut F, place: F::Place) -> io::Result<Option<F::Held>>
-    ensures holds { MatchResult result
-        (λ held. MatchOption held (F.denies (F.name_of place) × Preserves F.has_done folder.old folder.new) (λ held.
-        (F.held_name held ≡ F.name_of place) × ChangesCalls F.has_done with_one_more_held folder.old folder.new))
-        (λ error. F.fails (F.name_of place) error × Preserves F.has_done folder.old folder.new) }
+    ensures holds { TakesHold F.has_done (λ held. F.held_name held ≡ F.name_of place) (F.denies (F.name_of place))
+        (F.fails (F.name_of place)) folder.old folder.new result }
     ensures leaves { CrashMayAlsoLeave F.left (F.name_of place) (F.began (F.name_of place)) folder.old folder.new }
 {
     let Some(file) = folder.open_lock(&place)? else {

@@ -22,7 +22,7 @@ use Rattle.avr_desk.specs.declared.record.Writing.{Writing}
 use Rattle.avr_desk.specs.declared.system.OpenFile.TheVariants.{Nothing}
 use Rattle.std.specs.declared.io.Error.{Error}
 use Rattle.std.specs.declared.io.ErrorKind.TheVariants as ErrorKind
-use Rattle.avr_desk.specs.Journal.{FileCall, SystemCalls, Gives, Opens, ChangesCalls, Counts, CrashLeavesNoMore, CrashMayAlsoLeave, IsUncounted, count_of, made, with_calls, with_one_more_held}
+use Rattle.avr_desk.specs.Journal.{FileCall, SystemCalls, Gives, Opens, AddsCalls, ChangesCalls, Counts, CrashLeavesNoMore, CrashMayAlsoLeave, IsUncounted, TakesHold, count_of, made, with_calls, with_one_more_held}
 use Rattle.avr_desk.specs.Record.{Bytes, Record, nothing_kept}
 use Rattle.avr_desk.specs.declared.folder.Folder.{Ghosts}
 use Rattle.ghosts.specs.Preserves.{Preserves}
@@ -246,15 +246,12 @@ module _ (run : Run) where
     named : Counts has_done 0 self.old ⊎ is_free self.old name.now
         → MatchResult result (λ file. is_of file name.now)
         (λ error. error_kind error ≡ ErrorKind.NotFound → lacks name.now)
-    opens : MatchResult result
-        (λ file. ChangesCalls has_done (with_calls (Opens name.now ∷ [])) self.old self.new)
-        (λ error. Preserves has_done self.old self.new)
+    opens : AddsCalls has_done (Opens name.now ∷ []) self.old self.new result
     keeps : CrashLeavesNoMore left self.old self.new
 
   record CreateClauses (self : Over System) (name : At Bytes) (result : Result Bytes Error) : Type 0 where
-    creates : MatchResult result
-        (λ file. is_of file name.now × ChangesCalls has_done (with_calls (made name.now)) self.old self.new)
-        (λ error. Preserves has_done self.old self.new)
+    named : IfOk result (λ file. is_of file name.now)
+    creates : AddsCalls has_done (made name.now) self.old self.new result
     alone : Counts has_done 0 self.old → CrashLeavesNoMore left self.old self.new
     keeps : leads_to_no_held_file self.old name.now → CrashLeavesNoMore left self.old self.new
 
@@ -283,10 +280,8 @@ module _ (run : Run) where
     stays : IsUncounted has_done left self.old self.new
 
   record ConfirmClauses (self : Over System) (place : Bytes) (result : Result (Option Bytes) Error) : Type 0 where
-    holds : MatchResult result
-        (λ held. MatchOption held (denies (name_of place) × Preserves has_done self.old self.new) (λ held.
-        (held_name held ≡ name_of place) × ChangesCalls has_done with_one_more_held self.old self.new))
-        (λ error. fails (name_of place) error × Preserves has_done self.old self.new)
+    holds : TakesHold has_done (λ held. held_name held ≡ name_of place) (denies (name_of place))
+        (fails (name_of place)) self.old self.new result
     leaves : CrashMayAlsoLeave left (name_of place) (began (name_of place)) self.old self.new
 
   record IsNamedClauses (self : At System) (held name : At Bytes) (result : Bool) : Type 0 where
@@ -301,9 +296,7 @@ module _ (run : Run) where
   record OpenSeenClauses (self : Over System) (held : At Bytes) (result : Result Bytes Error) : Type 0 where
     named : MatchResult result (λ file. is_of file (held_name held.now))
         (λ error. error_kind error ≡ ErrorKind.NotFound → lacks (held_name held.now))
-    opens : MatchResult result
-        (λ file. ChangesCalls has_done (with_calls (Opens (held_name held.now) ∷ [])) self.old self.new)
-        (λ error. Preserves has_done self.old self.new)
+    opens : AddsCalls has_done (Opens (held_name held.now) ∷ []) self.old self.new result
     keeps : CrashLeavesNoMore left self.old self.new
 
   record CheckNotHeldClauses (self : Over System) (name : At Bytes) (result : Result (Unit {0}) Error) : Type 0 where
@@ -365,10 +358,8 @@ module _ (run : Run) where
 
   record WriteOverClauses (self : Over System) (held bytes : At Bytes) (result : Result (Unit {0}) Error)
       : Type 0 where
-    lasts : MatchResult result
-        (λ done. lasts (held_name held.now) bytes.now
-        × ChangesCalls has_done (with_calls (made (held_name held.now))) self.old self.new)
-        (λ error. Preserves has_done self.old self.new)
+    lasts : OnOk result (lasts (held_name held.now) bytes.now)
+    writes : AddsCalls has_done (made (held_name held.now)) self.old self.new result
     spare : OnOk result (is_spare self.new (held_name held.now))
     keeps : CrashLeavesNoMore left self.old self.new
 
@@ -496,7 +487,8 @@ module _ (run : Run) where
   create_met : (s : System) (name : Bytes)
       → CreateClauses (from_to s (created name s)) (is_now name) (Ok name)
   create_met s name = record {
-    creates = (refl, λ done is. ap (with_calls (made name)) is);
+    named = refl;
+    creates = λ done is. ap (with_calls (made name)) is;
     alone = λ none. create_leaves s name (none_held s name none);
     keeps = create_leaves s name;
   }
@@ -504,6 +496,7 @@ module _ (run : Run) where
   create_fails : (s : System) (name : Bytes) (error : Error)
       → CreateClauses (from_to s s) (is_now name) (Err error)
   create_fails s name error = record {
+    named = tt;
     creates = λ done is. is;
     alone = λ none other found may. may;
     keeps = λ unheld other found may. may;
@@ -644,10 +637,8 @@ module _ (run : Run) where
   write_over_met : (s : System) (held bytes : Bytes) → is_mounted held → run.happened (written_over held bytes s).at
       → WriteOverClauses (from_to s (written_over held bytes s)) (is_now held) (is_now bytes) (Ok tt)
   write_over_met s held bytes mounted was = record {
-    lasts = (
-      ((written_over held bytes s).at, was, put_there held bytes s.at.disk),
-      λ done is. ap (with_calls (made held)) is,
-    );
+    lasts = ((written_over held bytes s).at, was, put_there held bytes s.at.disk);
+    writes = λ done is. ap (with_calls (made held)) is;
     spare = put_there held bytes s.at.disk ∙ sym (put_there held bytes s.at.now);
     keeps = over_leaves s held bytes mounted;
   }

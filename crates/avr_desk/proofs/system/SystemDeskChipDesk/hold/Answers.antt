@@ -19,4 +19,4 @@ returns-in-Ok-None-clause-call g c =
 pub returns-in-Err-clause-call : goal.returns-in-Err-clause-call
 returns-in-Err-clause-call g c = is_call (search rules) (search rules)
     (from_inside _ _ _ _ _ _ c.self.view_is
-    (unheld_true _ _ _ _ _ _ c.in-Err.ensures.locks c.hold_named.ensures.leaves))
+    (unheld_true _ _ _ _ _ _ c.in-Err.ensures.locks.1 c.hold_named.ensures.leaves))

@@ -11,7 +11,7 @@ returns-then-eq-clause-call g c = is_call (search rules) (search rules) (from_in
 pub returns-in-Ok-clause-call : goal.returns-in-Ok-clause-call
 returns-in-Ok-clause-call g c = is_call (search rules) (search rules) (from_inside _ _ _ _ _ _ c.self.view_is
     (created_true _ _ _ _ _ _ c.open_next-in-Ok.ensures.opened c.as_bytes.ensures.value c.if-eq.ensures
-    c.in-Ok.ensures.creates.0 c.open_next-in-Ok.ensures.noted c.open_next-in-Ok.ensures.closed c.in-Ok.ensures.creates.1
+    c.in-Ok.ensures.named c.open_next-in-Ok.ensures.noted c.open_next-in-Ok.ensures.closed c.in-Ok.ensures.creates
     c.open_next-in-Ok.ensures.stays.done _ c.as_ref.ensures.value
     c.create_named.ensures.keeps c.open_next-in-Ok.ensures.stays.kept))
 
