@@ -53,7 +53,7 @@ class Pauses(threading.Thread):
 
     def __init__(self):
         super().__init__(daemon=True)
-        self.noted, self.woke, self.lock = 0, time.monotonic(), threading.RLock()
+        self.noted, self.seconds, self.woke, self.lock = 0, 0.0, time.monotonic(), threading.RLock()
 
     def run(self):
         while True:
@@ -72,9 +72,15 @@ class Pauses(threading.Thread):
             if not self.is_alive():
                 self.woke = now
                 self.start()
-            self.note(now - self.woke - BEAT)
-            self.woke = now
+            late, self.woke = now - self.woke - BEAT, now
+            self.note(late)
+            self.seconds += late if late > PAUSE else 0
             return self.noted
+
+    def awake(self):
+        """Returns a time in seconds that stands still in pauses."""
+        self.so_far()
+        return time.monotonic() - self.seconds
 
 
 pauses = Pauses()
