@@ -380,8 +380,8 @@ def over_emulator_and_streams():
 
 
 def over_a_port():
-    """Compares runs over a port, where replies may be lost or late. The program waits a second for a reply: in a pause
-    of this process it repeats a command of which the model gets the reply."""
+    """Compares runs over a port, where replies may be lost or late. In a pause of this machine the program repeats a
+    command; the reply to it is then late in the model, too."""
     compared(0, 100, ["net:127.0.0.1:PORT"])
 
 
