@@ -215,8 +215,9 @@ def runs_over(name, kind):
             (plans[it % len(plans)], f"{name} {it}", draw.choice(kind.pieces), kind.fates(draw))
             for it, draw in enumerate(draws)
         ]
-        # (a pause can end a run early, so that it fails)
-        tried = list(pool.map(lambda it: attempts(lambda: run(*it), lambda outcome: outcome[0] == 0), links))
+        # (a pause can make a run fail, which matters only if runs must succeed)
+        may_fail = not kind.good or kind.good[0] == 0
+        tried = list(pool.map(lambda it: attempts(lambda: run(*it), lambda found: found[0] == 0 or may_fail), links))
     for (plan, label, *_), outcomes in zip(links, tried):
         for outcome in outcomes:
             holds(label, plan, *outcome)
