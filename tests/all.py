@@ -9,11 +9,13 @@
 
 A script's output is printed when the script has ended. All steps run even if one fails; the status is then 1. If in a
 script only cases failed that measure time, these cases are run once more, alone. Then that run counts, and the summary
-names it; at most two scripts are run again. The summary has each step's status, minutes, processor seconds and last
-line, the lines that report failures, and how the mutants were refused. It lists checks that were left out because a
-tool isn't installed (`./test --tools` installs the tools); with NEED_ALL=1 in the environment these are failures. --all
-also prints the processor seconds of each crate's checks, and of the whole as a ratio to those of stk_frame's first
-check: this ratio is the same on a slow machine. The last line counts passed and failed checks of all steps."""
+names it; at most two scripts are run again. Before that, the script itself has made failed runs again in which it
+measured a pause of the machine, each at most five times; its last line counts them. The summary has each step's status,
+minutes, processor seconds and last line, the lines that report failures, and how the mutants were refused. It lists
+checks that were left out because a tool isn't installed (`./test --tools` installs the tools); with NEED_ALL=1 in the
+environment these are failures. --all also prints the processor seconds of each crate's checks, and of the whole as a
+ratio to those of stk_frame's first check: this ratio is the same on a slow machine. The last line counts passed and
+failed checks of all steps."""
 
 import os
 import random

@@ -23,7 +23,7 @@ import subprocess
 import sys
 from dataclasses import dataclass
 
-from cases import PATIENCE, check, check_equal, leave_out, run_cases
+from cases import PATIENCE, attempts, check, check_equal, leave_out, run_cases
 from program import Room, Server, has_avrdude
 
 
@@ -80,11 +80,20 @@ class Beside:
         return subprocess.Popen(command, cwd=self.room.folder, env=os.environ | home, **how)
 
     def by_avrdude(self, words, part=None):
-        """Returns AVRDUDE's status and messages, and how the server ended."""
-        with Server(self.room, "served.bin", part or self.name, self.front) as server:
-            with self.asked(server.port, words) as client:
-                _, messages = client.communicate(timeout=PATIENCE)
-            return client.returncode, messages, server.end()
+        """Returns AVRDUDE's status and messages, and how the server ended. AVRDUDE waits only a time for
+        replies: if a pause was measured, the run is made again over the same chip."""
+        chip = self.room.read("served.bin")
+
+        def ran():
+            (self.room.folder / "served.bin").unlink(missing_ok=True)
+            if chip is not None:
+                self.room.put("served.bin", chip)
+            with Server(self.room, "served.bin", part or self.name, self.front) as server:
+                with self.asked(server.port, words) as client:
+                    _, messages = client.communicate(timeout=PATIENCE)
+                return client.returncode, messages, server.end()
+
+        return attempts(ran, lambda _: False)[-1]
 
     def by_this(self, words):
         """Makes the same request over `emu:`."""

@@ -21,10 +21,11 @@ was left to send."""
 
 import random
 import sys
+import time
 from concurrent.futures import ThreadPoolExecutor
 from dataclasses import dataclass
 
-from cases import check, check_equal, named, run_cases, sampled
+from cases import attempts, check, check_equal, named, pauses, run_cases, sampled
 from line import BadLine, Link, frame_size, frames_of
 from model import trimmed
 from program import CHIP_FILE, Room, Server, xor
@@ -34,6 +35,7 @@ RATES = [20, 5, 1]
 FLASH, EEPROM = 32_768, 1_024
 FLASH_PAGE, EEPROM_PAGE = 128, 4
 LFUSE = FLASH + EEPROM
+SIGN_ON, LEAVE = 0x01, 0x11
 STALLS = ["late command", "cut command", "late answer", "cut answer"]
 LOSSES = ["lost command", "spoiled command", "lost answer", "spoiled answer", "late answer"]
 
@@ -124,18 +126,22 @@ class BadLink(Link):
     def __init__(self, room, seed, most, fate_of):
         draw = random.Random(f"link {seed}")
         self.up, self.down = (Direction(random.Random(draw.random()), most) for _ in range(2))
-        # the fate of the reply to each sequence number
-        self.fate_of, self.fates = fate_of, {}
+        # the fate of the reply to each sequence number, and when its command was sent
+        self.fate_of, self.fates, self.sent = fate_of, {}, {}
         super().__init__(Server(room))
 
     def there(self, caller, programmer):
         for number, frame in enumerate(frames_of(caller), 1):
             fate, _, of = self.fate_of(number).partition(" ")
             self.fates[frame[1]] = fate if of == "answer" else ""
+            if of != "command":
+                self.sent[frame[1]] = time.monotonic()
             self.up.send(programmer, frame, fate if of == "command" else "")
 
     def back(self, programmer, caller):
         for frame in frames_of(programmer):
+            now = time.monotonic()
+            pauses.note(now - self.sent.pop(frame[1], now))
             self.down.send(caller, frame, self.fates.get(frame[1], ""))
 
     def end(self):
@@ -209,9 +215,13 @@ def runs_over(name, kind):
             (plans[it % len(plans)], f"{name} {it}", draw.choice(kind.pieces), kind.fates(draw))
             for it, draw in enumerate(draws)
         ]
-        found = list(pool.map(lambda it: run(*it), links))
-    for (plan, label, *_), outcome in zip(links, found):
-        holds(label, plan, *outcome)
+        # (a pause can make a run fail, which matters only if runs must succeed)
+        may_fail = not kind.good or kind.good[0] == 0
+        tried = list(pool.map(lambda it: attempts(lambda: run(*it), lambda found: found[0] == 0 or may_fail), links))
+    for (plan, label, *_), outcomes in zip(links, tried):
+        for outcome in outcomes:
+            holds(label, plan, *outcome)
+    found = [it[-1] for it in tried]
     good, forged = (sum(it) for it in zip(*((it[0] == 0, it[2]) for it in found)))
     SUCCEEDED[name] = good
     check(f"{name}: the chips of most runs are judged", forged <= (kind.count // 4 if "losses" in name else 0), forged)
@@ -270,7 +280,7 @@ class SmallPlan:
 
     def run(self, fates):
         """Makes a run over a link with these fates. Returns its status and lines, the chip and the files that it read,
-        and the number of frames."""
+        and the bodies of the frames that it sent."""
         room = Room()
         for name, content in (self.given | {"served.bin": self.chip}).items():
             room.put(name, content)
@@ -282,26 +292,35 @@ class SmallPlan:
             messages.splitlines(),
             room.read("served.bin"),
             {it: room.read(it) for it in self.read},
-            len(sent),
+            [it[5:-1] for it in sent],
         )
+
+
+def may_succeed(before, after, dialog):
+    """Returns whether a run may succeed in which the programmer restarts after it has received the frames `before`:
+    only to sign on had been sent, or only to leave was left of its dialog. (These are bodies of frames; a frame whose
+    reply comes late is sent again, so frames aren't counted.)"""
+    signs_on = all(it[0] == SIGN_ON for it in before)
+    leaves = all(it[0] == LEAVE for it in after) and all(it in before or it[0] == LEAVE for it in dialog)
+    return signs_on or leaves
 
 
 def restarts():
     """The programmer restarts after each frame of a plan in turn, also after its reply to the last one."""
     plans = [SmallPlan(it) for it in range(200)]
     with ThreadPoolExecutor(AT_ONCE) as pool:
-        good = list(pool.map(lambda plan: plan.run({}), plans))
+        good = list(pool.map(lambda plan: attempts(lambda: plan.run({}), lambda it: it[0] == 0)[-1], plans))
         for number, (plan, found) in enumerate(zip(plans, good)):
             wanted = (0, found[1], plan.left, plan.read, found[4])
             check_equal(f"plan {number}, {plan.words}: without a restart", found, wanted)
-        tried = [(plan, it, found) for plan, found in zip(plans, good) for it in range(1, found[4] + 1)]
+        tried = [(plan, it, found) for plan, found in zip(plans, good) for it in range(1, len(found[4]) + 1)]
         tried = sampled("restarts", 150, tried)
         found = list(pool.map(lambda it: it[0].run({it[1]: "restart"}), tried))
-    for (plan, at, good), (status, told, *held, _) in zip(tried, found):
-        name = f"{plan.words}: a restart after frame {at} of {good[4]}"
+    for (plan, at, good), (status, told, *held, sent) in zip(tried, found):
+        name = f"{plan.words}: a restart after frame {at} of {len(good[4])}"
         if status == 0:
             check_equal(name, (told, *held), good[1:4])
-            check(f"{name}: status 0", at in (1, good[4] - 1, good[4]))
+            check(f"{name}: status 0", may_succeed(sent[:at], sent[at:], good[4]), sent)
         else:
             check(name, status == 1 and told[:-1] == good[1][: len(told) - 1], told)
     ended_well = sum(it[0] == 0 for it in found)
@@ -310,8 +329,8 @@ def restarts():
 
 
 def as_many_succeed():
-    """Checks how many runs over links that cut frames, stall or lag succeeded. On a busy machine a pause can spoil
-    some."""
+    """Checks how many runs over links that cut frames, stall or lag succeeded. A run that
+    failed was made again if a pause was measured meanwhile."""
     for name, kind in ((name, it) for name, it in KINDS.items() if it.good):
         if name not in SUCCEEDED:
             runs_over(name, kind)

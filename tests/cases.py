@@ -6,6 +6,7 @@ import random
 import re
 import signal
 import sys
+import threading
 import time
 import traceback
 from pathlib import Path
@@ -26,6 +27,10 @@ SOMEBODY = ["setpriv", "--reuid=65534", "--regid=65534", "--clear-groups"] if os
 passed = 0
 failed = 0
 left = 0
+# how many runs and cases were made again because a pause was measured meanwhile
+again = 0
+# the reports of failures in a case that measures time, until it is known whether the case is made again; else None
+held = None
 
 # the status of a script in which only cases failed that measure time: on a busy machine it may be made again
 LATE = 75
@@ -37,6 +42,62 @@ PATIENCE = int(os.environ.get("PATIENCE", 600))
 # the most characters printed of a found or a wanted value
 SHOWN = 600
 
+# a pause: a thread that sleeps for BEAT seconds wakes so many seconds late. A link may also measure a late reply
+BEAT, PAUSE = 0.02, 0.3
+# how often at most a run or a case is made again because of pauses
+MOST_AGAIN = 5
+
+
+class Pauses(threading.Thread):
+    """Counts pauses: times in which this process didn't run, because the machine stood still or was busy."""
+
+    def __init__(self):
+        super().__init__(daemon=True)
+        self.noted, self.seconds, self.woke, self.lock = 0, 0.0, time.monotonic(), threading.RLock()
+
+    def run(self):
+        while True:
+            time.sleep(BEAT)
+            self.so_far()
+
+    def note(self, late):
+        """Counts a pause if something came so many seconds late."""
+        with self.lock:
+            self.noted += late > PAUSE
+
+    def so_far(self):
+        """Returns the number of pauses, with one that has just ended."""
+        with self.lock:
+            now = time.monotonic()
+            if not self.is_alive():
+                self.woke = now
+                self.start()
+            late, self.woke = now - self.woke - BEAT, now
+            self.note(late)
+            self.seconds += late if late > PAUSE else 0
+            return self.noted
+
+    def awake(self):
+        """Returns a time in seconds that stands still in pauses."""
+        self.so_far()
+        return time.monotonic() - self.seconds
+
+
+pauses = Pauses()
+
+
+def attempts(make, is_good):
+    """Makes a run and returns all its outcomes, of which the last one counts. Only if an outcome isn't good and a pause
+    was measured meanwhile, the run is made again: a wrong outcome without a pause counts."""
+    global again
+    found = []
+    while True:
+        before = pauses.so_far()
+        found.append(make())
+        if is_good(found[-1]) or pauses.so_far() == before or len(found) > MOST_AGAIN:
+            return found
+        again += 1
+
 
 def check(name, good, detail=""):
     """Counts a check and returns whether it holds. If not, prints its name and details."""
@@ -45,7 +106,8 @@ def check(name, good, detail=""):
         passed += 1
     else:
         failed += 1
-        print(f"FAILED: {name}" + (f"\n{detail}" if detail else ""), flush=True)
+        told = name + (f"\n{detail}" if detail else "")
+        print(f"FAILED: {told}", flush=True) if held is None else held.append(told)
         if os.environ.get("FIRST_FAILURE") == "1":
             sys.exit(1)
     return bool(good)
@@ -130,30 +192,61 @@ def chosen(cases):
 def run_cases(cases, doc, timed=()):
     """Runs all cases, or those named on the command line, and returns the status. If a name is unknown, prints the
     script's own help and the names of all cases. A case that raises an exception has failed; the others still run. The
-    `timed` cases measure time, or wait for a time that the program measures."""
+    `timed` cases measure time, or wait for a time that the program measures. If one fails and a pause was measured
+    meanwhile, it is made again, unless it has itself made runs again."""
     if set(sys.argv[1:]) - set(cases):
         print(doc.strip(), "", "Cases:", *(f"    {it}" for it in cases), sep="\n")
         return 2
     wrong = set()
     for name in chosen(cases):
-        before, failed_before, left_before, begun = passed, failed, left, time.monotonic()
-        try:
-            cases[name]()
-        except (Exception, SystemExit):
-            check(name, False, traceback.format_exc().strip())
-        if (passed, failed, left) == (before, failed_before, left_before):
-            check(name, False, "it has looked at nothing")
+        before, begun = passed, time.monotonic()
+        is_good = run_case(name, cases[name]) if name not in timed else run_timed(name, cases[name])
         print(f"{passed - before:6} seen in {time.monotonic() - begun:.1f} s: {name}", flush=True)
-        wrong |= {name} if failed > failed_before else set()
+        wrong |= set() if is_good else {name}
     is_late = wrong and wrong <= set(timed) and not lacks()
     if is_late:
         print(f"late: {' | '.join(wrong)}", flush=True)
     return ended() and (LATE if is_late else 1)
 
 
+def run_case(name, case):
+    """Runs a case, and returns whether all its checks hold."""
+    before = passed, failed, left
+    try:
+        case()
+    except (Exception, SystemExit):
+        check(name, False, traceback.format_exc().strip())
+    if (passed, failed, left) == before:
+        check(name, False, "it has looked at nothing")
+    return failed == before[1]
+
+
+def run_timed(name, case):
+    """Runs a case that measures time, and returns whether all checks of its last attempt hold."""
+    global held
+    if os.environ.get("FIRST_FAILURE") == "1":
+        return run_case(name, case)
+    before = passed, failed, left
+
+    def attempt():
+        global passed, failed, left, held
+        for told in held or []:
+            print(f"no outcome, because a pause was measured: {told}", flush=True)
+        (passed, failed, left), held = before, []
+        made = again
+        return run_case(name, case), again > made
+
+    is_good, _ = attempts(attempt, any)[-1]
+    for told in held:
+        print(f"FAILED: {told}", flush=True)
+    held = None
+    return is_good
+
+
 def ended():
     """Prints the counts and returns the status: 1 if a check failed or is lacking."""
-    print(f"{passed} passed, {failed} failed, {left} left out", flush=True)
+    paused = f", {again} made again because of pauses" if again else ""
+    print(f"{passed} passed, {failed} failed, {left} left out{paused}", flush=True)
     return int(failed > 0 or lacks())
 
 

@@ -18,7 +18,7 @@ import sys
 import traceback
 from concurrent.futures import ThreadPoolExecutor
 
-from cases import check, named, run_cases
+from cases import attempts, check, named, pauses, run_cases
 from line import Peer, frames_of
 from model import BUILT_IN, MEMORIES, READ_ONLY, Ended, Part, Programmer, Run, size_of
 from program import Room, frame, lines
@@ -106,16 +106,23 @@ class Link:
 
 
 class Double(Peer):
-    """A programmer at a port."""
+    """A programmer at a port. `late` has the numbers of frames whose reply may have come late, because a pause was
+    measured meanwhile."""
 
     def __init__(self, link):
-        self.link = link
+        self.link, self.late = link, set()
         super().__init__()
 
     def serve(self, caller):
+        # the pauses before the last reply was sent: the next frame may be there as soon as that is sent
+        before = pauses.so_far()
         try:
             for it in frames_of(caller):
-                caller.sendall(self.link.replies(it))
+                reply, now = self.link.replies(it), pauses.so_far()
+                caller.sendall(reply)
+                if pauses.so_far() > before:
+                    self.late.add(len(self.link.sent))
+                before = now
                 if self.link.has_ended:
                     caller.shutdown(socket.SHUT_WR)
         except OSError:
@@ -287,46 +294,69 @@ class Drawn:
             first, kind = draw.randint(1, 12), draw.choice(["refuse", "babble", "spoil", "noise"])
             self.fates.update(dict.fromkeys(range(first, first + draw.randint(3, 5)), kind))
 
-    def link(self):
-        return Link(Programmer(self.part, self.chip), self.fates, self.seed, self.is_silent)
+    def link(self, late=()):
+        fates = self.fates | dict.fromkeys(late, "late")
+        return Link(Programmer(self.part, self.chip), fates, self.seed, self.is_silent)
 
     def words_at(self, port):
         return [it.replace("PORT", str(port)) for it in self.words]
+
+
+def model_of(drawn, words, late=()):
+    """Returns the model of a run. The replies to these frames come late, beside what was drawn."""
+    over_emulator = drawn.kind.startswith("emu:")
+    return Run(
+        words, drawn.files, lambda part, chip: Link(Programmer(part, chip)) if over_emulator else drawn.link(late)
+    )
+
+
+def late_replies(drawn, peer):
+    """Returns the frames whose replies came late because of pauses: a pause was measured, and then the program repeated
+    the frame, or the two frames of which it was the second."""
+    bodies = [it[5:-1] for it in peer.link.sent]
+    measured = [it for it in peer.late - drawn.fates.keys() if it < len(bodies)]
+    return [it for it in measured if bodies[it] in bodies[max(0, it - 2) : it]]
 
 
 def made(drawn):
     """Makes a drawn run. Returns what the model and the program send, print, write and end with."""
     room, peer = Room(), Double(drawn.link()) if drawn.is_silent else None
     words = drawn.words_at(peer.port if peer else 0)
-    over_emulator = drawn.kind.startswith("emu:")
-    model = Run(words, drawn.files, lambda part, chip: Link(Programmer(part, chip)) if over_emulator else drawn.link())
+    model = model_of(drawn, words)
     for name, content in drawn.files.items():
         if name != "-":
             room.put(name, content)
-    given, frames = drawn.files.get("-", b""), b"".join(model.link.sent) if model.link else b""
+    given = drawn.files.get("-", b"")
     if drawn.kind == "stdio:":
+        frames = b"".join(model.link.sent) if model.link else b""
         given, model.output = bytes(model.link.tape) if model.link else b"", frames
     status, output, messages = room.run(words, given)
+    if peer:
+        peer.end()
+        late = late_replies(drawn, peer)
+        model = model_of(drawn, words, late) if late and model.link else model
     wanted = {"status": model.status, "messages": lines(*model.lines), "output": model.output}
     found = {"status": status, "messages": messages, "output": output}
     wanted.update({name: it for name, it in model.files.items() if name != "-"})
     found.update({it.name: room.read(it.name) for it in room.folder.iterdir() if it.name not in room.given})
     if peer:
-        peer.end()
-        wanted["frames"], found["frames"] = frames, b"".join(peer.link.sent)
+        wanted["frames"] = b"".join(model.link.sent) if model.link else b""
+        found["frames"] = b"".join(peer.link.sent)
     return wanted, found
 
 
 def difference(seed, kinds):
-    """Makes the run of this seed. Returns how model and program differ, and the model's status."""
+    """Makes the run of this seed. Returns how model and program differ, and the model's status. The first line has the
+    seed and what differs."""
     try:
         drawn = Drawn(seed, kinds)
         wanted, found = made(drawn)
     except Exception:
-        return f"{seed}: {traceback.format_exc()}", 1
+        return f"{seed}: an exception\n{traceback.format_exc()}", 1
     differing = [it for it in {**wanted, **found} if wanted.get(it) != found.get(it)]
     told = [f"{it}\n  model:   {wanted.get(it)!r:.600}\n  program: {found.get(it)!r:.600}" for it in differing]
-    return "\n".join([f"{seed}: {drawn.words} {drawn.fates}", *told]) if told else "", wanted["status"]
+    head = f"{seed}: {', '.join(differing)}\n{drawn.words} {drawn.fates}"
+    return "\n".join([head, *told]) if told else "", wanted["status"]
 
 
 def compared(seed, count, kinds):
@@ -336,9 +366,10 @@ def compared(seed, count, kinds):
     seeds = [os.environ["RUN"]] if "RUN" in os.environ else seeds
     print(f"{len(seeds)} runs are drawn by {seed}", flush=True)
     with ThreadPoolExecutor(AT_ONCE) as pool:
-        done = list(pool.map(lambda it: difference(it, kinds), seeds))
+        done = list(pool.map(lambda it: attempts(lambda: difference(it, kinds), lambda it: not it[0])[-1], seeds))
     for told, _ in done:
-        check("a run that the model makes otherwise", not told, told)
+        which, _, how = told.partition("\n")
+        check(f"a run that the model makes otherwise: {which}", not told, how)
     good = sum(status == 0 for _, status in done)
     check("a quarter of the runs or more ends with status 0", good * 4 >= len(seeds) or len(seeds) < 50, good)
 
@@ -349,7 +380,8 @@ def over_emulator_and_streams():
 
 
 def over_a_port():
-    """Compares runs over a port, where replies may be lost or late."""
+    """Compares runs over a port, where replies may be lost or late. In a pause of this machine the program repeats a
+    command; the reply to it is then late in the model, too."""
     compared(0, 100, ["net:127.0.0.1:PORT"])
 
 

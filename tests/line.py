@@ -4,8 +4,9 @@ one."""
 import socket
 import struct
 import threading
+import time
 
-from cases import PATIENCE
+from cases import PATIENCE, pauses
 from program import Server
 
 
@@ -147,7 +148,9 @@ class BadLine(Link):
                 if fate == "lost command":
                     continue
                 programmer.sendall(frame)
+                begun = time.monotonic()
                 answer = next(answers)
+                pauses.note(time.monotonic() - begun)
                 if fate == "late answer":
                     late += answer
                 elif fate != "lost answer":

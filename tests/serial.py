@@ -44,7 +44,7 @@ from concurrent.futures import ThreadPoolExecutor
 from functools import lru_cache
 from pathlib import Path
 
-from cases import PATIENCE, bytes_of, leave_out, named, own_environment, put_program
+from cases import PATIENCE, attempts, bytes_of, leave_out, named, own_environment, put_program
 from cases import check, check_equal, run_cases, sampled, table, wait_until
 from line import frames_in, frames_of
 from program import CHIP_FILE, PROGRAM, SESSION, SIGNATURE, TOP, Room, Server, forks, frame
@@ -289,6 +289,11 @@ def side_by_side(call, given):
         return list(lanes.map(call, given))
 
 
+def unpaused(call):
+    """Returns a call that is made again if a pause was measured meanwhile, because a board replies only for a time."""
+    return lambda it: attempts(lambda: call(it), lambda _: False)[-1]
+
+
 def flashes(words, **board):
     """Runs these options, with a board's device after -P. Returns the status, the lines of avrstk, whether the chip has
     the firmware, and the script's own lines."""
@@ -302,7 +307,7 @@ def words_of_avrdude():
     flashed()
     room.put("blink.HEX", room.read("blink.hex"))
     cases = [(words.split(), list(filter(None, [own]))) for words, own in table("accepted")]
-    for (words, own), found in zip(cases, side_by_side(lambda it: flashes(it[0]), cases)):
+    for (words, own), found in zip(cases, side_by_side(unpaused(lambda it: flashes(it[0])), cases)):
         texts = [it for it in FIRMWARE if it != "chip erased" or "-D" not in words]
         check_equal(" ".join(words), found, (0, lines(*texts), True, own))
 
@@ -709,7 +714,7 @@ def retries():
         return status, own, it.end() == wanted
 
     cases = table("attempts")
-    for (each, count, error, hint), (status, own, is_flashed) in zip(cases, side_by_side(ran, cases)):
+    for (each, count, error, hint), (status, own, is_flashed) in zip(cases, side_by_side(unpaused(ran), cases)):
         again = [f"{error}: the same command again, {it} of 2" for it in range(1, int(count) + 1)]
         # (whichever byte differs first)
         found = (status, [re.sub(r"address .*? expected", "address 00000000: 0C expected", it) for it in own])
@@ -1098,7 +1103,8 @@ def hints():
         return status, others, own, it.end(), time.monotonic() - begun
 
     cases = table("failures")
-    for (name, _, wanted, told, _), (status, others, own, chip, seconds) in zip(cases, side_by_side(ran, cases)):
+    found = side_by_side(unpaused(ran), cases)
+    for (name, _, wanted, told, _), (status, others, own, chip, seconds) in zip(cases, found):
         check(f"{name}: it ends by itself soon", seconds < 40, seconds)
         is_right = (status, len(own)) == (1, 1) and wanted in own[0] and told.encode() in others
         check(f"{name}: {wanted}: {told}", is_right, (status, others, own))

@@ -474,5 +474,8 @@ CASES = named(
     *(retried, signals, progress, ordinary_user),
 )
 
+# boards that reply for a time, so that a busy machine can end their runs
+TIMED = ["twenty_doubles", "one_command", "retried", "signals", "progress"]
+
 if __name__ == "__main__":
-    sys.exit(run_cases({name: lambda it=it: (room.clear(), it()) for name, it in CASES.items()}, __doc__))
+    sys.exit(run_cases({name: lambda it=it: (room.clear(), it()) for name, it in CASES.items()}, __doc__, timed=TIMED))

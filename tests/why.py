@@ -15,7 +15,7 @@ import sys
 import time
 from pathlib import Path
 
-from cases import PATIENCE, check, check_equal, leave_out, named, run_cases
+from cases import PATIENCE, check, check_equal, leave_out, named, pauses, run_cases
 from line import BadLine
 from program import CHIP_FILE, ENDS, PROGRAM, REPLIES, TOP, Room, Server, frame, has_avrdude, lines
 
@@ -128,17 +128,19 @@ def no_answer():
     room.clear()
     with socket.create_server(("127.0.0.1", 0)) as silent:
         port = ["-p", "m328p", "-P", f"net:127.0.0.1:{silent.getsockname()[1]}"]
-        begun = time.monotonic()
+        begun, awake = time.monotonic(), pauses.awake()
         quiet = {"stdin": subprocess.DEVNULL, "stdout": subprocess.DEVNULL, "stderr": subprocess.DEVNULL}
         other = subprocess.Popen(["avrdude", "-c", "stk500v2", *port], **quiet) if has_avrdude() else None
         started = room.start(port)
-        line, taken = started.stderr.readline(), time.monotonic() - begun
-        check("`no answer`", line == lines("error: no answer") and first <= taken < first + 2, (line, taken))
+        # (at least so long in all, and not much longer without pauses of the machine)
+        line, taken, own = started.stderr.readline(), time.monotonic() - begun, pauses.awake() - awake
+        is_right = line == lines("error: no answer") and first <= taken and own < first + 2
+        check("`no answer`", is_right, (line, taken, own))
         started.communicate(timeout=PATIENCE)
-        taken = time.monotonic() - begun
-        check("the end", started.returncode == 1 and last <= taken < last + 2, taken)
+        taken, own = time.monotonic() - begun, pauses.awake() - awake
+        check("the end", started.returncode == 1 and last <= taken and own < last + 2, (taken, own))
         if other:
-            time.sleep(patient - taken)
+            time.sleep(max(0.0, patient - taken))
             check(f"AVRDUDE still waits after {patient} s", other.poll() is None, other.poll())
             other.kill()
             other.wait()
@@ -181,11 +183,11 @@ def closed_connection():
             if told == "cannot be read":
                 client.recv(1, socket.MSG_PEEK)
             client.close()
-            begun = time.monotonic()
+            begun = pauses.awake()
             if told:
                 messages = started.communicate(timeout=PATIENCE)[1]
                 check_equal(f"`link {told}`", (started.returncode, messages), (1, lines(f"error: link {told}")))
-                check("at once", time.monotonic() - begun < 2, time.monotonic() - begun)
+                check("at once", pauses.awake() - begun < 2, pauses.awake() - begun)
                 continue
             time.sleep(5)
             before = used_by(started.pid)
