@@ -1,5 +1,5 @@
 #!/usr/bin/env python3
-"""Runs most commands of README, docs/USAGE and docs/EMULATOR, in a fresh clone with a built program.
+"""Runs most commands of README, docs/USAGE, docs/EMULATOR and examples/README, in a fresh clone with a built program.
 Each ends with status 0, none starts a build, and git sees no file that they made.
 
 Not proved: No proof covers documents and the shell.
@@ -142,10 +142,19 @@ def usage(clone):
     """Runs the commands of docs/USAGE and EMULATOR that are in no list; those for an installed avrstk use one that
     install.sh has installed."""
     clone.types(["./install.sh ~/.local"])
-    of_examples = re.findall(r"\| `(\./avrstk .*?)`", (TOP / "examples/README.md").read_text())
-    check("examples/README has commands", len(of_examples) > 3, of_examples)
-    for commands in [*blocks("docs/USAGE.md"), *blocks("docs/EMULATOR.md"), *([it] for it in of_examples)]:
+    for commands in [*blocks("docs/USAGE.md"), *blocks("docs/EMULATOR.md")]:
         clone.tries(commands)
+
+
+def examples(clone):
+    """Runs the commands of examples/README with avrstk, and the tests with a double, where nothing is installed."""
+    found = re.findall(r"\| `(\./avrstk .*?|[^`]*\bpytest .*?)`", (TOP / "examples/README.md").read_text())
+    check("examples/README has commands", len(found) > 4 and any("pytest" in it for it in found), found)
+    for it in found:
+        if "pytest" in it and not shutil.which("pytest"):
+            leave_out(it, "pytest is not installed")
+        else:
+            clone.tries([it])
 
 
 # the Arduino IDE's own rules for AVR boards: names and values, of which platform.local.txt replaces some
@@ -225,7 +234,7 @@ def jobs(clone):
         (clone.folder / "chip.bin").unlink()
 
 
-CASES = named(*map(in_a_clone, [readme, usage, in_place_of_avrdude, jobs]))
+CASES = named(*map(in_a_clone, [readme, usage, examples, in_place_of_avrdude, jobs]))
 
 if __name__ == "__main__":
     sys.exit(run_cases(CASES, __doc__))

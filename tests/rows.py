@@ -38,7 +38,7 @@ READING = [f"reads {it}" for it in ("signature", "calibration", "fuses", "lock",
 WRITING = ["erases", "writes flash", "writes fuses", "writes lock"]
 SAFE, ALL = ["--try-rows"], ["--try-rows=all", "--yes"]
 BY_A_GOOD_LINE = " while the line changes no byte (version 1 has no checksums)"
-FIRMWARE, COMPARED = "the promise of README", "what a run has compared after its last write is there"
+FIRMWARE, COMPARED = "the promise of README", "each image that a run compared after its last write is in the chip"
 TINY, FLASH, EEPROM = ["--parts", "tiny.toml", "-p", "tiny"], 2_048, 64
 room.keep("tiny.toml", boards.TINY.encode())
 # (flash and EEPROM with content of their own, fuses, and an open lock)
@@ -144,7 +144,7 @@ def seen(what, found, own, found_status, failing, left, promise, status=None):
         check_equal(f"{what}: rows with {how}", {name for name, (it, _) in found.items() if it == how}, set(wanted))
     check_equal(f"{what}: its status", found_status, int(bool(failing)) if status is None else status)
     if promise:
-        check(f"{what}: the promise", f"what that leaves: {promise}" in own, str(own))
+        check(f"{what}: the promise", f"promised of such a programmer: {promise}" in own, str(own))
 
 
 def served(words, options=(), chip=CHIP, part=TINY, failing=(), **more):

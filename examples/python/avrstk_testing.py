@@ -5,7 +5,8 @@
     assert double.commands[-1].name == "LEAVE_PROGMODE"
 
 The chip is bytes, as in a chip file (docs/EMULATOR). `chip` and `commands` can be read once the with statement has
-ended. AVRSTK_SERVE names the script avrstk-serve; the default is the installed one. Needs Python 3.8 or later."""
+ended. AVRSTK_SERVE names the script avrstk-serve; the default is that of the clone, or the installed one. Needs Python
+3.8 or later."""
 
 import os
 import re
@@ -31,6 +32,12 @@ class Command:
     marks: List[str]
 
 
+def program(variable: str, name: str) -> str:
+    """Returns the program that a variable names. The default is that of the clone, or the installed one."""
+    own = Path(__file__).resolve().parent / "../.." / name
+    return os.environ.get(variable, str(own) if own.is_file() else name)
+
+
 class Double:
     """Serves at a free port until the with statement ends. `options` are those of avrstk-serve."""
 
@@ -45,7 +52,7 @@ class Double:
         self.file, self.log = (Path(self.folder.name) / name for name in ("chip.bin", "log"))
         if self.given is not None:
             self.file.write_bytes(self.given)
-        script = os.environ.get("AVRSTK_SERVE", "avrstk-serve")
+        script = program("AVRSTK_SERVE", "avrstk-serve")
         words = [script, "0", "-p", self.part, "--chip", self.file, "--log", self.log, *self.options]
         self.server = subprocess.Popen([*map(str, words)], stdout=subprocess.PIPE, text=True)
         assert self.server.stdout is not None

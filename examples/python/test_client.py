@@ -1,12 +1,12 @@
 """Three tests of a client, here avrstk: run them by `pytest examples/python/test_client.py`.
 
-AVRSTK names the client, AVRSTK_SERVE the script avrstk-serve; the defaults are the installed ones."""
+AVRSTK names the client, AVRSTK_SERVE the script avrstk-serve; the defaults are those of the clone, or the installed
+ones."""
 
-import os
 import subprocess
 from pathlib import Path
 
-from avrstk_testing import Double
+from avrstk_testing import Double, program
 
 FIRMWARE = Path(__file__).resolve().parent.parent / "blink.hex"
 FLASH, EEPROM = 32_768, 1_024
@@ -17,7 +17,7 @@ KEEPS_EEPROM = OLD[:-3] + b"\xd1\xff\xff"
 
 def flash(port: str) -> int:
     """Runs the client, and returns its status."""
-    client = os.environ.get("AVRSTK", "avrstk")
+    client = program("AVRSTK", "avrstk")
     return subprocess.run([client, "-p", "m328p", "-P", port, "-U", f"flash:w:{FIRMWARE}:i"], timeout=120).returncode
 
 

@@ -434,7 +434,7 @@ class Rows:
             return "the promise of README"
         limit = " while the line changes no byte (version 1 has no checksums)" * self.words.is_version1
         limit += f" (not {', '.join(unread)})" if unread else ""
-        return f"what a run has compared after its last write is there{limit}"
+        return f"each image that a run compared after its last write is in the chip{limit}"
 
 
 def try_rows(words: Words, opens: Callable[[], Opened]) -> int:
@@ -451,8 +451,8 @@ def try_rows(words: Words, opens: Callable[[], Opened]) -> int:
     tried, again = [it for it in rows.results.values() if it is not None], rows.programmer.repeated
     if why:
         say(f"no further row is tried: {why}")
-    say(f"{sum(tried)} of {len(tried)} rows meet, tried at some addresses; {again} commands repeated")
-    say(f"what that leaves: {'not known' if why else rows.left()}")
+    say(f"{sum(tried)} of {len(tried)} rows are met, tried at some addresses; {again} commands repeated")
+    say(f"promised of such a programmer: {'not known' if why else rows.left()}")
     if rows.undo:
         say(f"the chip is changed. What restores it: {rows.undo}")
     elif rows.chip != rows.saved:
