@@ -13,6 +13,7 @@ simulated boards are a Mega 2560 with its bootloader, and boards of version 1.
 import contextlib
 import os
 import random
+import re
 import select
 import shutil
 import subprocess
@@ -41,6 +42,8 @@ BY_A_GOOD_LINE = " while the line changes no byte (version 1 has no checksums)"
 FIRMWARE, COMPARED = "the promise of README", "each image that a run compared after its last write is in the chip"
 TINY, FLASH, EEPROM = ["--parts", "tiny.toml", "-p", "tiny"], 2_048, 64
 room.keep("tiny.toml", boards.TINY.encode())
+# (the same sizes in hexadecimal)
+room.keep("hexadecimal.toml", re.sub(r"(?<== )\d+", lambda it: hex(int(it[0])), boards.TINY).encode())
 # (flash and EEPROM with content of their own, fuses, and an open lock)
 CHIP = (
     random.Random(4).randbytes(FLASH - 640) + b"\xff" * 640 + random.Random(5).randbytes(EEPROM) + b"\x62\xd9\xfd\xff"
@@ -179,6 +182,7 @@ def emulated():
     # (the erase keeps this EEPROM)
     served(ALL, chip=CHIP[:-3] + b"\xd1\xfd\xff", promise=FIRMWARE)
     served(SAFE, part=["-p", "m328p"], chip=serial.os.urandom(33_792) + b"\x62\xd9\xfd\xff", left=WRITING)
+    served(SAFE, part=["--parts", "hexadecimal.toml", "-p", "tiny"], left=WRITING)
 
 
 # how each fault of avrstk-serve shows: faults of the line only make the script repeat commands
@@ -372,8 +376,13 @@ def refused():
         f"{at} --try-rows -U lfuse:r:-:h": "--try-rows tries a programmer, and takes no -U",
         f"{at} --try-rows --json report": "--try-rows tries a programmer, and takes no --json",
         "-P emu:chip.bin -p m328p --try-rows": "--try-rows is for a serial device, not -P emu:chip.bin",
-        "-P /dev/null -p nosuch --try-rows": "the sizes of nosuch are not known here: nothing was sent",
+        "-P /dev/null -p nosuch --try-rows": "no part nosuch: -p '?' lists the parts; others need a part file",
+        "-P /dev/null --try-rows": "no part given (-p): -p '?' lists the parts, and -p auto takes whichever is there;",
+        "-P /dev/null --parts one.toml -p c-chip --try-rows": "--try-rows finds no sizes of c-chip in one.toml: give "
+        "it a table of its own there, [parts.c-chip]: nothing was sent",
     }
+    fields = "signature = '1E950F', flash_size = 0x8000, flash_page = 0x80, eeprom_size = 1_024, eeprom_page = 4"
+    room.put("one.toml", f"parts = {{ c-chip = {{ {fields}, eesave_bit = 3 }} }}\n".encode())
     for words, why in cases.items():
         status, output, _, own = serial.run(words.split())
         check_equal(words, (status, output, own[0][: len(why)]), (1, b"", why))

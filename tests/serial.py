@@ -910,7 +910,7 @@ def backups():
         ({"answer": refused}, ["--backup", "gone"], loader),
         ({"answer": refused}, ["--restore", "a backup"], loader),
         ({"talk": b"x"}, ["--backup", "gone", "-b", "x"], "-b x: not a speed"),
-        (silent(0x16), ["--backup", "gone"], "the programmer stopped replying"),
+        (silent(0x16), ["--backup", "gone"], "no further valid reply"),
         (
             board_of("part t85"),
             ["-p", "t85", "--restore", "a backup"],
@@ -1089,6 +1089,8 @@ def board_of(cell):
         return {"answer": changes(int(command, 16), bytes_of(body))}
     if kind == "silent":
         return silent(int(what, 16))
+    if kind == "spoil":
+        return {"answer": lambda it: it[:-1] + bytes([it[-1] ^ 1]) if it[5] == int(what, 16) else it}
     known = {"deaf": int, "vanish": int, "talk": bytes_of}
     return {kind: known[kind](what)} if kind else {}
 
@@ -1405,17 +1407,17 @@ FOLLOWED = [
     (r"has 1 byte: give its value, as lfuse:w:0xNN:m", changed("^lfuse:.*", "lfuse:w:0xE2:m")),
     (r"without the package: -p (\w+)|give -p (\w+);", changed("^(m328p-pu|mega328p)$", r"\1\2")),
     (
-        r"-p takes the chip's name, not the board's: (m328p) for Uno|^-p \? lists the parts",
-        changed("^(uno|m9)$", "m328p"),
+        r"-p takes the chip's name, not the board's: (m328p) for Uno|^-p '\?' lists the parts",
+        changed("^(uno|nano|m9)$", "m328p"),
     ),
     (r"only bits that the part doesn't have differ: give (\S+)", lambda words, _, found: valued(words, found[1])),
     (r"bits ([\d, ]+) stay 1. If the part has none of them, give (\S+)\. If it has any of them, (.*)", stays),
     (r"only an erase \(-e\) removes (a|the) lock, and clears all of", lambda words, *_: [*words, "-e"]),
     (r"^-U lock was given before: give it last", lock_last),
     (r"give one value$|two images overlap \(give one of them\)", lambda words, *_: words[:-2]),
-    (r"^ended by SIG|^no reply; the chip is unchanged. Check: |^the device sends data, but no valid reply", mended),
+    (r"^ended by SIG|^no valid reply; the chip is unchanged. Check|^the device sends data, but no valid reply", mended),
     (
-        r"^the programmer (finds no chip|can't reach the chip|stopped replying)|^the device is gone"
+        r"^the programmer (finds no chip|can't reach the chip)|^no further valid reply|^the device is gone"
         r"|^something else sends data",
         mended,
     ),
@@ -1656,7 +1658,8 @@ def each_hint():
         "elf.hex": room.read("small.elf"),
         "comment.hex": b"; made by x\n" + good,
         "page.hex": b"<!DOCTYPE html>\n<p>no such firmware</p>\n",
-        **{"srec.hex": room.read("blink.srec"), "hex.srec": good, "closed.hex": good},
+        **{"srec.hex": room.read("blink.srec"), "hex.srec": good},
+        **{"closed.hex": good, "closed.elf": room.read("small.elf")},
         "late.hex": hex_of([(0x1000, b"late")]),
         "other.hex": hex_of([(0x1000, b"\xfe\xdc\xba\x98")]),
         "main.elf": elf_with(b"123", b".eeprom", 0x810000),
@@ -1667,7 +1670,8 @@ def each_hint():
     for name, held in files.items():
         room.put(name, held)
     (room.folder / "gone.hex").symlink_to("nowhere")
-    (room.folder / "closed.hex").chmod(0)
+    for it in ("closed.hex", "closed.elf"):
+        (room.folder / it).chmod(0)
     with socket.socket(socket.AF_UNIX) as it:
         it.bind(str(room.folder / "socket"))
     held = {"blink": firmware[:228], "elf": b"\x0c\x94\x34\x00", "old": OLD[:228]}

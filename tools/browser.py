@@ -26,14 +26,17 @@ SHAPES = ((WIDE, "light"), (NARROW, "dark"), (NARROW, "light"), (WIDE, "dark"))
 # the pages of the code, which are long and alike: one shape is enough
 CODE = ("docs/api/", "docs/definitions/", "crates/")
 
-# the width of the page's contents, the smallest letters of its pictures, and the brightness of its ground and text
+# the width of the page's contents, the smallest letters of its pictures, the brightness of its ground and text, and how
+# many copy buttons cover code
 MEASURED = """
 const bright = it => { const [r, g, b] = it.match(/[\\d.]+/g).map(Number); return (r + g + b) / 3 }
 const style = getComputedStyle(document.body)
 const letters = [...document.querySelectorAll("svg.picture")].map(
     it => 16 * it.getBoundingClientRect().width / it.viewBox.baseVal.width)
 const wide = document.documentElement.scrollWidth
-return [wide, Math.min(99, ...letters), bright(style.backgroundColor), bright(style.color)]
+const buttons = [...document.querySelectorAll("button.copybtn")].filter(it =>
+    it.getBoundingClientRect().left < it.parentElement.querySelector("pre").getBoundingClientRect().right)
+return [wide, Math.min(99, ...letters), bright(style.backgroundColor), bright(style.color), buttons.length]
 """
 FIRST = "return document.querySelector('#search-results li a')?.href"
 
@@ -95,9 +98,12 @@ def faults_of(browser, page, name):
     browser.ask("/url", {"url": page.as_uri()})
     for width, theme in SHAPES[1:2] if str(name).startswith(CODE) else SHAPES:
         browser.shape(width, theme)
-        wide, letters, ground, text = browser.value(MEASURED)
+        wide, letters, ground, text, covering = browser.value(MEASURED)
         if wide > width:
             yield f"{name} is {wide} pixels wide at {width}"
+        # (a wide screen shows them only under the pointer)
+        if width == NARROW and covering:
+            yield f"{name}: {covering} copy buttons cover code at {width}"
         if letters < 15.9:
             yield f"{name}: the letters of a picture have {letters:.1f} pixels at {width}"
         if (ground < 80) != (theme == "dark") or abs(ground - text) < 100:

@@ -55,8 +55,10 @@ class Waiting(NamedTuple):
 def seconds(option: str, given: str) -> float:
     """Returns the seconds in an option's value, which are more than 0."""
     number = given.partition(":")[2] if option == "--late" else given
+    if option == "--late" and ":" not in given:
+        raise Fault(f"{option} {given}: give WHICH:SECONDS")
     if not re.fullmatch(r"[0-9]{1,9}(\.[0-9]+)?", number) or not float(number):
-        raise Fault(f"{option} {given}: not a number of seconds")
+        raise Fault(f"{option} {given}: not a number of seconds above 0")
     return float(number)
 
 

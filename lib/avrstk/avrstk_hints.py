@@ -7,6 +7,7 @@ from avrstk_words import FORMATS, FUSES, MEMORIES, RECORD, UNOPENED, Update, Wor
 
 import os
 import re
+import shlex
 import signal
 from dataclasses import dataclass, field
 from typing import Callable, Dict, Match, Union
@@ -110,7 +111,7 @@ def hint(run: Outcome, number: int | None) -> str:
     if error == "no answer" and run.left_at_error:
         return f"everything above was done; only the last command got no reply. {POWER_CYCLE.capitalize()}"
     if error == "no answer" and run.commands <= {SIGN_ON, LEAVE}:
-        return f"no reply; {UNCHANGED}. Check: {speed}; that no serial monitor has the port open; {others}"
+        return f"no valid reply; {UNCHANGED}. Check: {speed}; that no serial monitor has the port open; {others}"
     return matched(REPLIED, error, words, speed=speed, state=state) or state
 
 
@@ -123,7 +124,7 @@ def matched(table: Table, error: str, words: Words, **fields: str) -> str:
     return ""
 
 
-def no_part(words: Words, _: Match[str]) -> str:
+def no_part(words: Words, _: Match[str] | None) -> str:
     """Returns why a part isn't there, if it is known."""
     name = long_name(words.part)
     for names, reason in rows_of("unsupported.txt") if words.parts_file is None else []:
@@ -134,10 +135,11 @@ def no_part(words: Words, _: Match[str]) -> str:
         return f"without the package: -p {package}"
     if f"at{package}" in parts():
         return f"give -p at{package}"
-    if re.match("uno|nano|mega|leonardo|micro", name):
-        return "-p takes the chip's name, not the board's: m328p for Uno, m2560 for Mega 2560, m32u4 for Leonardo"
+    if re.match("uno|nano|pro|mega|leonardo|micro", name):
+        boards = "m328p for Uno, Nano and Pro Mini, m2560 for Mega 2560, m32u4 for Leonardo, Micro and Pro Micro"
+        return f"-p takes the chip's name, not the board's: {boards}"
     auto = "" if words.part else ", and -p auto takes whichever is there"
-    return f"-p ? lists the parts{auto}; others need a part file (--parts)"
+    return f"-p '?' lists the parts{auto}; others need a part file (--parts)"
 
 
 def unread(words: Words, found: Match[str]) -> str:
@@ -152,7 +154,8 @@ def unread(words: Words, found: Match[str]) -> str:
         return "the file is damaged or cut short: build or download it again"
     other = {b":": "i", b"S": "s", b"\x7f": "e"}.get(held[:1], update.format)
     if other and other != update.format:
-        return f"it has {FORMATS.get(other)}: give {update.memory}:{update.operation}:{update.file}:{other}"
+        given = shlex.quote(f"{update.memory}:{update.operation}:{update.file}:{other}")
+        return f"it has {FORMATS.get(other)}: give {given}"
     if re.search(rb"^" + RECORD.pattern, held, re.M):
         cure = "delete that if it is a comment, else build or download the file again"
         return f"something is above its first record: {cure}"
@@ -184,7 +187,7 @@ def unopened(words: Words, found: Match[str]) -> str:
             base = f"{update}:0x{file}:m if it is hexadecimal, {update}:{file}:m if it is decimal"
             return f"a value needs :m after it: give {base}"
         if os.path.isfile(front):
-            return f"a format is one letter: give -U {update}:{front}"
+            return f"a format is one letter: give -U {shlex.quote(f'{update}:{front}')}"
     if not os.path.lexists(file):
         return "there is no such file"
     if not os.path.exists(file):
@@ -329,7 +332,7 @@ REPLIED: Table = {
     "if it refuses again, use another programmer",
     "command 10 ": "the programmer can't reach the chip, which is unchanged: check wires, power, clock and reset pin",
     "command (17|19|1C) ": "a bootloader can't write fuses and the lock, or read the calibration: use a programmer",
-    "no answer$": "the programmer stopped replying: check the cable and the power; {state}",
+    "no answer$": "no further valid reply: check the cable and the power; {state}",
     "no answer in|.*bad answer$": "something else sends data (the board's application), or {speed} is wrong; {state}",
     "link ": "the device is gone: check the cable; {state}",
     "command ": "the programmer refused the command: {state}; if it refuses again, use another one",

@@ -7,6 +7,7 @@ from avrstk_common import READ, Fault, Frames, came, is_frame, ready, say, show
 from avrstk_backup import FILES, command_again
 from avrstk_elf import hex_rows
 from avrstk_faults import framed, spoiled, xor
+from avrstk_hints import no_part
 from avrstk_words import UNOPENED, Words
 
 import contextlib
@@ -32,6 +33,10 @@ FUSES = ("lfuse", "hfuse", "efuse")
 
 # the bytes of a block, and the blocks of flash that are read again after a row, unless all rows are tried
 BLOCK, SAMPLE = 256, 16
+
+# how TOML writes a number that isn't negative
+DIGITS = {"0x": "[0-9A-Fa-f]+", "0o": "[0-7]+", "0b": "[01]+", "": "[0-9]+"}
+NUMBER = re.compile("0|" + "|".join(f"{base or '(?!0)'}{it}(_{it})*" for base, it in DIGITS.items()))
 
 MEMORIES = {"signature": ("signature",), "calibration": ("calibration",), "fuses": FUSES, "lock": ("lock",)}
 MEMORIES.update({"flash": ("flash",), "EEPROM": ("eeprom",)})
@@ -101,15 +106,24 @@ class Programmer:
         raise Ended(f"no answer to {hexed(*step)}")
 
 
+def sizes_of(words: Words) -> Dict[str, int]:
+    """Returns the sizes of the part, and the bit of EESAVE."""
+    names = ("flash_size", "flash_page", "eeprom_size", "eeprom_page", "eesave_bit")
+    found = {it: words.of_part(it) or "" for it in names}
+    if all(NUMBER.fullmatch(it) for it in found.values()):
+        return {it: int(value, 0) for it, value in found.items()}
+    if words.parts_file is None:
+        what = f"no part {words.part}" if words.part else "no part given (-p)"
+        raise Fault(f"{what}: {no_part(words, None)}: {UNOPENED}")
+    cure = f"give it a table of its own there, [parts.{words.part}]"
+    raise Fault(f"--try-rows finds no sizes of {words.part} in {words.parts_file}: {cure}: {UNOPENED}")
+
+
 class Rows:
     """The rows, tried one after another. `chip` is what the memories hold, and `saved` what they held at first."""
 
     def __init__(self, words: Words, opens: Callable[[], Opened]) -> None:
-        names = ("flash_size", "flash_page", "eeprom_size", "eeprom_page", "eesave_bit")
-        found = {it: words.of_part(it) or "" for it in names}
-        if not all(re.fullmatch("[1-9][0-9_]*|0", it) for it in found.values()):
-            raise Fault(f"the sizes of {words.part} are not known here: {UNOPENED}")
-        self.part = part = {it: int(value) for it, value in found.items()}
+        self.part = part = sizes_of(words)
         self.words, self.is_all, self.sizes = words, words.trial == "all", {"signature": 3, "calibration": 1}
         self.sizes.update({it: 1 for it in (*FUSES, "lock")}, flash=part["flash_size"], eeprom=part["eeprom_size"])
         # the pages that are written. (With -c wiring a command restores only the first 256 bytes of EEPROM)

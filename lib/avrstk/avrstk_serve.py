@@ -478,8 +478,10 @@ def judge(options: Mapping[str, str], client: list[str]) -> str:
     if "--timeout" in options and not client:
         raise Fault("--timeout: no command after --")
     others = [option for option in REFUSED if option in options]
-    if "--mega" in options and (parts is not None or options.get("-p", "").lower() not in ("m2560", "atmega2560")):
+    if "--mega" in options and options.get("-p", "").lower() not in ("m2560", "atmega2560"):
         raise Fault("--mega is the bootloader of an ATmega2560: give -p m2560")
+    if "--mega" in options and parts is not None:
+        raise Fault("--mega is the bootloader of the built-in ATmega2560: leave out --parts")
     if "--mega" in options and others:
         raise Fault(f"--mega and {' and '.join(others)}: give one of them")
     return chip

@@ -12,6 +12,7 @@ import functools
 import getopt
 import os
 import re
+import shlex
 import subprocess
 from pathlib import Path
 from typing import TYPE_CHECKING, Mapping, NamedTuple, Sequence
@@ -254,13 +255,16 @@ def judge_words(options: Sequence[tuple[str, str]], others: Sequence[str]) -> No
         return
     other, update = others[0], dict(options).get("-U", "")
     memory, _, rest = update.partition(":")
+    whole = " ".join([update, *others])
+    if update and " " in Update(whole).file and os.path.isfile(Update(whole).file):
+        raise Fault(f"a name with blanks needs quotes: give -U {shlex.quote(whole)}")
     if memory in MEMORIES and rest in ("", "r", "w", "v", "r:", "w:", "v:"):
-        raise Fault(f"an update is one word: give -U {':'.join([update.rstrip(':'), *others[:3]])}")
+        raise Fault(f"an update is one word: give -U {shlex.quote(':'.join([update.rstrip(':'), *others[:3]]))}")
     if re.match("-.", other):
         raise Fault(f"{other} is after --, which ends the options: leave out --")
     if re.match(r"[a-z]+:[rwv]:", other):
-        raise Fault(f"{other} has no option before it: give -U {other}")
-    raise Fault(f"{other} has no option before it: to write it into flash give -U flash:w:{other}")
+        raise Fault(f"{other} has no option before it: give -U {shlex.quote(other)}")
+    raise Fault(f"{other} has no option before it: to write it into flash give -U {shlex.quote(f'flash:w:{other}')}")
 
 
 class Update:
@@ -343,7 +347,7 @@ class Update:
         """Returns why these bytes are no image; None if they are one, perhaps of ELF, which is taken apart."""
         if held is None:
             # (avrstk reports a file that can't be opened)
-            return "can't be read as ELF: it is no file" if self.format == "e" else None
+            return None
         front, self.front = held[:1024], bytes(held[:65_536])
         is_elf, begins, is_detected = front[:4] == b"\x7fELF", RECORD.match(front), self.format in (None, "a")
         if is_elf and (is_detected or self.format == "e"):
@@ -407,7 +411,9 @@ class Update:
                 raise Fault(f"{self.file} can't be given to avrstk: {fault.strerror}: {UNOPENED}")
         if self.elf:
             self.named = "e"
-        self.text = f"{self.memory}:{self.operation}:{self.handed}:{'i' if self.elf else self.format or 'a'}"
+        # (a file that can't be opened has no ELF: avrstk, which doesn't know :e, reports it as Intel HEX)
+        form = "i" if self.elf or content is None and self.format == "e" else self.format or "a"
+        self.text = f"{self.memory}:{self.operation}:{self.handed}:{form}"
 
     def held(self, most: int) -> bytes:
         """Returns the first bytes of an image, or of a file that a memory was read into."""
