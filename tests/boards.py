@@ -6,7 +6,7 @@ Not proved: No proof covers the script that speaks version 1, and bootloaders an
 
     tests/boards.py [CASE ..]    needs a built program (program.py), cc, and Debian's libsimavr-dev, libelf-dev,
                                  arduino-core-avr, gcc-avr and avr-libc; ArduinoISP is in Debian's package arduino
-    FULL=1 tests/boards.py ..    runs some 1,200 sessions with faults, in ten minutes of a processor; without it a share
+    FULL=1 tests/boards.py ..    runs some 1,470 sessions, of which some 1,250 have faults; without it a share
 
 Most cases run in the board's own time, so the machine's load changes nothing: a second passes for the program when the
 board has sent nothing for a second of its own. They use the part of avrstk-serial that replies to frames. Two firmwares

@@ -1430,6 +1430,10 @@ FOLLOWED = [
     (r"only an erase \(-e\) removes (a|the) lock, and clears all of", lambda words, *_: [*words, "-e"]),
     (r"^-U lock was given before: give it last", lock_last),
     (r"give one value$|two images overlap \(give one of them\)", lambda words, *_: words[:-2]),
+    (
+        r"For a programmer of STK500v2 leave out -c (\w+)\. ",
+        lambda words, _, found: [it for it in words if it not in ("-c", found[1])],
+    ),
     (r"^ended by SIG|^no reply; the chip is unchanged. Check: |^the device sends data, but no valid reply", mended),
     (
         r"^the programmer (finds no chip|can't reach the chip|stopped replying)|^the device is gone"
