@@ -6,7 +6,7 @@ Not proved: No proof covers the script that speaks version 1, and bootloaders an
 
     tests/boards.py [CASE ..]    needs a built program (program.py), cc, and Debian's libsimavr-dev, libelf-dev,
                                  arduino-core-avr, gcc-avr and avr-libc; ArduinoISP is in Debian's package arduino
-    FULL=1 tests/boards.py ..    runs some 1,200 sessions with faults, in ten minutes of a processor; without it a share
+    FULL=1 tests/boards.py ..    runs some 1,470 sessions, of which some 1,250 have faults; without it a share
 
 Most cases run in the board's own time, so the machine's load changes nothing: a second passes for the program when the
 board has sent nothing for a second of its own. They use the part of avrstk-serial that replies to frames. Two firmwares
@@ -341,7 +341,8 @@ def sessions(what, kind, size, words, fates, old=b""):
     wrong = [at for at, it in enumerate(found) if it is None or it[0] == 0 and not it[1]]
     check(f"{what}: status 0 has the image", not wrong, f"not in sessions {wrong[:20]}: {totals}")
     check(f"{what}: faults struck", sum(it[3] for it in found if it) > len(found) // 6, str(totals))
-    print(f"{what}: {len(found)} sessions, {sum(it[3] for it in found if it)} faults, {dict(totals)}", flush=True)
+    struck = sum(bool(it and it[3]) for it in found)
+    print(f"{what}: {len(found)} sessions, {struck} with faults, {dict(totals)}", flush=True)
     return found
 
 
@@ -354,7 +355,8 @@ def each_byte():
 
 def lossy():
     """About one byte of 2,000 is lost, doubled or changed, both ways."""
-    for kind, size, words in [("optiboot-fast", 1_000, ["-D"]), ("ArduinoISP-fast", 200, [])]:
+    kinds = [("optiboot-fast", 1_000, ["-D"]), ("ATmegaBOOT", 600, ["-D"]), ("ArduinoISP-fast", 200, [])]
+    for kind, size, words in kinds:
         if kind.startswith("ArduinoISP") and not SKETCH:
             continue
         drawn = share(f"lossy {kind}", 4, 60, range(300))
@@ -688,6 +690,11 @@ def leaves_to_another():
             output, told = it.communicate(timeout=PATIENCE)
         check_equal(f"{words}: another program runs", output.decode(), f"other: {words}\n" if is_left else "")
         check(f"{words}: a line says so", (b"runs in place of avrstk" in told) == is_left, told)
+    how["env"] = how["env"] | {"AVRSTK_ELSE": "nosuch"}
+    with room.start("-c usbasp -p m328p".split(), **how) as it:
+        _, told = it.communicate(timeout=PATIENCE)
+    absent = b"avrstk-serial: AVRSTK_ELSE names no other program here: nosuch\n"
+    check("a program that isn't there", told.startswith(absent) and told.count(b"\n") == 2, told)
     (room.folder / "avrdude").unlink()
     shutil.rmtree(folder)
 

@@ -397,6 +397,11 @@ EMPTY = {
     "empty.hex": b"",
     "empty.bin": b"",
 }
+# (as cat joins files)
+JOINED = {
+    "joined.hex": 2 * b":0400000001020304F2\r\n:00000001ff\r\n",
+    "joined.srec": b"S1050000ABCD82\nS9030000FC\nS0030000FC\nS1057E00010279\nS9030000FC\n",
+}
 
 
 def refused():
@@ -446,12 +451,14 @@ def no_firmware():
         **dict.fromkeys(EMPTY, "is empty (did its build fail?)"),
     }
     why.update({name: f"is {what}, not firmware" for name, (_, what) in PACKED.items()})
+    joined = "has data after its end record, which are never read: give each of the joined files a -U of its own"
+    why.update(dict.fromkeys(JOINED, joined))
     why.update(
         {"lib.elf": "is an ar archive, not firmware"},
         **dict.fromkeys(["note.ELF", "a.out"], "is not ELF, as its name says"),
     )
     others = {"lib.elf": PACKED["lib.a"][0], "note.ELF": room.read("blink.hex"), "a.out": b"\x0c\x94\0\0"}
-    contents = {**TEXTS, **EMPTY, **others, **{name: held for name, (held, _) in PACKED.items()}}
+    contents = {**TEXTS, **EMPTY, **JOINED, **others, **{name: held for name, (held, _) in PACKED.items()}}
     for name, content in contents.items():
         room.put(name, content)
     updates = [f"{it}{name}" for name in why for it in ("flash:w:", "eeprom:v:")]
@@ -958,6 +965,22 @@ def warnings():
         own = run(["-p", part, "-P", "emu:no.bin", *words.split()])[3]
         room.clear()
         check(f"{part} {words}", bool(own) == bool(wanted) and all(it.startswith(wanted) for it in own), own)
+    room.put("late.hex", hex_of([(0x4000, b"late")]))
+    room.put("long.bin", bytes(257))
+    order, far = "a bootloader erases pages from 0 on", "a bootloader reads other addresses above 255"
+    for words, wanted in [
+        *(("-D -U flash:w:late.hex:i", order), ("-q -q -D -U flash:w:blink.hex:i -U flash:w:late.hex:i", order)),
+        *(("-U eeprom:r:long.out:i", far), ("-U eeprom:w:long.bin:r", far), ("-D -U flash:w:blink.hex:i", None)),
+        *(("-U flash:w:late.hex:i", None), ("-D -n -U flash:w:late.hex:i", None)),
+    ]:
+        # (a new programmer for each command)
+        found = over(["-p", "m2560", *words.split()], {"part": "m2560", "words": CLASSIC})
+        told = [f"warning: if this is a Mega's own bootloader, give -c wiring: {wanted}"] if wanted else []
+        is_right = len(found[3]) == len(told) and all(it.startswith(told[0]) for it in found[3])
+        check(f"m2560 {words}", found[0] == 0 and is_right, found[:4])
+    hides = "flash is erased, or the lock hides it: -U lock:r:-:h prints the lock, whose bit 1 is 0 then"
+    for words, told in ("", [hides]), ("-A", []), ("-q -q", []):
+        check_equal(f"erased {words}", over(["-p", "m328p", *words.split(), "-U", "flash:r:none.hex:i"])[3], told)
 
 
 def images_that_are_read_once():
@@ -1415,6 +1438,10 @@ FOLLOWED = [
     (r"only an erase \(-e\) removes (a|the) lock, and clears all of", lambda words, *_: [*words, "-e"]),
     (r"^-U lock was given before: give it last", lock_last),
     (r"give one value$|two images overlap \(give one of them\)", lambda words, *_: words[:-2]),
+    (
+        r"For a programmer of STK500v2 leave out -c (\w+)\. ",
+        lambda words, _, found: [it for it in words if it not in ("-c", found[1])],
+    ),
     (r"^ended by SIG|^no valid reply; the chip is unchanged. Check|^the device sends data, but no valid reply", mended),
     (
         r"^the programmer (finds no chip|can't reach the chip)|^no further valid reply|^the device is gone"
@@ -1798,11 +1825,21 @@ def reports():
         )
         check(f"{what}: its hint", found["hint"] is None or found["hint"] in own, (found["hint"], own))
     held = room.read("blink.hex")
+    room.put("open.hex", held[: held.rindex(b":")])
     it = Board(answer=lambda reply, lost=iter([b""]): next(lost, reply) if reply[5] == 0x13 else reply)
     output = run(
         ["-p", "m328p", "-P", it.device, "-U", "flash:w:blink.hex", "-U", "flash:r:back.hex:i", "--json", "-"]
     )[1]
     it.end()
+    other = Board()
+    for device in "emu:quiet.bin", other.device:
+        words = ["-p", "m328p", "-P", device, "-q", "-q", "-U", "flash:w:blink.hex", "--json", "quiet.json"]
+        found, told = run(words), report_of("quiet.json")
+        quiet = told["chip"], told["signature"], told["updates"][0]["verified"]
+        check_equal(f"{device}: -q changes no report", (found, quiet), ((0, b"", b"", []), ("done", "1E 95 0F", 228)))
+    other.end()
+    found = run(["-p", "m328p", "-P", "emu:quiet.bin", "-q", "-U", "flash:v:open.hex", "--json", "quiet.json"])
+    check_equal("-q leaves a warning", found, (0, b"", lines("warning: open.hex: no end record"), []))
     found, (wrote, read) = json.loads(output), json.loads(output)["updates"]
     check_equal("an image", (wrote["bytes"], wrote["written"], wrote["verified"]), (len(held), 228, 228))
     check_equal("its digest", wrote["sha256"], hashlib.sha256(held).hexdigest())

@@ -103,8 +103,7 @@ def hint(run: Outcome, number: int | None) -> str:
         why = matched(REFUSALS, error, words)
         return f"{why}; {end}" if why else end
     speed, resets = f"the speed (-b {words.baud})", "that the board resets when the port opens"
-    kinds = "To write an Uno or Nano itself give -c arduino -D, and to write another chip by it, -c arduino_as_isp"
-    others = f"{resets} (else press reset right after starting). {kinds}. USBasp needs avrdude"
+    others = f"{resets} (else press reset right after starting). {other_kinds(words)}. USBasp needs avrdude"
     if run.is_noisy:
         why = f"the device sends data, but no valid reply: its application is running, or {speed} is wrong"
         return f"{why}. Check {others}"
@@ -113,6 +112,16 @@ def hint(run: Outcome, number: int | None) -> str:
     if error == "no answer" and run.commands <= {SIGN_ON, LEAVE}:
         return f"no valid reply; {UNCHANGED}. Check: {speed}; that no serial monitor has the port open; {others}"
     return matched(REPLIED, error, words, speed=speed, state=state) or state
+
+
+def other_kinds(words: Words) -> str:
+    """Returns what -c to give if the device is of another kind than -c names."""
+    itself = "To write an Uno or Nano itself give -c arduino -D"
+    if not words.is_version1:
+        return f"{itself}, and to write another chip by it, -c arduino_as_isp"
+    speeds = "Without -b each speed is tried. " if words.is_bootloader and "-b" in words.last else ""
+    other = "To write another chip by an Uno or Nano give -c arduino_as_isp" if words.is_bootloader else itself
+    return f"{speeds}For a programmer of STK500v2 leave out -c {words.programmer}. {other}"
 
 
 def matched(table: Table, error: str, words: Words, **fields: str) -> str:
@@ -166,7 +175,7 @@ def too_far(words: Words, update: Update, address: int) -> str:
     """Returns the hint for an image with a byte at an address that its memory doesn't have."""
     own = f"{update.memory}:{update.operation}"
     if address >= 0x810000:
-        return f"it has several memories: give the ELF file itself, as {own}:NAME.elf"
+        return f"it has addresses of several memories, as ELF has: give the ELF file itself, as {own}:NAME.elf"
     if update.memory in FUSES:
         return f"{update.memory} has 1 byte: give its value, as {own}:0xNN:m"
     size = words.field(f"{update.memory}_size") if update.memory in ("flash", "eeprom") else 1

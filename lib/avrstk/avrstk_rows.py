@@ -7,7 +7,7 @@ from avrstk_common import READ, Fault, Frames, came, is_frame, ready, say, show
 from avrstk_backup import FILES, command_again
 from avrstk_elf import hex_rows
 from avrstk_faults import framed, spoiled, xor
-from avrstk_hints import no_part
+from avrstk_hints import Outcome, hint, no_part
 from avrstk_words import UNOPENED, Words
 
 import contextlib
@@ -465,6 +465,8 @@ def try_rows(words: Words, opens: Callable[[], Opened]) -> int:
     tried, again = [it for it in rows.results.values() if it is not None], rows.programmer.repeated
     if why:
         say(f"no further row is tried: {why}")
+    if why == "no answer to 01" and not rows.results:
+        say(hint(Outcome(words, commands={SIGN_ON[0]}, was_opened=True, error="no answer"), None))
     say(f"{sum(tried)} of {len(tried)} rows are met, tried at some addresses; {again} commands repeated")
     say(f"promised of such a programmer: {'not known' if why else rows.left()}")
     if rows.undo:

@@ -63,6 +63,7 @@ NONE_HERE = "no serial device of USB is here now"
 # Linux's tcgets2 and tcsets2. Their 44 bytes: four words of flags, a byte, 19 control characters, two speeds
 TCGETS2, TCSETS2, BOTHER = 0x802C542A, 0x402C542B, 0x1000
 
+FAR = "a bootloader reads other addresses above 255"
 ONE_WRITE = "a bootloader erases pages from 0 on, so one command writes flash once, from 0 on without gaps"
 
 # the commands that carry the bytes of a memory
@@ -397,7 +398,8 @@ class Run:
         """Passes on a line of avrstk, and notes the first error."""
         self.progress.pause()
         shown = self.words.shown(line)
-        self.put(shown + b"\n")
+        if self.words.is_wanted(line):
+            self.put(shown + b"\n")
         self.words.report.note(os.fsdecode(shown).partition("avrstk: ")[2])
         # (several updates may have one file: only the name that avrstk got tells which one is faulty)
         text = os.fsdecode(shown if line.endswith(b": cannot be opened") else line).partition("avrstk: ")[2]
@@ -490,6 +492,8 @@ def leave_to_other(words: Words) -> None:
     """Runs the program that AVRSTK_ELSE names with the same options, if programmer, port or part are not avrstk's."""
     why = why_other(words)
     other = other_program() if why else None
+    if why and not other and os.environ.get("AVRSTK_ELSE"):
+        say(f"AVRSTK_ELSE names no other program here: {os.environ['AVRSTK_ELSE']}")
     # (it doesn't know the script's own options, and takes one port)
     if other and not words.is_station and not any(option.startswith("--") for option in words.last):
         say(f"{why}: {other} runs in place of avrstk")
@@ -512,11 +516,8 @@ def judge(words: Words) -> None:
         words.each.judge(words)
         check(words)
     for update in words.updates:
-        if words.is_wiring and update.memory == "eeprom":
-            size = words.field("eeprom_size") if update.operation == "r" else update.size()
-            if size is None or size > 256:
-                why = "a bootloader reads other addresses above 255: use a programmer"
-                raise Fault(f"-U {update.given}: {why}: {UNOPENED}")
+        if words.is_wiring and is_far(words, update):
+            raise Fault(f"-U {update.given}: {FAR}: use a programmer: {UNOPENED}")
     words.report.stage = "device"
     if not words.has_port and not words.is_station:
         judge_device(words.device)
@@ -690,10 +691,32 @@ def judge_part(words: Words, end: str) -> None:
         raise Fault(f"{ONE_WRITE}. {joined(writes, words.flash_pages() or [])}; {end}")
 
 
+def is_far(words: Words, update: Update) -> bool:
+    """Whether an update is of EEPROM that a bootloader reads at other addresses, as far as is known."""
+    size = words.field("eeprom_size") if update.operation == "r" else update.size()
+    return update.memory == "eeprom" and (size is None or size > 256)
+
+
+def risk_of_loader(words: Words) -> str | None:
+    """Returns what would go wrong at a Mega's own bootloader if -c wiring isn't given; None if nothing would, or if it
+    can't be one. (It refuses an erase, and so a restore; and the calibration, and so a backup.)"""
+    is_other = words.is_wiring or words.is_version1 or re.match("emu:|stdio:", words.device or "")
+    if words.chip() != "atmega2560" or is_other or words.restore is not None or words.backup is not None:
+        return None
+    writes = [update for update in words.updates if update.writes_flash()]
+    is_sent = "-D" in words.flags and not {"-e", "-n"} & set(words.flags)
+    if writes and is_sent and (len(writes) > 1 or words.is_whole() is False):
+        return ONE_WRITE
+    return FAR if any(is_far(words, update) for update in words.updates) else None
+
+
 def warn(words: Words) -> None:
-    """Warns of fuses that can make the chip unreachable, even if -q is given twice, and of version 1."""
+    """Warns of fuses that can make the chip unreachable, even if -q is given twice, and of what isn't proved."""
     if words.is_version1:
         words.note("version 1 has no checksums: this run is tested, not proved")
+    risk = risk_of_loader(words)
+    if risk:
+        say(f"warning: if this is a Mega's own bootloader, give -c wiring: {risk}")
     name = words.chip()
     writes = [update for update in words.updates if update.operation == "w" and update.memory in FUSES]
     values = [(update, update.value()) for update in writes]
@@ -783,8 +806,8 @@ def prepare(words: Words) -> None:
     if words.restore is not None:
         try:
             words.updates, words.flags = restored(words, words.restore), [*words.flags, "-e"]
-        except Fault as fault:
-            raise Fault(f"{fault}: {UNOPENED}")
+        except (Fault, OSError) as fault:
+            raise Fault(f"{text_of(fault)}: {UNOPENED}")
     words.report.stage = "file"
     words.each = Each(words) if words.each_given else None
     judge_files(words)
@@ -865,6 +888,8 @@ def execute(words: Words) -> int:
     outcome = ran(words, earlier=frozenset(sent))
     if outcome.status and not words.has_port:
         raise Fault(hint(outcome, ended_by()))
+    if not outcome.status and words.backup is None and "flash: 0 bytes read" in words.report.lines:
+        words.note("flash is erased, or the lock hides it: -U lock:r:-:h prints the lock, whose bit 1 is 0 then")
     return outcome.status
 
 

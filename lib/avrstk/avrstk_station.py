@@ -237,6 +237,8 @@ def judge_outputs(words: Words) -> None:
     for name in names:
         if MARK not in name:
             raise Fault(f"{name}: each board needs a name of its own: give {MARK} in it: {UNOPENED}")
+    if MARK in (words.restore or ""):
+        raise Fault(f"--restore: several boards get one backup. For one of its own give each board alone: {UNOPENED}")
     for update in reads:
         if update.file == "-" and (update.format or "r") not in "dhob":
             raise Fault(f"-U {update.given}: of several boards only lists go to standard output (:h): {UNOPENED}")

@@ -36,6 +36,7 @@ MOST, MOST_OF_ELF = 1 << 26, 1 << 20
 # a file of records begins so, by avrstk's rule, and a record with data so
 RECORD = re.compile(rb"(?:[ \t\r]*\n)*(?::[0-9A-Fa-f]{10}|S[0-9][0-9A-Fa-f]{8})")
 DATA = re.compile(rb"^(?::(?!00)..(?:....)00|S1(?!03)|S2(?!04)|S3(?!05))", re.M)
+END = re.compile(rb"^(?::00....01|S[789])", re.M)
 
 # how files begin that are neither firmware nor text
 PACKED = {
@@ -157,7 +158,14 @@ class Words:
 
     def options(self, port: str) -> list[str]:
         updates = [word for update in self.updates for word in ("-U", update.text)]
-        return ["-P", port, "-c", "stk500v2", *part_words(self.part, self.parts_file), *self.flags, *updates]
+        # (a report needs the lines that -q leaves out)
+        flags = [flag for flag in self.flags if flag != "-q" or "--json" not in self.last]
+        return ["-P", port, "-c", "stk500v2", *part_words(self.part, self.parts_file), *flags, *updates]
+
+    def is_wanted(self, line: bytes) -> bool:
+        """Whether avrstk prints this line with -q: once it leaves out what it did, twice warnings, too."""
+        kind = next((at for at, it in enumerate((b"error: ", b"warning: ")) if line.startswith(b"avrstk: " + it)), 2)
+        return not line.startswith(b"avrstk: ") or kind + self.flags.count("-q") <= 2
 
     def content(self, file: str) -> bytes | None:
         """Returns the bytes of an image, which are read once; None if it can't be opened, which avrstk reports."""
@@ -356,6 +364,9 @@ class Update:
             return "is ELF, not the bytes of a memory: leave out :r"
         if not held or begins and self.format != "r" and not DATA.search(held):
             return "is empty (did its build fail?)"
+        end = END.search(held) if begins and self.format != "r" else None
+        if end and DATA.search(held, end.end()):
+            return "has data after its end record, which are never read: give each of the joined files a -U of its own"
         if self.format == "e":
             return "is not ELF"
         return self.fault_of_detected(front) if is_detected else None
