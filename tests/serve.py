@@ -24,7 +24,8 @@ import tempfile
 import time
 from pathlib import Path
 
-from cases import PATIENCE, VERSION, check, check_equal, leave_out, named, put_program, run_cases, table, wait_until
+from cases import PATIENCE, VERSION, attempts, check, check_equal, leave_out, named, put_program
+from cases import run_cases, table, wait_until
 from program import REPLIES, CHIP_FILE, EEPROM, ENDS, FRAMES, LFUSE, NAMED, PROGRAM, SESSION, TOP, Room
 from program import frame, has_avrdude, kept_port, lines, port_of, read_whole
 from records import image_of
@@ -58,8 +59,10 @@ class Serving:
         return socket.create_connection(("127.0.0.1", self.port), PATIENCE)
 
     def writes_fuse(self, value, address="127.0.0.1"):
-        """Returns the status of a client that writes the low fuse."""
-        return room.run(["-p", "m328p", "-P", f"net:{address}:{self.port}", "-U", f"lfuse:w:{value}:m"])[0]
+        """Returns the status of a client that writes the low fuse. It waits four seconds for a first reply: one that
+        fails is run again if a pause was measured."""
+        words = ["-p", "m328p", "-P", f"net:{address}:{self.port}", "-U", f"lfuse:w:{value}:m"]
+        return attempts(lambda: room.run(words)[0], lambda status: status == 0)[-1]
 
     def end(self, *numbers, group=False):
         """Sends these signals and returns its status and messages. Checks that no run is left."""
