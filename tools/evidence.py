@@ -47,10 +47,10 @@ KEY = """| In the block | Meaning |
 | `takes avrstk words` | the words are an accepted command line, and not a request for help |
 | `AsksToServe ..` | the options ask for a service (`--serve`): then there is no plan |
 | `AsksFor (matches_of avrstk words) settings` | the options among the words ask for these settings, among them the port |
-| `KeepsPlan settings old new` | the settings, and the files that the run opened, ask for a plan that was kept |
+| `KeepsPlan settings old new more` | the settings, and the files that the run opened, ask for a plan that was kept; those files and then `more` are all that the run opened |
 | `T` | any programmer and chip, with what it replies and does |
 | `IsKeptByAny .. plan passed old new` | if `T` keeps the rows, then by what passed over the link, chip and read files hold what the plan asks for; it stands for `Kept` |
-| `IsKeptInFile file plan old new` | the same of the chip in the chip file, without a link |
+| `IsKeptInFile file found plan old new` | the same of the chip in the chip file, without a link; `found` is what the file held |
 | `passed ≡ []` | nothing passed over standard input and output |
 | `At address (Some link)` | `link` has all that passed over the one connection to this address |
 | `Served port file` | a service, which the settings of a run never name |"""  # noqa: E501

@@ -3,6 +3,7 @@ pub mod Alike
 pub mod SavedTexts
 pub mod ByTasks
 pub mod Saved
+pub mod Openings
 pub mod Promise
 pub mod OtherPart
 pub mod OwnSignature

@@ -68,11 +68,11 @@ IsSparedByAny {P = P} part m view IsIn IsReady becomes plan passed =
 abbrev pub BeginsPlanAt : (Plan → Transcript → Type 0) → ConnectionState → Type 0 → Port → Settings → Transcript
     → Record → Record → Type 0
 BeginsPlanAt Begun At Unused Stdio settings passed old new =
-    ((sent passed ≡ []) ⊎ KeepsPlan settings old new (λ plan. Begun plan passed)) × Unused
+    ((sent passed ≡ []) ⊎ KeepsPlan settings old new [] (λ plan. Begun plan passed)) × Unused
 BeginsPlanAt Begun At Unused (Network address) settings passed old new =
     (passed ≡ []) × ((Unused ⊎ At address None)
     ⊎ ((link : LinkState) × At address (Some link)
-    × KeepsPlan settings old new (λ plan. Begun plan link.transcript)))
+    × KeepsPlan settings old new [] (λ plan. Begun plan link.transcript)))
 BeginsPlanAt Begun At Unused (Emulated file) settings passed old new = (passed ≡ []) × Unused
 BeginsPlanAt Begun At Unused (Served port file) settings passed old new = ⊥
 

@@ -7,7 +7,7 @@ use Rattle.avr_plan.specs.declared.settings.Port.TheVariants.{Stdio, Emulated, N
 use Rattle.avr_plan.specs.declared.settings.Settings.{Settings}
 use Rattle.avr_desk.specs.Record.{Bytes, Record, all_openings, with_replaced}
 use Rattle.avr_desk.specs.declared.record.Opening.{Opening}
-use Rattle.avr_laws.specs.AskedPlan.{FileGave, IsAsked}
+use Rattle.avr_laws.specs.AskedPlan.{IsAsked, WasOpened}
 use Rattle.avr_laws.specs.AskedSettings.{AsksFor, AsksToServe}
 use Rattle.avr_laws.specs.ChipFound.{IsChipInFile}
 use Rattle.avr_laws.specs.FilesRead.{read_whole}
@@ -18,39 +18,40 @@ use Rattle.avr_plan.specs.Plan.{Plan}
 use Rattle.stk_emu.specs.Effect.{memories_of}
 use Rattle.stk_host.specs.Transcript.{LinkState, Transcript}
 
--- The last file that was opened is the chip file. It held a chip of the plan's part; without a file the chip is a fresh
--- one. The plan was kept for this chip. The last use in the record is this file, put there whole with the chip that was
--- left. The record doesn't show whether the file was created or replaced.
-pub record IsKeptInFile (file : Bytes) (plan : Plan) (old new : Record) : Type 0 where
-  pub before : List Opening
-  pub found : Option Bytes
+-- What was found in the chip file is a chip of the plan's part; without a file the chip is a fresh one. The plan was
+-- kept for this chip. The last use in the record is this file, put there whole with the chip that was left. The record
+-- doesn't show whether the file was created or replaced.
+pub record IsKeptInFile (file : Bytes) (found : Option Bytes) (plan : Plan) (old new : Record) : Type 0 where
   pub chip : Chip
   pub left : Chip
   pub ended : Record
-  pub opened : all_openings new ≡ before ++ read_whole file found ∷ []
   pub was : IsChipInFile plan.part found chip
   pub keeps : Keeps plan (memories_of chip) (memories_of left) old ended
   pub saved : new ≡ with_replaced file (chip_file left) ended
 
--- The settings and the files that were opened ask for a plan, and this holds of it.
-abbrev pub KeepsPlan : Settings → Record → Record → (Plan → Type 0) → Type 0
-KeepsPlan settings old new IsSo = (plan : Plan) × (IsAsked settings (FileGave old new) plan × IsSo plan)
+-- The settings and the files that were opened ask for a plan, and this holds of it. Those files and then `more` are all
+-- that was opened, in order.
+abbrev pub KeepsPlan : Settings → Record → Record → List Opening → (Plan → Type 0) → Type 0
+KeepsPlan settings old new more IsSo =
+    (plan : Plan) × (opened : List Opening) × (all_openings new ≡ all_openings old ++ (opened ++ more))
+    × IsAsked settings WasOpened opened plan × IsSo plan
 
 -- What happened to the one connection to this address: a link over it has this state, or there was none.
 abbrev pub ConnectionState : Type 1
 ConnectionState = Bytes → Option LinkState → Type 0
 
 -- The plan was kept, by what `Kept` says: over standard streams and over a connection to the address, by what passed
--- over the link; over the emulator, by its chip file. At another port nothing passed over standard streams. The settings
--- of a run name no service.
+-- over the link; over the emulator, by its chip file, which was opened last. At another port nothing passed over
+-- standard streams. The settings of a run name no service.
 abbrev pub KeepsPlanAt : (Plan → Transcript → Record → Record → Type 0) → ConnectionState → Port → Settings
     → Transcript → Record → Record → Type 0
-KeepsPlanAt Kept At Stdio settings passed old new = KeepsPlan settings old new (λ plan. Kept plan passed old new)
+KeepsPlanAt Kept At Stdio settings passed old new = KeepsPlan settings old new [] (λ plan. Kept plan passed old new)
 KeepsPlanAt Kept At (Network address) settings passed old new =
     (passed ≡ []) × ((link : LinkState) × At address (Some link)
-    × KeepsPlan settings old new (λ plan. Kept plan link.transcript old new))
+    × KeepsPlan settings old new [] (λ plan. Kept plan link.transcript old new))
 KeepsPlanAt Kept At (Emulated file) settings passed old new =
-    (passed ≡ []) × KeepsPlan settings old new (λ plan. IsKeptInFile file plan old new)
+    (passed ≡ []) × ((found : Option Bytes)
+    × KeepsPlan settings old new (read_whole file found ∷ []) (λ plan. IsKeptInFile file found plan old new))
 KeepsPlanAt Kept At (Served port file) settings passed old new = ⊥
 
 -- WHAT STATUS 0 MEANS, by what passed over standard streams and by the desk's records. If the command line asks for a

@@ -1,5 +1,5 @@
 -- The promise over the emulator, to be read alone: what the files hold after a run with status 0.
-use Rattle.std.specs.Prelude.{◌≡◌, false, Some}
+use Rattle.std.specs.Prelude.{◌≡◌, false, [], Some}
 use Rattle.avr_plan.specs.declared.settings.Settings.{Settings}
 use Rattle.avr_desk.specs.Named.{newest}
 use Rattle.avr_desk.specs.Record.{Bytes}
@@ -20,7 +20,7 @@ use Rattle.stk_emu.specs.Effect.{effects, memories_of}
 -- a memory was read into has the text of what the chip held then, of the last such read. No other file has changed.
 pub record Promised (settings : Settings) (file : Bytes) (files after : Files) : Type 0 where
   pub plan : Plan
-  pub asked : IsAsked settings (FileHolds files) plan
+  pub asked : IsAsked settings (FileHolds files) [] plan
   pub chip : Chip
   pub left : Chip
   pub was : IsChipInFile plan.part (files file) chip

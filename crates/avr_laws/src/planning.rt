@@ -69,7 +69,7 @@ pub fn a_plan_fits_its_part()
 pub fn a_plan_is_the_one_asked_for()
     ensures { (s : Settings) (stock : Stock) (openings : List Opening) (plan : Plan)
         → AreTrueOpenings stock (planned s openings).output_events → (planned s openings).stage_outcome ≡ Produced plan
-        → IsAsked s (FileHolds (content_of_name stock [])) plan }
+        → IsAsked s (FileHolds (content_of_name stock [])) [] plan }
 {}
 
 /// States that the promise's own definitions agree with what runs do: about settings without `--serve`, values, image

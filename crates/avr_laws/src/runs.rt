@@ -7,7 +7,7 @@ ghost use Rattle.avr_desk.specs.Truth.{HoldsTrue};
 ghost use Rattle.avr_session.specs.Run.{RunsBetween};
 ghost use Rattle.ghosts.specs.Preserves.{Preserves};
 ghost use Rattle.stk_host.specs.Links.{ConsumesTape, TranscriptIsTrueSince, StreamState, TapeState, stream_state, tape_state};
-ghost use Rattle.avr_desk.specs.Record.{DeskState, ChangesRecord, Record, nothing_kept};
+ghost use Rattle.avr_desk.specs.Record.{DeskState, ChangesRecord, Record, all_openings};
 ghost use Rattle.avr_laws.specs.Again.{AgreesOnTwoChips, ItemsKeepEeprom};
 ghost use Rattle.avr_tool.specs.OverFaultyLink.{SessionStopped, SessionOverWire, OverExchanges, Weight, total_weight, bodies_in, memories, events_over, wire_and_desk};
 ghost use Rattle.avr_laws.specs.AnyLink.{OverAnyWire, WholeSessionOverExchanges};
@@ -28,6 +28,7 @@ ghost use Rattle.avr_tool.specs.Headline.{IsRun, IsStopped};
 ghost use Rattle.avr_laws.specs.InMemory.{AreUnused, LeavesOutcome, LeavesOverStreams, RunOutcome, outcome_shown};
 ghost use Rattle.avr_laws.specs.BegunByPort.{IsBegunByAny};
 ghost use Rattle.avr_laws.specs.KeptByAny.{IsKeptByAny};
+ghost use Rattle.avr_laws.specs.KeptByPort.{KeepsPlan};
 ghost use Rattle.avr_laws.specs.Sheet.{IsVouched, SuitsPlan};
 ghost use Rattle.avr_laws.specs.Table.{IsProgrammer};
 ghost use Rattle.avr_laws.specs.Worked.{absent_outcome, absent_settings, worked_frames, fuse_plan, worked_lines, forged_replies, no_stock, worked_replies, worked_outcome, worked_settings};
@@ -36,7 +37,7 @@ ghost use Rattle.avr_laws.specs.ChipFound.{IsChipInFile};
 ghost use Rattle.stk_emu.specs.Device.{device};
 ghost use Rattle.stk_emu.specs.Effect.{memories_of, erase_keeps_eeprom, effects, memory_in};
 ghost use Rattle.avr_laws.specs.FewBadFrames.{AtMostThreeBadOfSeven};
-ghost use Rattle.avr_laws.specs.AskedPlan.{AreTasksOf, FileGave, IsAsked};
+ghost use Rattle.avr_laws.specs.AskedPlan.{AreTasksOf, WasOpened};
 ghost use Rattle.avr_laws.specs.Kept.{HasGeometryOf, IsKept, NoneForged, on_part};
 ghost use Rattle.stk_emu.specs.Programmer.{Programmer, fresh_programmer};
 ghost use Rattle.stk_host.specs.Play.{IsBytePrefixOf};
@@ -78,7 +79,7 @@ use stk_host::Link;
 // the plan takes rows that are vouched for (`plan_works`, Table/ByTasks). Another id and signature are by
 // `session_alike` (Outcomes/OtherPart), none without `-F` by `own_signature` (Outcomes/OwnSignature). The memories are
 // `session_leaves` (OverFaultyLink/Outcomes), the images `run_written` (Memories/VerifiedRuns), the files
-// `expected_writes` (Outcomes/Saved), the plan `desk_asked` (Plans/Given).
+// `expected_writes` (Outcomes/Saved), the plan and what was opened `run_keeps` (Outcomes/Openings).
 pub fn status_0_means_the_images<T: AnyProgrammer, D: Desk, L: Link>(
     alloc: Global,
     settings: &Settings,
@@ -86,8 +87,8 @@ pub fn status_0_means_the_images<T: AnyProgrammer, D: Desk, L: Link>(
     link: &mut L,
 ) -> u8
     ensures promise { result ≡ 0 → (L.view link.old).transcript ≡ []
-        → (plan : Plan) × (IsAsked settings.now (FileGave (D.view desk.old).kept (D.view desk.new).kept)
-        plan × IsKeptByAny T.part T.device T.view T.IsIn T.IsReady T.becomes plan (L.view link.new).transcript
+        → KeepsPlan settings.now (D.view desk.old).kept (D.view desk.new).kept [] (λ plan.
+        IsKeptByAny T.part T.device T.view T.IsIn T.IsReady T.becomes plan (L.view link.new).transcript
         (D.view desk.old).kept (D.view desk.new).kept) }
 {
     run(alloc, settings, desk, link)
@@ -103,8 +104,8 @@ pub fn status_0_means_the_images_on_an_emulated_chip<D: Desk, L: Link>(
     link: &mut L,
 ) -> u8
     ensures promise { result ≡ 0 → (L.view link.old).transcript ≡ []
-        → (plan : Plan) × (IsAsked settings.now (FileGave (D.view desk.old).kept (D.view desk.new).kept)
-        plan × IsKept plan (L.view link.new).transcript (D.view desk.old).kept (D.view desk.new).kept) }
+        → KeepsPlan settings.now (D.view desk.old).kept (D.view desk.new).kept [] (λ plan.
+        IsKept plan (L.view link.new).transcript (D.view desk.old).kept (D.view desk.new).kept) }
 {
     run(alloc, settings, desk, link)
 }
@@ -114,7 +115,7 @@ pub fn status_0_means_the_images_on_an_emulated_chip<D: Desk, L: Link>(
 /// file holds, and the chip that of a chip file.
 // Proof: the lemmas of Rows/Loss.
 pub fn a_run_over_a_bad_link_meets_all_premises()
-    ensures image { AreTasksOf (FileGave nothing_kept image_read) loss_part loss_updates loss_plan.tasks }
+    ensures image { AreTasksOf WasOpened loss_part loss_updates loss_plan.tasks (all_openings image_read) }
     ensures ends { (played (session loss_plan) 1 loss_replies).outcome ≡ Some (0, 17, []) }
     ensures sends { frames_in (played (session loss_plan) 1 loss_replies).events ≡ loss_frames }
     ensures chip { IsChipInFile loss_part (Some old_file) old_chip × IsSoundChip old_chip

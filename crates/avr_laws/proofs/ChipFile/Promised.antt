@@ -34,7 +34,7 @@ use Rattle.avr_laws.specs.Promise.{Promised}
 module _ (settings : Settings) (file : Bytes) (stock : Stock) (old new : MemDeskState) (no_dash : is_dash file ≡ false)
     (unused : old.kept ≡ nothing_kept) (holds : HoldsTrue stock new)
     (r : RunsOverEmulator settings file (memory_state old) (memory_state new) 0) where
-  asked : IsAsked settings (FileHolds (content_of_name stock [])) r.plan
+  asked : IsAsked settings (FileHolds (content_of_name stock [])) [] r.plan
   asked =
       let verdict : ◌≡◌ {A = StageOutcome Plan} (Produced r.plan) NotReadToEnd → ⊥ = λ e. cc in
       let true_openings : AreTrueOpenings stock r.made.output_events =

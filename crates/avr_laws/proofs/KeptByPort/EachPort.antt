@@ -1,5 +1,5 @@
 -- Status 0 of the program means that its plan was kept, whatever its port.
-use Rattle.std.proofs.Common.{◌≡◌, ◌⊎◌, ◌∙◌, inl, inr, refl, sym, ap, subst, ℕ, [], Some}
+use Rattle.std.proofs.Common.{◌≡◌, ◌⊎◌, ◌∙◌, inl, inr, refl, sym, ap, subst, ℕ, [], ◌∷◌, Option, Some}
 use Rattle.avr_plan.specs.declared.settings.Port.{Port}
 use Rattle.avr_plan.specs.declared.settings.Port.TheVariants.{Stdio, Emulated, Network, Served}
 use Rattle.avr_plan.specs.declared.settings.Settings.{Settings}
@@ -17,20 +17,20 @@ use Rattle.avr_tool.specs.declared.command_line.CommandLine.{Ghosts as CommandLi
 use Rattle.stk_host.specs.Transcript.{LinkState, Transcript}
 use Rattle.avr_laws.proofs.KeptByPort.InFile.{file_kept, no_one}
 use Rattle.avr_laws.proofs.Asked.Settings.{serves_or_asks}
-use Rattle.avr_laws.specs.AskedPlan.{FileGave, IsAsked}
 use Rattle.avr_laws.specs.AskedSettings.{NamesPort}
+use Rattle.avr_laws.specs.FilesRead.{read_whole}
 use Rattle.avr_laws.specs.KeptByPort.{IsKeptInFile, KeepsPlanAt, KeepsPlan, KeepsCommandLine}
 
 -- `run` with status 0 keeps so much of its plan
 module _ (Kept : Plan → Transcript → Record → Record → Type 0)
     (promised : (s : Settings) (x y : Devices) (status : ℕ) → (IsRun s x y status ⊎ IsStopped s x y status)
-    → status ≡ 0 → x.link.transcript ≡ [] → (plan : Plan) × (IsAsked s (FileGave x.desk.kept y.desk.kept) plan
-    × Kept plan y.link.transcript x.desk.kept y.desk.kept)) where
+    → status ≡ 0 → x.link.transcript ≡ []
+    → KeepsPlan s x.desk.kept y.desk.kept [] (λ plan. Kept plan y.link.transcript x.desk.kept y.desk.kept)) where
   -- ---- a connection
 
   over_link : (s : Settings) (old new : DeskState) (link : LinkState)
       → WithPlan s old (λ plan desk. RunsSession plan (devices new_link desk) (devices link new) 0)
-      → KeepsPlan s old.kept new.kept (λ plan. Kept plan link.transcript old.kept new.kept)
+      → KeepsPlan s old.kept new.kept [] (λ plan. Kept plan link.transcript old.kept new.kept)
   over_link s old new link with =
       elim (session_is_run s with.plan (devices new_link old) with.between (devices link new) 0 with.made
       with.then_is).1 [
@@ -41,7 +41,7 @@ module _ (Kept : Plan → Transcript → Record → Record → Type 0)
   over_net : (peers : Peers) (s : Settings) (address : Bytes) (old new : DeskState)
       → RunsOverNet peers.unused (peers.at_address address) s address old new 0
       → (link : LinkState) × peers.at_address address (Some link)
-      × KeepsPlan s old.kept new.kept (λ plan. Kept plan link.transcript old.kept new.kept)
+      × KeepsPlan s old.kept new.kept [] (λ plan. Kept plan link.transcript old.kept new.kept)
   over_net peers s address old new (inl (link, over, with)) = (link, over, over_link s old new link with)
   over_net peers s address old new (inr (inl (over, with, one))) = absurd (no_one one)
   over_net peers s address old new (inr (inr (lacks, unused))) = absurd (no_one lacks.goes.0)
@@ -49,7 +49,8 @@ module _ (Kept : Plan → Transcript → Record → Record → Type 0)
   -- ---- the emulator
 
   over_emulator : (s : Settings) (file : Bytes) (old new : DeskState) → RunsEmulator s file old new 0
-      → KeepsPlan s old.kept new.kept (λ plan. IsKeptInFile file plan old.kept new.kept)
+      → (found : Option Bytes) × KeepsPlan s old.kept new.kept (read_whole file found ∷ [])
+      (λ plan. IsKeptInFile file found plan old.kept new.kept)
   over_emulator s file old new (inl r) = file_kept s file old new r
   over_emulator s file old new (inr (inl with)) = elim with.then_is [
     | inl (own, one, told) ↦ absurd (no_one one)

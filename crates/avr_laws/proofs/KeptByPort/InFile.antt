@@ -1,5 +1,5 @@
 -- A run over the emulator with status 0: its plan was kept for the chip of its file.
-use Rattle.std.proofs.Common.{◌≡◌, ◌∙◌, inl, inr, ap, subst, sym, refl, ℕ, List, [], ◌∷◌, ◌++◌, append-nil, Option, None, Some, arith, rules}
+use Rattle.std.proofs.Common.{◌≡◌, ◌∙◌, inl, inr, ap, subst, sym, refl, ℕ, List, [], ◌∷◌, ◌++◌, append-nil, append_assoc, Option, None, Some, arith, rules}
 use Rattle.std.proofs.lemmas.Grind.{common_steps}
 use Rattle.std.proofs.lemmas.Bool.Decides.{nat_tests}
 use Rattle.avr_plan.specs.declared.settings.Settings.{Settings}
@@ -14,32 +14,28 @@ use Rattle.avr_desk.specs.declared.record.Writing.{Writing}
 use Rattle.avr_part.specs.ChipFile.{chip_file}
 use Rattle.avr_part.specs.Part.{Part}
 use Rattle.avr_part.specs.State.{ChipState as Chip}
-use Rattle.avr_plan.specs.Plan.{Plan}
 use Rattle.avr_tool.specs.OverFaultyLink.{EndsOverExchanges, events_over}
 use Rattle.avr_tool.specs.Emulated.{IsSavedIfSent, RunsOverEmulator, new_wire}
 use Rattle.avr_tool.specs.Loading.{chip_stage}
 use Rattle.avr_tool.specs.Outcome.{IsExpectedRun}
-use Rattle.stk_emu.specs.Device.{device}
 use Rattle.stk_emu.specs.Effect.{Memories, memories_of}
-use Rattle.stk_emu.specs.Programmer.{Programmer, fresh_programmer}
-use Rattle.stk_emu.specs.Exchange.{Exchange, later_exchanges}
 use Rattle.stk_emu.specs.Wire.{exchanges_of_fates}
-use Rattle.stk_host.specs.Dialog.{Event, Frame, Emitted, outputs}
-use Rattle.stk_host.specs.Transcript.{sent}
-use Rattle.avr_laws.proofs.AnyWire.{came_to, emulated_wire}
+use Rattle.stk_host.specs.Dialog.{outputs}
+use Rattle.stk_host.specs.Transcript.{heard, sent}
+use Rattle.avr_laws.proofs.AnyWire.{came_to}
 use Rattle.avr_laws.proofs.ChipFile.Found.{found, found_kept}
 use Rattle.avr_laws.proofs.ChipFile.SecondRun.{no_silence}
 use Rattle.avr_laws.proofs.Held.Chip.{IsReadFrom, in_file}
 use Rattle.avr_laws.proofs.Outcomes.ByTasks.{made_by_tasks, tasks_agree}
 use Rattle.avr_laws.proofs.Outcomes.Saved.{WritesFiles, expected_writes, reading_writes, these_saved}
-use Rattle.avr_laws.proofs.Plans.Given.{later_asked, went_asked}
+use Rattle.avr_laws.proofs.Outcomes.Openings.{session_opens_none}
+use Rattle.avr_laws.proofs.Plans.Given.{since, went_asked}
 use Rattle.avr_laws.proofs.Plans.OnlyReading.{only_reads}
 use Rattle.avr_laws.specs.ChipFound.{IsChipInFile}
 use Rattle.avr_laws.specs.FilesRead.{read_whole}
 use Rattle.avr_laws.specs.Kept.{FilesAreSaved, named_files, dash_output, saved_files}
 use Rattle.avr_laws.specs.KeptByPort.{IsKeptInFile, KeepsPlan}
 use Rattle.avr_laws.specs.OnlyReading.{OnlyReadsAndPrints}
-use Rattle.avr_laws.specs.TrueReports.{IsTrueReport, EmittedTrue, SignatureRead, ChipErased, EraseLeftOut, BytesWritten, WriteLeftOut, BytesVerified, Differed, BytesSaved, BytesRead, StepFailed, SessionDone}
 
 pub no_one : ◌≡◌ {A = ℕ} 0 1 → ⊥
 no_one e = cc
@@ -62,32 +58,7 @@ quiet output_events reads k =
     let writes : WritesFiles output_events [] = reading_writes output_events reads in
     (writes.created k ∙ append-nil (all_files k), writes.output k ∙ append-nil k.output)
 
--- ---- a session opens no file
-
-module _ (plan : Plan) (before : Memories) where
-  not_opened : (now : Memories) (event : OutputEvent) (later : List OutputEvent) → IsTrueReport plan before now event
-      → openings_in (event ∷ later) ≡ openings_in later
-  not_opened now event later (SignatureRead e) = ap (λ o. openings_in (o ∷ later)) e
-  not_opened now event later (ChipErased has e after) = ap (λ o. openings_in (o ∷ later)) e
-  not_opened now event later (EraseLeftOut has e) = ap (λ o. openings_in (o ∷ later)) e
-  not_opened now event later (BytesWritten mem image first rest e order after) = ap (λ o. openings_in (o ∷ later)) e
-  not_opened now event later (WriteLeftOut mem image has e) = ap (λ o. openings_in (o ∷ later)) e
-  not_opened now event later (BytesVerified mem image has e shows) = ap (λ o. openings_in (o ∷ later)) e
-  not_opened now event later (Differed mem image fault has e differs) = ap (λ o. openings_in (o ∷ later)) e
-  not_opened now event later (BytesSaved mem format file has (inl e)) = ap (λ o. openings_in (o ∷ later)) e
-  not_opened now event later (BytesSaved mem format file has (inr (inl e))) = ap (λ o. openings_in (o ∷ later)) e
-  not_opened now event later (BytesSaved mem format file has (inr (inr e))) = ap (λ o. openings_in (o ∷ later)) e
-  not_opened now event later (BytesRead mem format file has e) = ap (λ o. openings_in (o ∷ later)) e
-  not_opened now event later (StepFailed fault e) = ap (λ o. openings_in (o ∷ later)) e
-  not_opened now event later (SessionDone e) = ap (λ o. openings_in (o ∷ later)) e
-
-  none_opened : (events : List (Event OutputEvent)) (exchanges : List Exchange) (p : Programmer)
-      → EmittedTrue device (λ q event. IsTrueReport plan before (memories_of q.chip) event) events exchanges p
-      → openings_in (outputs events) ≡ []
-  none_opened [] exchanges p were = refl
-  none_opened (Frame bytes ∷ events) exchanges p were = none_opened events (later_exchanges exchanges) _ were
-  none_opened (Emitted event ∷ events) exchanges p were =
-      not_opened (memories_of p.chip) event (outputs events) were.0 ∙ none_opened events exchanges p were.1
+-- ---- what was opened
 
 openings_replaced : (name bytes : Bytes) (r : Record) → all_openings (with_replaced name bytes r) ≡ all_openings r
 openings_replaced name bytes r = grind (arith, nat_tests, append-nil, openings_append)
@@ -142,10 +113,12 @@ module _ (settings : Settings) (file : Bytes) (old new : DeskState) (r : RunsOve
   loads = found_kept r.plan.part file r.loaded.held_desk r.loaded_desk r.chip r.loaded.loaded
 
   none : openings_in emitted ≡ []
-  none = none_opened r.plan before (events_over r.plan r.after) (exchanges_of_fates []) (fresh_programmer r.chip)
-      (emulated_wire r).along_exchanges.reports_are_true
+  none = session_opens_none r.plan 1 (heard r.after.transcript)
 
-  opened : all_openings new.kept ≡ all_openings r.planned_desk.kept ++ read_whole file gave.0 ∷ []
+  abbrev plan_files : List Opening
+  plan_files = openings_in r.made.output_events
+
+  opened : all_openings new.kept ≡ all_openings old.kept ++ (plan_files ++ read_whole file gave.0 ∷ [])
   opened =
       ap all_openings replaced
       ∙ (openings_replaced file (chip_file left) r.played_desk.kept
@@ -156,7 +129,10 @@ module _ (settings : Settings) (file : Bytes) (old new : DeskState) (r : RunsOve
       ∙ (ap all_openings loads
       ∙ (openings_shown (Opens opening ∷ []) r.loaded.held_desk.kept
       ∙ (ap (λ (k : Record). all_openings k ++ opening ∷ []) r.loaded.held.0
-      ∙ ap (λ (o : Opening). all_openings r.planned_desk.kept ++ o ∷ []) gave.1.0))))))))
+      ∙ (ap (λ (o : Opening). all_openings r.planned_desk.kept ++ o ∷ []) gave.1.0
+      ∙ (ap (λ (os : List Opening). os ++ read_whole file gave.0 ∷ [])
+      (since old r.planned_desk r.made.output_events r.made.kept)
+      ∙ append_assoc (all_openings old.kept) plan_files (read_whole file gave.0 ∷ [])))))))))))
 
   -- ---- the files that memories were read into
 
@@ -186,19 +162,19 @@ module _ (settings : Settings) (file : Bytes) (old new : DeskState) (r : RunsOve
 
   -- ---- so the plan was kept
 
-  pub file_kept : KeepsPlan settings old.kept new.kept (λ plan. IsKeptInFile file plan old.kept new.kept)
+  pub file_kept : (found : Option Bytes) × KeepsPlan settings old.kept new.kept (read_whole file found ∷ [])
+      (λ plan. IsKeptInFile file found plan old.kept new.kept)
   file_kept = (
-    r.plan,
+    gave.0,
     (
-      later_asked settings r.plan old.kept r.planned_desk.kept new.kept (read_whole file gave.0 ∷ []) opened
-          (went_asked settings r.plan old r.planned_desk r.made),
+      r.plan,
+      plan_files,
+      opened,
+      went_asked settings r.plan old r.planned_desk r.made,
       record {
-        before = all_openings r.planned_desk.kept;
-        found = gave.0;
         chip = r.chip;
         left = left;
         ended = r.played_desk.kept;
-        opened = opened;
         was = gave.1.1;
         keeps = record {
           made = made_by_tasks r.plan before (memories_of left) (came.0.done zero);

@@ -4,9 +4,8 @@ use Rattle.std.proofs.lemmas.List.{take-append-le, take_all}
 use Rattle.avr_plan.specs.declared.settings.Port.{Port}
 use Rattle.avr_plan.specs.declared.settings.Port.TheVariants.{Stdio, Emulated, Network, Served}
 use Rattle.avr_plan.specs.declared.settings.Settings.{Settings}
-use Rattle.avr_desk.proofs.Stages.Breaks.{openings_in, openings_shown}
-use Rattle.avr_desk.specs.Record.{Bytes, DeskState, ChangesRecord, all_openings, after_err}
-use Rattle.avr_desk.specs.OutputEvents.{OutputEvent, after_events}
+use Rattle.avr_desk.specs.Record.{Bytes, DeskState}
+use Rattle.avr_desk.specs.OutputEvents.{OutputEvent}
 use Rattle.avr_desk.specs.Stage.{Produced, Refused, NotReadToEnd, StageOutcome, StageResult}
 use Rattle.avr_desk.specs.declared.record.Opening.{Opening}
 use Rattle.avr_plan.specs.Plan.{Plan, IsFitted}
@@ -48,9 +47,8 @@ use Rattle.stk_host.specs.ReadSteps.{signature_steps}
 use Rattle.avr_laws.proofs.Outcomes.Alike.{same_bytes}
 use Rattle.avr_laws.proofs.Outcomes.OtherPart.{same_geometry, session_alike, tasks_fit}
 use Rattle.avr_laws.proofs.Plans.Fitted.{plan_fitted}
-use Rattle.avr_laws.proofs.Plans.Given.{desk_asked, later_asked, went_asked}
+use Rattle.avr_laws.proofs.Outcomes.Openings.{run_keeps, session_keeps}
 use Rattle.avr_laws.proofs.Asked.Settings.{serves_or_asks}
-use Rattle.avr_laws.specs.AskedPlan.{FileGave, IsAsked}
 use Rattle.avr_laws.specs.AskedSettings.{NamesPort}
 use Rattle.avr_laws.specs.BegunByPort.{IsBegun, BeginsPlanAt, BeginsCommandLine}
 use Rattle.avr_laws.specs.KeptByPort.{KeepsPlan}
@@ -152,7 +150,7 @@ module _ (Begun : Plan → Transcript → Type 0)
 
     abbrev Claim : Type 0
     Claim = (sent y.link.transcript ≡ [])
-        ⊎ KeepsPlan s x.desk.kept y.desk.kept (λ plan. Begun plan y.link.transcript)
+        ⊎ KeepsPlan s x.desk.kept y.desk.kept [] (λ plan. Begun plan y.link.transcript)
 
     -- without a plan nothing was sent
     none_sent : (outcome : StageOutcome Plan) → (planned s r.openings).stage_outcome ≡ outcome
@@ -176,12 +174,10 @@ module _ (Begun : Plan → Transcript → Type 0)
           sym (emitted_bytes (planned s r.openings).output_events (played (session plan) 1 tape).events)
           ∙ (ap (λ (p : Played OutputEvent ℕ). bytes_sent p.events) over_plan ∙ r.all_sent)
 
-      asked : IsAsked s (FileGave x.desk.kept y.desk.kept) plan
-      asked =
-          desk_asked s r.openings plan x.desk y.desk (outputs (played (session plan) 1 tape).events) made
-          (subst (λ (events : List OutputEvent). ChangesRecord (after_events events) x.desk y.desk)
-          (ap (λ (p : Played OutputEvent ℕ). outputs p.events) (sym over_plan)
-          ∙ emitted_outputs (planned s r.openings).output_events (played (session plan) 1 tape).events) r.kept)
+      outputs_are : outputs r.events
+          ≡ (planned s r.openings).output_events ++ outputs (played (session plan) 1 tape).events
+      outputs_are = ap (λ (p : Played OutputEvent ℕ). outputs p.events) (sym over_plan)
+          ∙ emitted_outputs (planned s r.openings).output_events (played (session plan) 1 tape).events
 
       prefix : IsBytePrefixOf (sent y.link.transcript)
           (bytes_sent (played (session plan) 1 (heard y.link.transcript)).events)
@@ -189,11 +185,13 @@ module _ (Begun : Plan → Transcript → Type 0)
           (bytes_sent (played (session plan) 1 (heard t)).events)) (sym same)
           ([], append-nil (sent r.during) ∙ sym sent_is)
 
-      begun : Begun plan y.link.transcript
-      begun = begun_by plan (plan_fitted s r.openings plan made) y.link.transcript prefix
+      begun : KeepsPlan s x.desk.kept y.desk.kept [] (λ plan. Begun plan y.link.transcript)
+      begun =
+          run_keeps s plan r.openings tape x.desk y.desk (outputs r.events) (λ plan. Begun plan y.link.transcript) made
+          outputs_are r.kept (begun_by plan (plan_fitted s r.openings plan made) y.link.transcript prefix)
 
     by_outcome : (outcome : StageOutcome Plan) → (planned s r.openings).stage_outcome ≡ outcome → Claim
-    by_outcome (Produced plan) is = inr (plan, (asked plan is, begun plan is))
+    by_outcome (Produced plan) is = inr (begun plan is)
     by_outcome (Refused line) is = inl (none_sent (Refused line) is refl)
     by_outcome NotReadToEnd is = inl (none_sent NotReadToEnd is refl)
 
@@ -202,44 +200,21 @@ module _ (Begun : Plan → Transcript → Type 0)
 
   -- ---- a session, whole or not
 
-  openings_later : (events : List OutputEvent) (notice : Bytes) (old new : DeskState)
-      → ChangesRecord (λ r. after_err notice (after_events events r)) old new
-      → all_openings new.kept ≡ all_openings old.kept ++ openings_in events
-  openings_later events notice old new kept = ap all_openings kept ∙ openings_shown events old.kept
-
   module _ (s : Settings) (x : Devices) (y : Devices) (status : ℕ) (silent : x.link.transcript ≡ [])
       (with : WithPlan s x.desk (λ plan desk. RunsSession plan (devices x.link desk) y status)) where
-    more : (os : List Opening) × (all_openings y.desk.kept ≡ all_openings with.between.kept ++ os)
-    more = elim with.then_is [
-      | inl whole ↦ (
-        openings_in (outputs whole.1.events),
-        ap all_openings whole.1.kept ∙ openings_shown (outputs whole.1.events) with.between.kept,
-      )
-      | inr broke ↦ (
-        openings_in (outputs broke.0.shown),
-        openings_later (outputs broke.0.shown) broke.0.notice with.between y.desk broke.0.kept,
-      )
-    ]
-
-    pub session_begun : KeepsPlan s x.desk.kept y.desk.kept (λ plan. Begun plan y.link.transcript)
-    session_begun = (
-      with.plan,
-      (
-        later_asked s with.plan x.desk.kept with.between.kept y.desk.kept more.0 more.1
-            (went_asked s with.plan x.desk with.between with.made),
-        begun_by with.plan
-            (plan_fitted s (with.made.passed ++ []) with.plan
-            (ap (λ (q : StageResult Plan). q.stage_outcome) (with.made.comes [])))
-            y.link.transcript
-            (sent_first with.plan (devices x.link with.between) y status silent with.then_is).1,
-      ),
-    )
+    pub session_begun : KeepsPlan s x.desk.kept y.desk.kept [] (λ plan. Begun plan y.link.transcript)
+    session_begun =
+        session_keeps s x y status (λ plan. Begun plan y.link.transcript) with
+        (begun_by with.plan
+        (plan_fitted s (with.made.passed ++ []) with.plan
+        (ap (λ (q : StageResult Plan). q.stage_outcome) (with.made.comes []))) y.link.transcript
+        (sent_first with.plan (devices x.link with.between) y status silent with.then_is).1)
 
   -- ---- each port
 
   over_streams : (s : Settings) (x y : Devices) (status : ℕ) → x.link.transcript ≡ []
       → IsRun s x y status ⊎ IsStopped s x y status → (sent y.link.transcript ≡ [])
-      ⊎ KeepsPlan s x.desk.kept y.desk.kept (λ plan. Begun plan y.link.transcript)
+      ⊎ KeepsPlan s x.desk.kept y.desk.kept [] (λ plan. Begun plan y.link.transcript)
   over_streams s x y status silent (inl r) = run_begun s x y status r silent
   over_streams s x y status silent (inr (inl stopped, one)) =
       inr (session_begun s x y 1 silent
@@ -256,7 +231,7 @@ module _ (Begun : Plan → Transcript → Type 0)
       → RunsOverNet peers.unused (peers.at_address address) s address old new status
       → (peers.unused ⊎ peers.at_address address None)
       ⊎ ((link : LinkState) × peers.at_address address (Some link)
-      × KeepsPlan s old.kept new.kept (λ plan. Begun plan link.transcript))
+      × KeepsPlan s old.kept new.kept [] (λ plan. Begun plan link.transcript))
   over_net peers s address old new status (inl (link, over, with)) =
       inr (link, over, session_begun s (devices new_link old) (devices link new) status refl with)
   over_net peers s address old new status (inr (inl (over, with, one))) = inl (inr over)

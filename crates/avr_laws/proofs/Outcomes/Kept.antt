@@ -33,14 +33,14 @@ use Rattle.avr_tool.proofs.OverFaultyLink.FrameSizes.{session_asks}
 use Rattle.avr_tool.proofs.Plans.Fits.{work}
 use Rattle.avr_tool.proofs.Real.{ActionsWork, AfterBeginning, AllWork, HasMemories, Real}
 use Rattle.avr_laws.specs.AnyTape.{ReceivedSentFrames, after_received_bytes}
-use Rattle.avr_laws.specs.AskedPlan.{FileGave, IsAsked}
 use Rattle.avr_laws.specs.Kept.{HasGeometryOf, IsKept, KeepsOnPart, NoneForged, on_part}
+use Rattle.avr_laws.specs.KeptByPort.{KeepsPlan}
 use Rattle.avr_laws.specs.NoForgedFrame.{ForgesNoFrame, AreNotForged, frame_of_reply}
 use Rattle.avr_laws.proofs.Lines.NoForgedFrame.{no_forged_frame_authentic}
 use Rattle.avr_laws.proofs.Outcomes.Alike.{AreAlike, same_frames}
 use Rattle.avr_laws.proofs.Outcomes.OtherPart.{session_alike, tasks_fit}
 use Rattle.avr_laws.proofs.Outcomes.OwnSignature.{IsFirstPart, first_frames, from_handshake, own_signature, sends_valid, session_is}
-use Rattle.avr_laws.proofs.Outcomes.Promise.{asked as asked_for, left_over, made, other_sent, played_is, promise_for, same, sent_is, tape as over_tape}
+use Rattle.avr_laws.proofs.Outcomes.Promise.{keeps_plan, left_over, made, other_sent, played_is, promise_for, same, sent_is, tape as over_tape}
 use Rattle.avr_laws.proofs.Plans.Fitted.{plan_fitted}
 
 -- ---- no frame was forged, by the dialog or by the frames that it sent first, over the tape that it received
@@ -217,12 +217,12 @@ module _ (s : Settings) (plan : Plan) (x y : Devices) (r : IsRun s x y 0)
 -- ---- whatever a call over a link and a desk came to, as avr_tool's `run` states it
 
 pub promised : (s : Settings) (x y : Devices) (status : ℕ) → (IsRun s x y status ⊎ IsStopped s x y status)
-    → status ≡ 0 → x.link.transcript ≡ []
-    → (plan : Plan) × (IsAsked s (FileGave x.desk.kept y.desk.kept) plan
-    × IsKept plan y.link.transcript x.desk.kept y.desk.kept)
+    → status ≡ 0 → x.link.transcript ≡ [] → KeepsPlan s x.desk.kept y.desk.kept []
+    (λ plan. IsKept plan y.link.transcript x.desk.kept y.desk.kept)
 promised s x y status (inl ran) zero silent =
     let r : IsRun s x y 0 = subst (λ (k : ℕ). IsRun s x y k) zero ran in
     let plan : Plan = (made s x y r).0 in
     let made_is : (planned s r.openings).stage_outcome ≡ Produced plan = (made s x y r).1 in
-    (plan, (asked_for s x y r plan made_is silent, kept s plan x y r made_is silent))
+    keeps_plan s x y r plan made_is silent (λ plan. IsKept plan y.link.transcript x.desk.kept y.desk.kept)
+    (kept s plan x y r made_is silent)
 promised s x y status (inr stopped) zero silent = absurd (let one = stopped.1 in omega (arith, one, zero))

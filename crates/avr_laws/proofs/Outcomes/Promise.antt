@@ -20,13 +20,13 @@ use Rattle.stk_host.specs.Tape.{Tape, on_tape}
 use Rattle.stk_host.specs.Transcript.{Transcript, heard, sent}
 use Rattle.avr_tool.specs.Headline.{run_after_planning, IsRun}
 use Rattle.avr_tool.proofs.Runs.Joined.{emitted_bytes, emitted_outputs}
-use Rattle.avr_laws.specs.AskedPlan.{FileGave, IsAsked}
 use Rattle.avr_laws.specs.Kept.{FilesAreSaved, Keeps, saved_files}
+use Rattle.avr_laws.specs.KeptByPort.{KeepsPlan}
 use Rattle.avr_laws.specs.OnlyReading.{OnlyReadsAndPrints}
 use Rattle.avr_laws.proofs.Outcomes.Alike.{AreAlike, same_bytes, same_events, same_outcome}
 use Rattle.avr_laws.proofs.Outcomes.ByTasks.{made_by_tasks, tasks_agree}
+use Rattle.avr_laws.proofs.Outcomes.Openings.{run_keeps}
 use Rattle.avr_laws.proofs.Outcomes.Saved.{WritesFiles, both, expected_writes, reading_writes, these_saved, writes_alike}
-use Rattle.avr_laws.proofs.Plans.Given.{desk_asked}
 use Rattle.avr_laws.proofs.Plans.OnlyReading.{only_reads}
 use Rattle.avr_part.specs.Part.{IsPart}
 use Rattle.stk_host.specs.ReadSteps.{signature_steps}
@@ -89,10 +89,9 @@ module _ (s : Settings) (x y : Devices) (r : IsRun s x y 0) where
         (events_with_refusal (planned s r.openings).output_events stage_outcome)) made_is (only_reads s r.openings)
 
     -- so the plan is the one that the settings and the files that were opened ask for
-    pub asked : IsAsked s (FileGave x.desk.kept y.desk.kept) plan
-    asked = desk_asked s r.openings plan x.desk y.desk (outputs done) made_is
-        (subst (λ (output_events : List OutputEvent). ChangesRecord (after_events output_events) x.desk y.desk)
-        outputs_are r.kept)
+    pub keeps_plan : (IsSo : Plan → Type 0) → IsSo plan → KeepsPlan s x.desk.kept y.desk.kept [] IsSo
+    keeps_plan IsSo so =
+        run_keeps s plan r.openings tape x.desk y.desk (outputs r.events) IsSo made_is outputs_are r.kept so
 
     -- A plan whose session differs from this one in printed lines alone was kept: this plan on a chip of another
     -- signature.

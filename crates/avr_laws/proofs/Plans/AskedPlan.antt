@@ -1,7 +1,7 @@
 -- A plan that was made over some openings is the one that settings and these files ask for.
 use Rattle.std.proofs.Common.{rules, arith}
-use Rattle.std.proofs.Common.{◌≡◌, ◌≤◌, ◌∙◌, sym, ap, subst, ℕ, List, [], ◌∷◌, ◌++◌, append_assoc, append-nil, refl, Some, None, Option, Result, Ok, true, inl, inr, length}
-use Rattle.std.specs.Prelude.{ok_or}
+use Rattle.std.proofs.Common.{◌≡◌, ◌≤◌, ◌∙◌, ap, ℕ, Bool, true, false, List, [], ◌∷◌, ◌++◌, append_assoc, append-nil, refl, Some, None, Option, Result, Ok, inl, inr, length}
+use Rattle.std.specs.Prelude.{ok_or, if◌then◌else◌}
 use Rattle.std.proofs.lemmas.Bool.{cases_Bool}
 use Rattle.std.proofs.lemmas.Bool.Decides.{nat_tests}
 use Rattle.avr_plan.specs.declared.settings.Settings.{Settings}
@@ -12,8 +12,8 @@ use Rattle.avr_plan.specs.declared.update.Op.{Op}
 use Rattle.avr_plan.specs.declared.update.Op.TheVariants as op
 use Rattle.avr_plan.specs.declared.update.Update.{Update}
 use Rattle.avr_desk.specs.Record.{Bytes}
-use Rattle.avr_desk.specs.OutputEvents.{OutputEvent, Opens}
-use Rattle.avr_desk.specs.Stage.{Stage, Produced, ◌>>=◌, result_stage, output_stage, file_stage}
+use Rattle.avr_desk.specs.OutputEvents.{OutputEvent, Opens, PrintsLine}
+use Rattle.avr_desk.specs.Stage.{Stage, Produced, ◌>>=◌, file_stage, output_stage, result_stage}
 use Rattle.avr_desk.specs.declared.record.Opening.{Opening}
 use Rattle.avr_desk.specs.declared.record.Opening.TheVariants.{Absent, Found}
 use Rattle.avr_part.specs.Mem.{is_writable}
@@ -33,54 +33,79 @@ use Rattle.avr_laws.specs.AskedPlan.{GivesText, HasImage, IsTaskOf, AreTasksOf, 
 use Rattle.avr_plan.specs.ImageFile.{image_within, kind_of, image_of_file}
 use Rattle.avr_plan.specs.Plan.{Plan}
 use Rattle.avr_plan.specs.Lines.{no_part_line}
-use Rattle.avr_plan.specs.Planning.{planned, checked_parts, or_line, parts_stage, tasks_stage, task_stage, op_stage, update_image, image_stage, file_image_stage, checked_image, warning_events}
+use Rattle.avr_plan.specs.Planning.{planned, checked_parts, or_line, parts_stage, part_stage, tasks_stage, task_stage, op_stage, update_image, image_stage, file_image_stage, checked_image, warning_events}
 use Rattle.avr_laws.proofs.Limits.{LARGEST_IMAGE_FILE, LARGEST_PART_FILE}
 use Rattle.avr_plan.specs.declared.planned.Task.{Task}
 use Rattle.avr_plan.specs.declared.planned.Task.TheVariants.{Write, Verify}
 
--- ---- what whole openings gave
+-- ---- lists of openings
+
+only_first : (opened first rest : List Opening) → opened ≡ first ++ rest → rest ≡ [] → opened ≡ first
+only_first opened first rest is none = is ∙ (ap (λ (os : List Opening). first ++ os) none ∙ append-nil first)
+
+only_rest : (opened first rest : List Opening) → opened ≡ first ++ rest → first ≡ [] → opened ≡ rest
+only_rest opened first rest is none = is ∙ ap (λ (os : List Opening). os ++ rest) none
+
+-- ---- what reading took
+
+-- a part, tasks and switches as a plan; below, the stages after the part, and after the part file
+abbrev made_of : Settings → Part → List Task → Stage Plan
+made_of s part tasks = result_stage (Ok (record { part = part; tasks = tasks; switches = s.switches }))
+
+abbrev after_part : Settings → Part → Stage Plan
+after_part s part = tasks_stage s.switches part [] s.updates >>= made_of s part
+
+abbrev after_parts : Settings → List Part → Stage Plan
+after_parts s all = part_stage s.part all >>= after_part s
 
 module _ (Gives : GivesText) where
-  -- Each whole opening among these output events gave this.
-  abbrev pub AreGiven : List OutputEvent → Type 0
-  AreGiven [] = Unit {0}
-  AreGiven (Opens (Found reading) ∷ output_events) =
-      (reading.ended ≡ true → Gives reading.name reading.bytes) × AreGiven output_events
-  AreGiven (event ∷ output_events) = AreGiven output_events
+  -- If this opening gave a whole text, reading it takes these openings.
+  abbrev pub IsReadBy : Opening → List Opening → Type 0
+  IsReadBy (Found reading) opened = reading.ended ≡ true → Gives reading.name reading.bytes opened
+  IsReadBy (Absent name) opened = Unit {0}
 
-  given_first : (first second : List OutputEvent) → AreGiven (first ++ second) → AreGiven first
-  given_first [] second are = tt
-  given_first (Opens (Found reading) ∷ first) second are = (are.0, given_first first second are.1)
-  given_first (Opens (Absent name) ∷ first) second are = given_first first second are
-  given_first (event ∷ first) second are = given_first first second are
+  -- The openings among these output events take these, in order.
+  abbrev pub AreRead : List OutputEvent → List Opening → Type 0
+  AreRead [] opened = opened ≡ []
+  AreRead (Opens opening ∷ output_events) opened =
+      (its : List Opening) × (rest : List Opening) × (opened ≡ its ++ rest) × IsReadBy opening its
+      × AreRead output_events rest
+  AreRead (event ∷ output_events) opened = AreRead output_events opened
 
-  given_second : (first second : List OutputEvent) → AreGiven (first ++ second) → AreGiven second
-  given_second [] second are = are
-  given_second (Opens (Found reading) ∷ first) second are = given_second first second are.1
-  given_second (Opens (Absent name) ∷ first) second are = given_second first second are
-  given_second (event ∷ first) second are = given_second first second are
+  read_apart : (first second : List OutputEvent) (opened : List Opening) → AreRead (first ++ second) opened
+      → (its : List Opening) × (rest : List Opening) × (opened ≡ its ++ rest) × AreRead first its
+      × AreRead second rest
+  read_apart [] second opened are = ([], opened, refl, refl, are)
+  read_apart (Opens opening ∷ first) second opened are =
+      let more = read_apart first second are.1 are.4 in
+      let is : opened ≡ (are.0 ++ more.0) ++ more.1 = search (rules, append_assoc, are.2, more.2) in
+      (are.0 ++ more.0, more.1, is, (are.0, more.0, refl, are.3, more.3), more.4)
+  read_apart (event ∷ first) second opened are = read_apart first second opened are
 
-  -- ---- what a stage made over openings that gave this
+  -- ---- what a stage made over openings that took these
 
-  record Saw {A : Type 0} (stage : Stage A) (openings : List Opening) (a : A) : Type 0 where
+  record Saw {A : Type 0} (stage : Stage A) (openings opened : List Opening) (a : A) : Type 0 where
     made : (stage openings).stage_outcome ≡ Produced a
-    are : AreGiven (stage openings).output_events
+    are : AreRead (stage openings).output_events opened
 
-  saw_first : {A B : Type 0} (stage : Stage A) (go_on : A → Stage B) (openings : List Opening) (b : B)
-      → Saw (stage >>= go_on) openings b
-      → (a : A) × (Saw stage openings a × Saw (go_on a) (stage openings).openings_left b)
-  saw_first stage go_on openings b saw = search (rules, given_first, given_second)
+  saw_first : {A B : Type 0} (stage : Stage A) (go_on : A → Stage B) (openings opened : List Opening) (b : B)
+      → Saw (stage >>= go_on) openings opened b
+      → (a : A) × (its : List Opening) × (rest : List Opening) × (opened ≡ its ++ rest) × Saw stage openings its a
+      × Saw (go_on a) (stage openings).openings_left rest b
+  saw_first stage go_on openings opened b saw = grind (arith, read_apart)
+
+  none_read : {A : Type 0} (r : Result A Bytes) (openings opened : List Opening) (a : A)
+      → Saw (result_stage r) openings opened a → (r ≡ Ok a) × (opened ≡ [])
+  none_read r openings opened a saw = search rules
 
   -- ---- a file
-
-  abbrev IsOf : {A : Type 0} → Bytes → (Bytes → Result A Bytes) → A → Type 0
-  IsOf name judge a = (text : Bytes) × (Gives name text × (judge text ≡ Ok a))
 
   -- a longer text has no result
   module _ {A : Type 0} (name : Bytes) (limit : ℕ) (judge : Bytes → Result A Bytes)
       (limited : (text : Bytes) (a : A) → judge text ≡ Ok a → length text ≤ limit) where
-    file_saw : (openings : List Opening) (a : A) → Saw (file_stage name limit judge) openings a → IsOf name judge a
-    file_saw openings a saw = search (rules, nat_tests, limited)
+    file_saw : (openings opened : List Opening) (a : A) → Saw (file_stage name limit judge) openings opened a
+        → (text : Bytes) × Gives name text opened × (judge text ≡ Ok a)
+    file_saw openings opened a saw = search (rules, nat_tests, limited, append-nil)
 
   limited_parts : (name text : Bytes) (parts : List Part) → checked_parts name text ≡ Ok parts
       → length text ≤ LARGEST_PART_FILE
@@ -102,67 +127,82 @@ module _ (Gives : GivesText) where
 
   -- ---- the plan
 
-  file_image : (switches : Switches) (name : Bytes) (kind : Format) (size : ℕ) (openings : List Opening) (image : Image)
-      → Saw (file_image_stage switches name kind size) openings image
-      → (text : Bytes) × Gives name text × (length text ≤ LARGEST_IMAGE_FILE)
+  -- a warning opens no file
+  if_warned : (b : Bool) (line : Bytes) (os : List Opening) → AreRead (if b then PrintsLine line ∷ [] else []) os
+      → os ≡ []
+  if_warned true line os are = are
+  if_warned false line os are = are
+
+  file_image : (switches : Switches) (name : Bytes) (kind : Format) (size : ℕ) (openings opened : List Opening)
+      (image : Image) → Saw (file_image_stage switches name kind size) openings opened image
+      → (text : Bytes) × Gives name text opened × (length text ≤ LARGEST_IMAGE_FILE)
       × HoldsImageAs (kind_of kind text) text size image
-  file_image switches name kind size openings image saw =
+  file_image switches name kind size openings opened image saw =
       let judge = checked_image name kind size in
       let first = saw_first (file_stage name LARGEST_IMAGE_FILE judge)
       (λ (g : Image × Ending). output_stage (warning_events switches name g.1) >>= λ ok. result_stage (Ok g.0))
-      openings image saw in
+      openings opened image saw in
       let file = file_saw name LARGEST_IMAGE_FILE judge (λ text made is. (within_checked name kind size text made is).0)
-      openings first.0 first.1.0 in
-      let same : first.0.0 ≡ image = cc in
-      let is = within_checked name kind size file.0 first.0 file.1.1 in
+      openings first.1 first.0 first.4 in
+      let after = saw_first (output_stage (warning_events switches name first.0.1)) (λ ok. result_stage (Ok first.0.0))
+      (file_stage name LARGEST_IMAGE_FILE judge openings).openings_left first.2 image first.5 in
+      let none : first.2 ≡ [] = search (rules, if_warned) in
+      let same : first.0.0 ≡ image = cc after.5.made in
+      let is = within_checked name kind size file.0 first.0 file.2 in
       let held = held_file (kind_of kind file.0) file.0 size image first.0.1
-      (is.1 ∙ ap (λ (i : Image). Ok (i, first.0.1)) same) in
-      (file.0, file.1.0, is.0, held)
+      (is.1 ∙ ap (λ (i : Image). Ok (i, first.0.1)) same) in (
+        file.0,
+        (search (rules, only_first)),
+        is.0,
+        held,
+      )
 
-  image : (switches : Switches) (memory : Mem) (size : ℕ) (name : Bytes) (kind : Format) (openings : List Opening)
-      (made : Image) → Saw (image_stage switches memory size name kind) openings made
-      → HasImage Gives name kind size made
-  image switches memory size name format.Immediate openings made saw =
-      let is : image_of_values name size ≡ Ok made = search rules in held_values name size made is
-  image switches memory size name kind openings made saw = file_image switches name kind size openings made saw
+  image : (switches : Switches) (memory : Mem) (size : ℕ) (name : Bytes) (kind : Format)
+      (openings opened : List Opening) (made : Image)
+      → Saw (image_stage switches memory size name kind) openings opened made
+      → HasImage Gives name kind size made opened
+  image switches memory size name format.Immediate openings opened made saw =
+      let is : image_of_values name size ≡ Ok made = search rules in search (rules, held_values name size made is)
+  image switches memory size name kind openings opened made saw =
+      file_image switches name kind size openings opened made saw
 
   module _ (switches : Switches) (part : Part) where
-    imaged : (u : Update) (make : Image → Task) (openings : List Opening) (task : Task)
-        → Saw (update_image switches part u >>= λ made. result_stage (Ok (make made))) openings task
-        → (made : Image) × (HasImage Gives u.file u.format (size_of u.memory part) made × (task ≡ make made))
-    imaged u make openings task saw =
-        let first = saw_first (update_image switches part u) (λ made. result_stage (Ok (make made))) openings
+    imaged : (u : Update) (make : Image → Task) (openings opened : List Opening) (task : Task)
+        → Saw (update_image switches part u >>= λ made. result_stage (Ok (make made))) openings opened task
+        → (made : Image) × HasImage Gives u.file u.format (size_of u.memory part) made opened × (task ≡ make made)
+    imaged u make openings opened task saw =
+        let first = saw_first (update_image switches part u) (λ made. result_stage (Ok (make made))) openings opened
         task saw in
-        let same : task ≡ make first.0 = cc in (
-          first.0,
-          (image switches u.memory (size_of u.memory part) u.file u.format openings first.0 first.1.0, same),
+        search (rules, only_first, none_read, image)
+
+    operation : (u : Update) (o : Op) (openings opened : List Opening) (task : Task) → u.op ≡ o
+        → Saw (op_stage switches part u o) openings opened task → IsTaskOf Gives part u task opened
+    operation u op.Write openings opened task is saw = elim (cases_Bool (is_writable u.memory)) [
+      | inl may ↦ search (rules, imaged u (Write u.memory) openings opened task (rw may at saw))
+      | inr never ↦ search rules
+    ]
+    operation u op.Verify openings opened task is saw =
+        search (rules, imaged u (Verify u.memory) openings opened task saw)
+    operation u op.Read openings opened task is saw = search rules
+
+    tasks : (before : List Task) (updates : List Update) (openings opened : List Opening) (made : List Task)
+        → Saw (tasks_stage switches part before updates) openings opened made
+        → (later : List Task) × (made ≡ before ++ later) × AreTasksOf Gives part updates later opened
+    tasks before [] openings opened made saw = search (rules, append-nil)
+    tasks before (u ∷ updates) openings opened made saw =
+        let first = saw_first (task_stage switches part u)
+        (λ task. tasks_stage switches part (before ++ task ∷ []) updates) openings opened made saw in
+        let rest = tasks (before ++ first.0 ∷ []) updates (task_stage switches part u openings).openings_left first.2
+        made first.5 in (
+          first.0 ∷ rest.0,
+          (search (rules, append_assoc)),
+          (search (rules, operation)),
         )
 
-    operation : (u : Update) (o : Op) (openings : List Opening) (task : Task) → u.op ≡ o
-        → Saw (op_stage switches part u o) openings task → IsTaskOf Gives part u task
-    operation u op.Write openings task is saw = elim (cases_Bool (is_writable u.memory)) [
-      | inl may ↦
-          let made = imaged u (Write u.memory) openings task (rw may at saw) in
-          subst (IsTaskOf Gives part u) (sym made.1.1) (is, refl, made.1.0)
-      | inr never ↦ let none = saw.made in cc (rw never at none)
-    ]
-    operation u op.Verify openings task is saw = search (rules, imaged u (Verify u.memory) openings task saw)
-    operation u op.Read openings task is saw = search rules
-
-    tasks : (before : List Task) (updates : List Update) (openings : List Opening) (made : List Task)
-        → Saw (tasks_stage switches part before updates) openings made
-        → (later : List Task) × ((made ≡ before ++ later) × AreTasksOf Gives part updates later)
-    tasks before [] openings made saw = search (rules, append-nil)
-    tasks before (u ∷ updates) openings made saw =
-        let first = saw_first (task_stage switches part u)
-        (λ task. tasks_stage switches part (before ++ task ∷ []) updates) openings made saw in
-        let rest = tasks (before ++ first.0 ∷ []) updates (task_stage switches part u openings).openings_left made
-        first.1.1 in
-        search (rules, append_assoc, operation)
-
-    all_tasks : (updates : List Update) (openings : List Opening) (made : List Task)
-        → Saw (tasks_stage switches part [] updates) openings made → AreTasksOf Gives part updates made
-    all_tasks updates openings made saw = let all = tasks [] updates openings made saw in search rules
+    all_tasks : (updates : List Update) (openings opened : List Opening) (made : List Task)
+        → Saw (tasks_stage switches part [] updates) openings opened made → AreTasksOf Gives part updates made opened
+    all_tasks updates openings opened made saw =
+        search (rules, tasks [] updates openings opened made saw)
 
   found : (o : Option Part) (part : Part) → ok_or o NoSuchPart ≡ Ok part → o ≡ Some part
   found (Some part) other is = cc is
@@ -176,12 +216,20 @@ module _ (Gives : GivesText) where
       → parts_of text ≡ Ok parts
   parts_given name text parts is = search (rules, nat_tests)
 
-  parts_saw : (file : Option Bytes) (openings : List Opening) (parts : List Part)
-      → Saw (parts_stage file) openings parts → ArePartsOf Gives file parts
-  parts_saw file openings parts saw = grind (arith, file_saw, limited_parts, held_parts, parts_given)
+  parts_saw : (file : Option Bytes) (openings opened : List Opening) (parts : List Part)
+      → Saw (parts_stage file) openings opened parts → ArePartsOf Gives file parts opened
+  parts_saw None openings opened parts saw = search rules
+  parts_saw (Some name) openings opened parts saw = search (rules, file_saw, limited_parts, held_parts, parts_given)
 
   -- THE LAW
-  pub plan_asked : (s : Settings) (openings : List Opening) (plan : Plan) → AreGiven (planned s openings).output_events
-      → (planned s openings).stage_outcome ≡ Produced plan → IsAsked s Gives plan
-  plan_asked s openings plan are made =
-      search (rules, tasks, saw_first, parts_saw, found, part_given, settled, all_tasks)
+  pub plan_asked : (s : Settings) (openings opened : List Opening) (plan : Plan)
+      → AreRead (planned s openings).output_events opened → (planned s openings).stage_outcome ≡ Produced plan
+      → IsAsked s Gives opened plan
+  plan_asked s openings opened plan are made =
+      let one = saw_first (parts_stage s.parts) (after_parts s) openings opened plan
+      (record { made = made; are = are }) in
+      let left = (parts_stage s.parts openings).openings_left in
+      let two = saw_first (part_stage s.part one.0) (after_part s) left one.2 plan one.5 in
+      let three = saw_first (tasks_stage s.switches two.0 [] s.updates) (made_of s two.0)
+      (part_stage s.part one.0 left).openings_left two.2 plan two.5 in
+      search (rules, only_first, only_rest, none_read, parts_saw, found, part_given, settled, all_tasks)

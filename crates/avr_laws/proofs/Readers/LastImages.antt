@@ -31,7 +31,7 @@ use Rattle.avr_tool.specs.Headline.{IsRun, IsStopped}
 use Rattle.avr_laws.proofs.Lines.AnyTape.{goes_as, through_after}
 use Rattle.avr_laws.proofs.Lines.NoForgedFrame.{no_forged_frame_authentic}
 use Rattle.avr_laws.proofs.Outcomes.Kept.{none_forged}
-use Rattle.avr_laws.proofs.Outcomes.Promise.{asked as asked_for, left_over, made, played_is, same, sent_is, tape as over_tape}
+use Rattle.avr_laws.proofs.Outcomes.Promise.{keeps_plan, left_over, made, played_is, same, sent_is, tape as over_tape}
 use Rattle.avr_laws.proofs.Plans.Fitted.{plan_fitted}
 use Rattle.avr_laws.specs.AnyTape.{GoesAlongExchanges, ReceivedSentFrames, after_received_bytes, after_sent_frames, exchanges_on_tape}
 use Rattle.avr_laws.specs.Kept.{NoneForged}
@@ -165,17 +165,13 @@ module _ (s : Settings) (x y : Devices) (r : IsRun s x y 0) (plan : Plan)
 pub promised_last : {P : Type 0} (m : Device P) (view : P → Memories) (IsIn : P → Type 0) (Reads : Mem → Type 0)
     (s : Settings) (x y : Devices) (status : ℕ) → (IsRun s x y status ⊎ IsStopped s x y status) → status ≡ 0
     → x.link.transcript ≡ []
-    → KeepsPlan s x.desk.kept y.desk.kept (λ plan. LastIsThere m view IsIn Reads plan y.link.transcript)
+    → KeepsPlan s x.desk.kept y.desk.kept [] (λ plan. LastIsThere m view IsIn Reads plan y.link.transcript)
 promised_last m view IsIn Reads s x y status (inl ran) zero silent =
     let r : IsRun s x y 0 = subst (λ (k : ℕ). IsRun s x y k) zero ran in
     let plan : Plan = (made s x y r).0 in
-    let made_is : (planned s r.openings).stage_outcome ≡ Produced plan = (made s x y r).1 in (
-      plan,
-      (
-        asked_for s x y r plan made_is silent,
-        λ sound t p got later executions i came none.
-            last_there s x y r plan made_is silent sound m view IsIn Reads t p got later executions i came none,
-      ),
-    )
+    let made_is : (planned s r.openings).stage_outcome ≡ Produced plan = (made s x y r).1 in
+    keeps_plan s x y r plan made_is silent (λ plan. LastIsThere m view IsIn Reads plan y.link.transcript)
+    (λ sound t p got later executions i came none.
+    last_there s x y r plan made_is silent sound m view IsIn Reads t p got later executions i came none)
 promised_last m view IsIn Reads s x y status (inr stopped) zero silent =
     absurd (let one = stopped.1 in omega (arith, one, zero))

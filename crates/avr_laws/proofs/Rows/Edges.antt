@@ -1,22 +1,25 @@
 -- What the definitions of the promise just refuse, and for two limits the last value that they allow.
-use Rattle.std.proofs.Common.{◌≡◌, ap, subst, arith, ℕ, zero, suc, List, [], ◌∷◌, ◌++◌, ◌∙◌, length, refl, inl, inr, Option, Some, true}
+use Rattle.std.proofs.Common.{rules, ◌≡◌, ap, sym, arith, ℕ, zero, suc, List, [], ◌∷◌, ◌++◌, ◌∙◌, append-nil, drop, length, refl, inl, inr, Option, Some, true}
+use Rattle.std.proofs.lemmas.List.{append_cancel_left}
 use Rattle.std.specs.Prelude.{codes, replicate, slice_index}
 use Rattle.avr_plan.specs.declared.update.Format.TheVariants.{Raw}
-use Rattle.avr_desk.specs.Record.{Bytes, Record}
+use Rattle.avr_plan.specs.declared.planned.Task.{Task}
+use Rattle.avr_desk.specs.Record.{Bytes, Record, all_openings}
+use Rattle.avr_desk.specs.declared.record.Opening.{Opening}
 use Rattle.avr_image.specs.Image.{from_zero}
 use Rattle.avr_part.specs.BuiltIn.{m328p}
+use Rattle.avr_part.specs.Part.{Part}
 use Rattle.avr_plan.specs.Plan.{Plan}
 use Rattle.stk_emu.specs.Effect.{Memories}
 use Rattle.stk_frame.specs.Frame.{frame}
 use Rattle.avr_laws.proofs.Held.Chip.{from_file}
 use Rattle.avr_laws.proofs.Rows.OtherSignature.{m328}
-use Rattle.avr_laws.specs.AskedPlan.{FileGave, HasImage}
-use Rattle.avr_laws.specs.ChipFound.{IsChipInFile}
+use Rattle.avr_laws.specs.AskedPlan.{AreTasksOf, HasImage, WasOpened}
 use Rattle.avr_laws.specs.Kept.{KeepsOnPart}
-use Rattle.avr_laws.specs.KeptByPort.{IsKeptInFile}
+use Rattle.avr_laws.specs.KeptByPort.{IsKeptInFile, KeepsPlan}
 use Rattle.avr_laws.specs.NoForgedFrame.{IsAmongFirst, IsNotForged}
 use Rattle.avr_laws.specs.Worked.{worked_settings}
-use Rattle.avr_laws.specs.WorkedLoss.{image_read, old_file}
+use Rattle.avr_laws.specs.WorkedLoss.{image_read, loss_updates, old_file}
 
 -- ---- a reply that is 255 frames late isn't forged, and one that is 256 late is
 
@@ -44,17 +47,42 @@ late_by_256 not_forged = elim (not_forged refl) [ inl same ↦ cc | inr among �
 
 -- ---- a file that was read before the run gives no text
 
-pub read_before : (name text : Bytes) → FileGave image_read image_read name text → ⊥
-read_before name text gave = let none = gave.1 in omega (arith, none)
+-- an update of a file needs an opening
+one_needed : (part : Part) (tasks : List Task) (opened : List Opening)
+    → AreTasksOf WasOpened part loss_updates tasks opened → opened ≡ [] → ⊥
+one_needed part [] opened are none = are
+one_needed part (update ∷ tasks) opened are none = search rules
+
+pub read_before : (IsSo : Plan → Type 0)
+    → KeepsPlan (record worked_settings { updates = loss_updates }) image_read image_read [] IsSo → ⊥
+read_before IsSo keeps =
+    let asked = keeps.3 in
+    let none : keeps.1 ++ [] ≡ [] = sym (ap (λ (os : List Opening). drop 1 os) keeps.2) in
+    let in_order : keeps.1 ≡ asked.rest =
+    asked.in_order ∙ ap (λ (os : List Opening). os ++ asked.rest) asked.are_parts.1 in
+    one_needed keeps.0.part keeps.0.tasks asked.rest asked.tasks (sym in_order ∙ (sym (append-nil keeps.1) ∙ none))
+
+-- ---- one more file was opened than the plan asks for
+
+pub another_opening : (IsSo : Plan → Type 0) (old new : Record) (more : Opening)
+    → all_openings new ≡ all_openings old ++ more ∷ [] → KeepsPlan worked_settings old new [] IsSo → ⊥
+another_opening IsSo old new more is keeps =
+    let asked = keeps.3 in
+    let first : asked.first ≡ [] = asked.are_parts.1 in
+    let rest : asked.rest ≡ [] = search rules in
+    let none : keeps.1 ≡ [] = asked.in_order ∙ (ap (λ (os : List Opening). os ++ asked.rest) first ∙ rest) in
+    let same : all_openings old ++ more ∷ [] ≡ all_openings old ++ [] =
+    sym is ∙ (keeps.2 ∙ ap (λ (os : List Opening). all_openings old ++ (os ++ [])) none) in
+    cc (append_cancel_left (all_openings old) (more ∷ []) [] same)
 
 -- ---- a file of 4,194,304 bytes gives an image, and a longer one doesn't
 
 pub longest_file : (text : Bytes) → length text ≡ 4194304
-    → HasImage (λ name given. given ≡ text) (codes "image") Raw 4194304 (from_zero text 4194304)
+    → HasImage (λ name given opened. given ≡ text) (codes "image") Raw 4194304 (from_zero text 4194304) []
 longest_file text is = (text, refl, omega (arith, is), (omega (arith, is), refl))
 
 pub longer_file : (text : Bytes) (size : ℕ) (image : List (Option ℕ)) → length text ≡ 4194305
-    → HasImage (λ name given. given ≡ text) (codes "image") Raw size image → ⊥
+    → HasImage (λ name given opened. given ≡ text) (codes "image") Raw size image [] → ⊥
 longer_file text size image is has =
     let few = has.2 in let same : length has.0 ≡ 4194305 = ap length has.1 ∙ is in omega (arith, few, same)
 
@@ -63,12 +91,9 @@ longer_file text size image is has =
 abbrev plan : Plan
 plan = record { part = m328p; tasks = []; switches = worked_settings.switches }
 
-pub another_part : (name : Bytes) (old new : Record) (kept : IsKeptInFile name plan old new)
-    → kept.found ≡ Some old_file → ⊥
-another_part name old new kept is =
-    let size = (from_file m328p (Some old_file) kept.chip
-    (subst (λ (found : Option Bytes). IsChipInFile m328p found kept.chip) is kept.was)).0 in
-    omega (arith, size)
+pub another_part : (name : Bytes) (old new : Record) → IsKeptInFile name (Some old_file) plan old new → ⊥
+another_part name old new kept =
+    let size = (from_file m328p (Some old_file) kept.chip kept.was).0 in omega (arith, size)
 
 -- ---- another signature, without -F, also if the run is dry
 

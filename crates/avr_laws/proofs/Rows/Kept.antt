@@ -1,11 +1,11 @@
 -- The premises of the promise are met by a worked run, `-p m328p` with all its replies; and what they refuse.
-use Rattle.std.proofs.Common.{◌≡◌, ◌∙◌, ap, sym, subst, arith, ℕ, zero, suc, Bool, true, false, List, [], ◌∷◌, ◌++◌, length, drop, take, refl}
+use Rattle.std.proofs.Common.{◌≡◌, ◌∙◌, ap, sym, arith, ℕ, Bool, false, List, [], ◌∷◌, ◌++◌, length, drop, take, refl}
 use Rattle.std.proofs.lemmas.Bool.{false≢true}
-use Rattle.std.specs.Prelude.{Contains, codes, slice_index}
+use Rattle.std.specs.Prelude.{codes, slice_index}
 use Rattle.avr_plan.specs.declared.update.Format.TheVariants.{Raw}
-use Rattle.avr_desk.specs.Record.{Bytes, Record, all_files, all_openings}
+use Rattle.avr_desk.specs.Record.{Bytes, Record, all_files}
 use Rattle.avr_desk.specs.declared.record.Opening.{Opening}
-use Rattle.avr_desk.specs.declared.record.Opening.TheVariants.{Absent, Found}
+use Rattle.avr_desk.specs.declared.record.Opening.TheVariants.{Found}
 use Rattle.avr_desk.specs.declared.record.Writing.{Writing}
 use Rattle.avr_part.specs.declared.part.Mem.TheVariants.{Lfuse}
 use Rattle.avr_plan.specs.Plan.{Plan}
@@ -21,7 +21,7 @@ use Rattle.stk_frame.specs.Cut.{frames}
 use Rattle.stk_host.specs.Tape.{answer}
 use Rattle.avr_laws.proofs.Lines.NoneForgedTest.{by_test}
 use Rattle.avr_laws.specs.AnyTape.{ReceivedSentFrames}
-use Rattle.avr_laws.specs.AskedPlan.{FileGave}
+use Rattle.avr_laws.specs.AskedPlan.{WasOpened}
 use Rattle.avr_laws.specs.Kept.{FilesAreSaved, NoneForged, named_files, saved_files}
 use Rattle.avr_laws.specs.Worked.{worked_frames, fuse_plan, worked_replies}
 
@@ -86,21 +86,10 @@ no_file m old now empty saved is =
 
 -- ---- a file that wasn't read to its end gave nothing
 
-abbrev is_ended : Opening → Bool
-is_ended (Absent name) = false
-is_ended (Found reading) = reading.ended
+abbrev is_ended : List Opening → Bool
+is_ended (Found reading ∷ openings) = reading.ended
+is_ended openings = false
 
-pub half_read : (old now : Record) (name text : Bytes) → all_openings old ≡ []
-    → all_openings now ≡ Found (record { name = name; bytes = text; ended = false }) ∷ []
-    → FileGave old now name text → ⊥
-half_read old now name text empty half gave =
-    let has = subst (λ (os : List Opening). Contains (drop (length os) (all_openings now))
-    (Found (record { name = name; bytes = text; ended = true }))) empty gave in
-    let at = subst (λ (os : List Opening). Contains os
-    (Found (record { name = name; bytes = text; ended = true }))) half has in
-    none at
-  where
-    none : Contains (Found (record { name = name; bytes = text; ended = false }) ∷ [])
-        (Found (record { name = name; bytes = text; ended = true })) → ⊥
-    none (zero, below, is) = absurd (false≢true (ap is_ended is))
-    none (suc k, below, is) = omega (arith, below)
+pub half_read : (name text : Bytes)
+    → WasOpened name text (Found (record { name = name; bytes = text; ended = false }) ∷ []) → ⊥
+half_read name text given = false≢true (ap is_ended given)

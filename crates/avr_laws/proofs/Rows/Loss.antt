@@ -1,7 +1,7 @@
 -- The worked run over a bad link meets all premises of the promise, and ends with status 0.
 use Rattle.std.proofs.Common.{◌≡◌, arith, rules, [], ◌∷◌, refl, Some}
 use Rattle.hex.specs.Hex.{decode_pairs}
-use Rattle.avr_desk.specs.Record.{nothing_kept}
+use Rattle.avr_desk.specs.Record.{all_openings}
 use Rattle.std.proofs.lemmas.List.Elements.{All-cons, All-nil}
 use Rattle.avr_part.specs.Part.{IsPart}
 use Rattle.avr_part.specs.Sound.{IsSoundChip}
@@ -13,7 +13,7 @@ use Rattle.stk_host.specs.Steps.{exchange, attempt, attempts_or_fault, play}
 use Rattle.stk_host.specs.Tape.{answer}
 use Rattle.avr_laws.proofs.Lines.NoneForgedTest.{by_test}
 use Rattle.avr_laws.specs.AnyTape.{ReceivedSentFrames, after_received_bytes}
-use Rattle.avr_laws.specs.AskedPlan.{AreTasksOf, FileGave}
+use Rattle.avr_laws.specs.AskedPlan.{AreTasksOf, WasOpened}
 use Rattle.avr_laws.specs.ChipFound.{IsChipInFile}
 use Rattle.avr_laws.specs.Kept.{NoneForged}
 use Rattle.avr_laws.specs.WorkedLoss.{image_read, image_text, loss_executions, loss_frames, loss_plan, loss_programmer, loss_replies, loss_updates, loss_part, old_chip, old_file, received_first, received_later}
@@ -46,9 +46,12 @@ pub flash_is : (after_received_bytes device received_first (received_later ∷ [
     ≡ 0x12 ∷ 0x34 ∷ 0xFF ∷ 0xFF ∷ 0xFF ∷ 0xFF ∷ 0xFF ∷ 0xFF ∷ []
 flash_is = refl
 
-pub image_is_asked : AreTasksOf (FileGave nothing_kept image_read) loss_part loss_updates loss_plan.tasks
+pub image_is_asked : AreTasksOf WasOpened loss_part loss_updates loss_plan.tasks (all_openings image_read)
 unfolding decode_pairs
 image_is_asked = (
-  (refl, refl, (image_text, (0, omega arith, refl), omega arith, ((0, 0x12) ∷ (1, 0x34) ∷ [], refl, refl, refl))),
-  tt,
+  all_openings image_read,
+  [],
+  refl,
+  (refl, refl, (image_text, refl, omega arith, ((0, 0x12) ∷ (1, 0x34) ∷ [], refl, refl, refl))),
+  refl,
 )

@@ -22,7 +22,7 @@ use Rattle.avr_plan.specs.declared.update.Op.TheVariants as op
 use Rattle.avr_desk.specs.Handles.{IsTrueRecord, IsTrueUse}
 use Rattle.avr_desk.specs.Journal.{SystemCalls, Opens, calls_of_record, no_calls}
 use Rattle.avr_desk.specs.OutputEvents.{after_events}
-use Rattle.avr_desk.specs.Record.{Bytes, DeskState, Record, nothing_kept, showing, with_absent, with_replaced}
+use Rattle.avr_desk.specs.Record.{Bytes, DeskState, Record, all_openings, nothing_kept, showing, with_absent, with_replaced}
 use Rattle.avr_desk.specs.Shown.{IsNewDesk, Shown}
 use Rattle.avr_desk.specs.declared.file_system.FileSystem.{Ghosts}
 use Rattle.avr_desk.specs.declared.record.FileUse.{FileUse}
@@ -74,7 +74,7 @@ use Rattle.avr_laws.proofs.Rows.Held.{one_value}
 use Rattle.avr_laws.proofs.Rows.Kept.{executed, programmer, reading_plan, worked_came, worked_forges_none}
 use Rattle.avr_laws.proofs.Rows.PerfectLine.{perfect_transcript, in_turn}
 use Rattle.avr_laws.specs.AnyTape.{ReceivedSentFrames, after_received_bytes}
-use Rattle.avr_laws.specs.AskedPlan.{FileGave, GivesText, IsAsked}
+use Rattle.avr_laws.specs.AskedPlan.{GivesText, IsAsked, WasOpened}
 use Rattle.avr_laws.specs.AskedSettings.{AsksFor, AsksToServe}
 use Rattle.avr_laws.specs.ChipFound.{IsChipInFile}
 use Rattle.avr_laws.specs.Damaged.{Arrival, FrameArrives, BringsReplies, tape_of_arrivals}
@@ -87,7 +87,7 @@ use Rattle.stk_emu.specs.Settled.{FitsPart}
 use Rattle.avr_laws.proofs.Table.Emulated.{emulated_meets}
 use Rattle.avr_laws.proofs.Table.Kept.{kept_by_any}
 use Rattle.avr_tool.proofs.Given.FirstSteps.{sound_fits, sound_idle}
-use Rattle.avr_laws.specs.KeptByPort.{ConnectionState, IsKeptInFile, KeepsCommandLine, KeepsPlanAt}
+use Rattle.avr_laws.specs.KeptByPort.{ConnectionState, IsKeptInFile, KeepsCommandLine, KeepsPlan, KeepsPlanAt}
 use Rattle.avr_laws.specs.Worked.{fuse_plan, worked_frames, worked_replies, worked_settings}
 
 -- ---- the run
@@ -303,16 +303,19 @@ pub file_saved : (m : Memories) → FilesAreSaved (saved_files reading_plan m) n
 unfolding saved_text
 file_saved m = record { created = refl; output = refl }
 
-pub whole_read : (name text : Bytes) → FileGave nothing_kept
-    (used (Opened (Found (record { name = name; bytes = text; ended = true })) ∷ [])) name text
-whole_read name text = (0, omega arith, refl)
+pub whole_read : (name text : Bytes) → WasOpened name text
+    (all_openings (used (Opened (Found (record { name = name; bytes = text; ended = true })) ∷ [])))
+whole_read name text = refl
 
-pub plan_asked : (Gives : GivesText) → IsAsked settings Gives plan
+pub plan_asked : (Gives : GivesText) → IsAsked settings Gives [] plan
 plan_asked Gives = record {
   parts = [];
-  are_parts = refl;
+  first = [];
+  rest = [];
+  in_order = refl;
+  are_parts = (refl, refl);
   part = refl;
-  tasks = ((refl, refl, one_value), tt);
+  tasks = ([], [], refl, (refl, refl, (one_value, refl)), refl);
   switches = refl;
 }
 
@@ -333,14 +336,11 @@ loaded = with_absent file nothing_kept
 abbrev saved : Record
 saved = with_replaced file (chip_file left) loaded
 
-pub chip_saved : IsKeptInFile file plan nothing_kept saved
+pub chip_saved : IsKeptInFile file None plan nothing_kept saved
 chip_saved = record {
-  before = [];
-  found = None;
   chip = fresh_state m328p;
   left = left;
   ended = loaded;
-  opened = refl;
   was = no_chip_file;
   keeps = record {
     made = plan_kept.made;
@@ -355,9 +355,9 @@ not_none : (xs : List Writing) (x : Writing) → xs ++ x ∷ [] ≡ [] → ⊥
 not_none [] x e = cc
 not_none (y ∷ xs) x e = cc
 
-pub chip_unsaved : (name : Bytes) (other : Plan) (old new : Record) → new.tried ≡ []
-    → IsKeptInFile name other old new → ⊥
-chip_unsaved name other old new none kept =
+pub chip_unsaved : (name : Bytes) (found : Option Bytes) (other : Plan) (old new : Record) → new.tried ≡ []
+    → IsKeptInFile name found other old new → ⊥
+chip_unsaved name found other old new none kept =
     not_none kept.ended.tried (record { name = name; bytes = chip_file kept.left })
     (sym (ap (λ (r : Record). r.tried) kept.saved) ∙ none)
 
@@ -509,8 +509,13 @@ call_unrecorded truly =
 
 -- ---- each port
 
+pub plan_followed : KeepsPlan settings nothing_kept reported.kept []
+    (λ made. Any made passed nothing_kept reported.kept)
+unfolding session opening handshake attempts_or_fault attempt exchange answer play operation closing
+plan_followed = (plan, [], refl, plan_asked WasOpened, run_is_kept_by_any)
+
 pub over_streams : (At : ConnectionState) → KeepsPlanAt Any At Stdio settings passed nothing_kept reported.kept
-over_streams At = (plan, (plan_asked (FileGave nothing_kept reported.kept), run_is_kept_by_any))
+over_streams At = plan_followed
 
 pub over_network : KeepsPlanAt Any (IsOverAddress network reads timed_out writes (λ side. Unit {0})) (Network address)
     settings [] nothing_kept reported.kept
@@ -519,12 +524,12 @@ over_network = (
   (
     link_state passed 0,
     connected passed,
-    (plan, (plan_asked (FileGave nothing_kept reported.kept), run_is_kept_by_any)),
+    plan_followed,
   ),
 )
 
 pub over_emulator : (At : ConnectionState) → KeepsPlanAt Any At (Emulated file) settings [] nothing_kept saved
-over_emulator At = (refl, (plan, (plan_asked (FileGave nothing_kept saved), chip_saved)))
+over_emulator At = (refl, (None, (plan, [], refl, plan_asked WasOpened, chip_saved)))
 
 -- a part that nobody knows
 abbrev unknown : Settings
@@ -532,10 +537,10 @@ unknown = record worked_settings { part = codes "none" }
 
 pub part_unknown : (At : ConnectionState) (during : Transcript) (old new : Record)
     → KeepsPlanAt Any At Stdio unknown during old new → ⊥
-part_unknown At during old new (other, (asked, keeps)) =
+part_unknown At during old new (other, opened, is, asked, keeps) =
     let none : ◌≡◌ {A = Option Part} None (Some other.part) =
     subst (λ (parts : List Part). find (has_id (codes "none")) (parts ++ built_in_parts) ≡ Some other.part)
-    asked.are_parts asked.part in cc
+    asked.are_parts.0 asked.part in cc
 
 pub not_connected : (At : ConnectionState) (name : Bytes) (s : Settings) (during : Transcript) (old new : Record)
     → ((link : LinkState) → At name (Some link) → ⊥) → KeepsPlanAt Any At (Network name) s during old new → ⊥
@@ -543,7 +548,8 @@ not_connected At name s during old new none (_, (link, over, keeps)) = none link
 
 pub file_unsaved : (At : ConnectionState) (name : Bytes) (s : Settings) (during : Transcript) (old new : Record)
     → new.tried ≡ [] → KeepsPlanAt Any At (Emulated name) s during old new → ⊥
-file_unsaved At name s during old new none (_, (other, (asked, keeps))) = chip_unsaved name other old new none keeps
+file_unsaved At name s during old new none (_, (found, (other, opened, is, asked, keeps))) =
+    chip_unsaved name found other old new none keeps
 
 -- ---- the command line
 

@@ -186,11 +186,11 @@ first_byte (Write mem (Some byte ∷ image) ∷ more) = byte
 first_byte more = 0
 
 -- not that of another one,
-pub another_file : IsAsked (settings false) (FileHolds files) (fuse_plan 0x62) → ⊥
+pub another_file : IsAsked (settings false) (FileHolds files) [] (fuse_plan 0x62) → ⊥
 another_file asked = search rules
 
 -- and not at another address.
-pub another_address : HasImage (FileHolds files) (codes "low") Raw 2 (None ∷ Some 0xE2 ∷ []) → ⊥
+pub another_address : HasImage (FileHolds files) (codes "low") Raw 2 (None ∷ Some 0xE2 ∷ []) [] → ⊥
 another_address has = search rules
 
 -- The promise over files is an equation too: these bytes are in the chip file, and no others.
@@ -208,7 +208,7 @@ fuse_in (x ∷ flash) eeprom more a b e = fuse_in flash eeprom more a b (cc e)
 module _ (off : Bool) (after : Files) (p : Promised (settings off) (codes "chip") files after) where
   part_is : m328p ≡ p.plan.part
   part_is = cc (subst (λ parts. find (has_id (codes "m328p")) (parts ++ built_in_parts) ≡ Some p.plan.part)
-      p.asked.are_parts p.asked.part)
+      p.asked.are_parts.0 p.asked.part)
 
   tasks_are : p.plan.tasks ≡ tasks 0xE2
   tasks_are = search rules
@@ -285,7 +285,7 @@ saved_there = refl
 module _ (after : Files) (p : Promised reading (codes "chip") files after) where
   its_part : m328p ≡ p.plan.part
   its_part = cc (subst (λ parts. find (has_id (codes "m328p")) (parts ++ built_in_parts) ≡ Some p.plan.part)
-      p.asked.are_parts p.asked.part)
+      p.asked.are_parts.0 p.asked.part)
 
   its_tasks : p.plan.tasks ≡ read_tasks
   its_tasks = search rules

@@ -12,14 +12,14 @@ use Rattle.stk_emu.specs.Effect.{Memories}
 use Rattle.stk_host.specs.ReadSteps.{signature_steps}
 use Rattle.avr_tool.specs.Headline.{IsRun, IsStopped}
 use Rattle.avr_tool.proofs.Plans.Fits.{work}
-use Rattle.avr_laws.specs.AskedPlan.{FileGave, IsAsked}
 use Rattle.avr_laws.specs.Kept.{on_part}
 use Rattle.avr_laws.specs.KeptByAny.{IsKeptByAny}
+use Rattle.avr_laws.specs.KeptByPort.{KeepsPlan}
 use Rattle.avr_laws.specs.Sheet.{IsVouched}
 use Rattle.avr_laws.proofs.Table.ByTasks.{plan_works, signature_works}
 use Rattle.avr_laws.proofs.Table.RealOf.{actions_work, real_of, steps_work}
 use Rattle.avr_laws.proofs.Outcomes.Kept.{kept_on_part}
-use Rattle.avr_laws.proofs.Outcomes.Promise.{asked as asked_for, made}
+use Rattle.avr_laws.proofs.Outcomes.Promise.{keeps_plan, made}
 
 module _ {P : Type 0} (part : Part) (m : Device P) (view : P → Memories) (IsIn IsReady : P → Type 0)
     (becomes : Mem → ℕ → ℕ) where
@@ -38,11 +38,13 @@ module _ {P : Type 0} (part : Part) (m : Device P) (view : P → Memories) (IsIn
 
   -- whatever a call over a link and a desk came to, as avr_tool's `run` states it
   pub promised_by_any : (s : Settings) (x y : Devices) (status : ℕ) → (IsRun s x y status ⊎ IsStopped s x y status)
-      → status ≡ 0 → x.link.transcript ≡ [] → (plan : Plan) × (IsAsked s (FileGave x.desk.kept y.desk.kept) plan
-      × IsKeptByAny part m view IsIn IsReady becomes plan y.link.transcript x.desk.kept y.desk.kept)
+      → status ≡ 0 → x.link.transcript ≡ [] → KeepsPlan s x.desk.kept y.desk.kept []
+      (λ plan. IsKeptByAny part m view IsIn IsReady becomes plan y.link.transcript x.desk.kept y.desk.kept)
   promised_by_any s x y status (inl ran) zero silent =
       let r : IsRun s x y 0 = subst (λ (k : ℕ). IsRun s x y k) zero ran in
       let plan : Plan = (made s x y r).0 in
       let made_is : (planned s r.openings).stage_outcome ≡ Produced plan = (made s x y r).1 in
-      (plan, (asked_for s x y r plan made_is silent, kept_by_any s plan x y r made_is silent))
+      keeps_plan s x y r plan made_is silent
+      (λ plan. IsKeptByAny part m view IsIn IsReady becomes plan y.link.transcript x.desk.kept y.desk.kept)
+      (kept_by_any s plan x y r made_is silent)
   promised_by_any s x y status (inr stopped) zero silent = absurd (let one = stopped.1 in omega (arith, one, zero))
