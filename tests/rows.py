@@ -56,7 +56,11 @@ class Plug:
 
     def __init__(self, call):
         self.call, self.ends, self.vanishes, self.leaves = call, *(threading.Event() for _ in range(3))
-        self.line, self.device = serial.terminal()
+        self.line, name = serial.terminal()
+        # (another test may get a terminal of this name once this one is closed, so its device is a link to it)
+        self.device = room.folder / f"plug{name.replace('/', '-')}"
+        self.device.unlink(missing_ok=True)
+        self.device.symlink_to(name)
         self.thread = threading.Thread(target=self.live, daemon=True)
         self.thread.start()
 
@@ -67,6 +71,7 @@ class Plug:
                     self.bring(programmer)
                 if self.leaves.is_set():
                     break
+        self.device.unlink()
         os.close(self.line)
 
     def bring(self, programmer):
@@ -85,6 +90,19 @@ class Plug:
     def end(self):
         self.ends.set()
         self.thread.join(PATIENCE)
+
+
+def babble():
+    """Returns a connection over which bytes come without end."""
+    ours, caller = serial.socket.socketpair()
+
+    def live():
+        with ours, contextlib.suppress(OSError):
+            while not select.select([ours], [], [], 0.001)[0] or ours.recv(4_096):
+                ours.sendall(b"." * 20)
+
+    threading.Thread(target=live, daemon=True).start()
+    return caller
 
 
 class Wrong:
@@ -327,6 +345,15 @@ def unseen():
     plug.end()
 
 
+def babbles():
+    """A board whose program prints without end isn't waited for."""
+    plug = Plug(babble)
+    status, output, _, own = serial.run([*TINY, "-P", plug.device, *SAFE])
+    plug.end()
+    check_equal("a board that prints without end: status and rows", (status, output), (1, b""))
+    check("a board that prints without end: why", any("no answer to 01" in it for it in own), str(own))
+
+
 def ends_early():
     """If the device goes away or no reply comes while something is changed, the last line has a command that restores
     it. After Ctrl-C the page is written back."""
@@ -470,7 +497,7 @@ def version1():
 
 CASES = named(
     *(emulated, faults_of_the_line, faults_of_a_chip, wrong, unseen),
-    *(ends_early, refused, mega_2560, version1),
+    *(babbles, ends_early, refused, mega_2560, version1),
 )
 
 

@@ -33,6 +33,8 @@ FUSES = ("lfuse", "hfuse", "efuse")
 
 # the bytes of a block, and the blocks of flash that are read again after a row, unless all rows are tried
 BLOCK, SAMPLE = 256, 16
+# a command has no reply if so many bytes or seconds brought none (the slowest command takes some five seconds)
+MOST_BYTES, MOST_SECONDS = 4096, 30
 
 # how TOML writes a number that isn't negative
 DIGITS = {"0x": "[0-9A-Fa-f]+", "0o": "[0-7]+", "0b": "[01]+", "": "[0-9]+"}
@@ -75,22 +77,25 @@ class Programmer:
         self.file = self.opens()
 
     def send(self, body: bytes, is_damaged: bool = False) -> Optional[bytes]:
-        """Sends a frame. Returns the body of its reply; None after a second without a byte."""
+        """Sends a frame. Returns the body of its reply; None after a second without a byte, or if other bytes keep
+        coming."""
         self.number = (self.number + 1) % 256
-        frame, pieces = framed(self.number, body), Frames()
+        frame, pieces, held = framed(self.number, body), Frames(), 0
         os.write(self.file.fileno(), spoiled(frame) if is_damaged else frame)
-        while True:
+        ends = time.monotonic() + MOST_SECONDS
+        while held < MOST_BYTES and time.monotonic() < ends:
             found = ready({self.file: READ, **({came: READ} if self.heeds else {})}, time.monotonic() + 1)
-            if came in found or not found:
+            if came in found:
+                raise Ended("a signal came")
+            if not found:
                 break
             piece = os.read(self.file.fileno(), 4096)
             if not piece:
                 raise Ended("the device is gone")
+            held += len(piece)
             for it in filter(is_frame, pieces.pieces(piece)):
                 if it[1] == self.number and not xor(it):
                     return it[5:-1]
-        if came in found:
-            raise Ended("a signal came")
         return None
 
     def ask(self, *step: bytes) -> bytes:
