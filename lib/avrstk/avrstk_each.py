@@ -255,7 +255,8 @@ def image_of(memory: str, pieces: list[Run]) -> Update:
 def joined(update: Update, content: bytes | None, pieces: list[Run]) -> Update:
     """Returns an update that also writes these bytes, in place of those of its image."""
     if not update.is_image or content is None:
-        raise Fault(f"-U {update.given}: --each needs a file there, or no -U of {update.memory}: {UNOPENED}")
+        why = f"--each needs a file in place of values, or no -U of {update.memory}"
+        raise Fault(f"-U {update.given}: {why}: {UNOPENED}")
     one, whole = copy.copy(update), bytes(content)
     begins = RECORD.match(whole[:1024])
     detected = ("i" if b":" in begins[0] else "s") if begins else "r"
