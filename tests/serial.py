@@ -447,7 +447,7 @@ def no_firmware():
     """A text without records, an archive, a page and an image without a byte are refused, also from a pipe; a text as
     raw bytes (:r) is not."""
     why = {
-        **dict.fromkeys(TEXTS, "is text without records: name the format only if its characters are meant"),
+        **dict.fromkeys(TEXTS, "is text without records: give it as raw bytes only if its characters are meant"),
         **dict.fromkeys(EMPTY, "is empty (did its build fail?)"),
     }
     why.update({name: f"is {what}, not firmware" for name, (_, what) in PACKED.items()})
@@ -477,7 +477,12 @@ def no_firmware():
         check_equal(
             f"{raw[:20]}: flash",
             found,
-            (1, b"", b"", [f"- is text without records: name the format only if its characters are meant: {UNOPENED}"]),
+            (
+                1,
+                b"",
+                b"",
+                [f"- is text without records: give it as raw bytes only if its characters are meant: {UNOPENED}"],
+            ),
         )
     found = piped([*NO_CHIP, "-U", "eeprom:w:-"], raw)
     check_equal("a text in EEPROM", (found[0], room.read("no.bin")[32_768:][: len(raw)]), (0, raw))
@@ -1402,7 +1407,7 @@ FOLLOWED = [
         else without(without(words, "-c"), "wiring"),
     ),
     (r"from 0 on without gaps", another_file),
-    (r"lacks, and reads as 1: is -p right\?", lambda *_: None),
+    (r"lacks read 0, not 1: is -p right\?", lambda *_: None),
     (r"is -p right\?", lambda words, case, _: other_part(words, case["part"], "blink.hex")),
     (
         r"the right board\? .*; if that is so, -p (\w+), with",
@@ -1411,7 +1416,7 @@ FOLLOWED = [
     (r": give (\S+:[ise]);", lambda words, _, found: renamed(words, found[1])),
     (r"the memories are flash, eeprom, lfuse", changed("^fuse", "lfuse")),
     (
-        r"the operations are w \(write\)|the formats are i, s, r, e, a and m to write|a file comes last, as MEMORY:",
+        r"the operations are w \(write\)|the formats are i, s, r, e, a and m to write|a file comes third, as MEMORY:",
         changed("^flash:.*", "flash:w:blink.hex:i"),
     ),
     (

@@ -729,15 +729,15 @@ def faults():
                 ("--seed 7 makes the same faults again" in told) == ("%" in options),
                 told,
             )
-    for words, status, count in [
-        (["--lose", "1000"], 0, 1),
-        (["--lose", "1000", "--strict"], 1, 1),
-        (["--strict"], 0, 0),
+    for words, command, status, count in [
+        (["--lose", "1000"], "true", 0, 1),
+        (["--lose", "1000"], "false", 1, 1),
+        (["--lose", "1000", "--strict"], "true", 1, 1),
+        (["--strict"], "true", 0, 0),
     ]:
-        found, told, _ = ran(["0", *M328P, "--log", "log", *words, "--", "true"])
-        check_equal(
-            f"{words}: it never struck", (found, told), (status, "avrstk-serve: --lose 1000 never struck\n" * count)
-        )
+        found, told, _ = ran(["0", *M328P, "--log", "log", *words, "--", command])
+        expected = status, "avrstk-serve: --lose 1000 never struck\n" * count
+        check_equal(f"{words} {command}: it never struck", (found, told), expected)
     if not clients[1]:
         leave_out("faults with AVRDUDE", "AVRDUDE 7.1 is not installed")
 

@@ -454,11 +454,14 @@ def ordinary_user():
         else:
             (folder / "other").chmod(0o555)
         shutil.copytree(SHARED, folder / "lib")
-        shutil.copy(SCRIPT, folder)
+        # (the programs may be in a folder of root's)
+        for it in (SCRIPT, PROGRAM, SESSION):
+            shutil.copy(it, folder)
         for file, wanted in [("number", 0), ("../other/number", 1)]:
             words = ["-p", "m328p", "-P", "emu:a.bin", "-P", "emu:b.bin", *EACH, "--counter", file, "--from", "3"]
             command = [*SOMEBODY, PYTHON, str(folder / "avrstk-serial"), *words, "-q", "-q"]
-            ran = subprocess.run(command, cwd=folder / "his", **HOW_TO_WAIT)
+            how = HOW_TO_WAIT | {"env": ENVIRONMENT | {"AVRSTK": str(folder / PROGRAM.name)}}
+            ran = subprocess.run(command, cwd=folder / "his", **how)
             check_equal(f"{file}: the status", ran.returncode, wanted)
             if wanted:
                 check(

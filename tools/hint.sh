@@ -20,10 +20,9 @@ is_for_serial() {
             [:?]) return 1 ;;
             -)
                 case $OPTARG in
-                    serve* | help) return 1 ;;
+                    serve* | chip* | help) return 1 ;;
                     parts) has_parts=yes OPTIND=$((OPTIND + 1)) ;;
                     parts=*) has_parts=yes ;;
-                    chip) OPTIND=$((OPTIND + 1)) ;;
                 esac
                 ;;
         esac

@@ -224,7 +224,7 @@ def with_uses(page):
         rows.append(f"| {use} | {', '.join(f'`{name}`' for name in names)} | {len(only)} | {lines_of(only)} |")
     for line in EXAMPLES:
         needed = needed_for(line.split())
-        rows.append(f"| all for `{line}` | `{PROMISE}` | {len(needed)} | {lines_of(needed):,} |")
+        rows.append(f"| all that `{line}` needs | `{PROMISE}` | {len(needed)} | {lines_of(needed):,} |")
     return "\n".join([head + USES, "| --- | --- | ---: | ---: |", *rows]) + "\n\n" + rest.split("\n\n", 1)[1]
 
 

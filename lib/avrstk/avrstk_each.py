@@ -113,7 +113,7 @@ class Counter:
                 if ended_by():
                     raise Fault("ended before a number was taken")
                 if time.monotonic() > until:
-                    raise Fault(f"another program has held {self.given}.lock for {PATIENCE} seconds")
+                    raise Fault(f"another program has held {self.file}.lock for {PATIENCE} seconds")
                 time.sleep(0.005)
 
     def replace(self, text: bytes) -> None:
@@ -171,7 +171,7 @@ class Each:
         if number > most:
             raise Fault(why)
         if self.rows and not number:
-            raise Fault("--from 0: the first row of --rows is 1")
+            raise Fault("the number is 0: the first row of --rows is 1")
         self.put(words, number)
 
     def give(self, words: Words) -> None:
@@ -236,7 +236,7 @@ def table_of(file: str) -> tuple[list[str], list[list[str]]]:
     if not names:
         raise Fault(f"--rows {file} is empty: its first line has the names of the columns")
     if len(set(names)) < len(names) or "n" in names:
-        raise Fault(f"--rows {file}: each column needs another name than n")
+        raise Fault(f"--rows {file}: each column needs a name of its own, other than n")
     if not rows:
         raise Fault(f"--rows {file} has names of columns, but no row")
     for number, row in enumerate(rows, 1):
@@ -255,7 +255,8 @@ def image_of(memory: str, pieces: list[Run]) -> Update:
 def joined(update: Update, content: bytes | None, pieces: list[Run]) -> Update:
     """Returns an update that also writes these bytes, in place of those of its image."""
     if not update.is_image or content is None:
-        raise Fault(f"-U {update.given}: --each needs a file there, or no -U of {update.memory}: {UNOPENED}")
+        why = f"--each needs a file in place of values, or no -U of {update.memory}"
+        raise Fault(f"-U {update.given}: {why}: {UNOPENED}")
     one, whole = copy.copy(update), bytes(content)
     begins = RECORD.match(whole[:1024])
     detected = ("i" if b":" in begins[0] else "s") if begins else "r"

@@ -137,7 +137,7 @@ def no_part(words: Words, _: Match[str] | None) -> str:
     """Returns why a part isn't there, if it is known."""
     name = long_name(words.part)
     for names, reason in rows_of("unsupported.txt") if words.parts_file is None else []:
-        if name in names.lower().split():
+        if {name, f"at{name}"} & {*names.lower().split()}:
             return f"{name} is not supported: {reason.partition('. ')[0]}. Use avrdude"
     package = re.sub(r"-\w+$", "", name)
     if package != name and package in parts():
@@ -178,7 +178,8 @@ def too_far(words: Words, update: Update, address: int) -> str:
         return f"it has addresses of several memories, as ELF has: give the ELF file itself, as {own}:NAME.elf"
     if update.memory in FUSES:
         return f"{update.memory} has 1 byte: give its value, as {own}:0xNN:m"
-    size = words.field(f"{update.memory}_size") if update.memory in ("flash", "eeprom") else 1
+    sizes = {"signature": 3, "calibration": 1}
+    size = sizes.get(update.memory) or words.field(f"{update.memory}_size")
     room = f"has {size:,} byte{'s' if size > 1 else ''}" if size else "is smaller"
     goes_on = f"{update.file} goes past it: " if update.elf else ""
     return f"{update.memory} of {words.part} {room}; {goes_on}is -p right?"
@@ -234,7 +235,7 @@ def differs(words: Words, found: Match[str]) -> str:
     bits = words.bits().get(memory)
     if bits is not None and not (wanted ^ held) & bits:
         if not ~(wanted | bits) & 0xFF:
-            return "bits read 0 that this part lacks, and reads as 1: is -p right?"
+            return "bits that this part lacks read 0, not 1: is -p right?"
         return f"only bits that the part doesn't have differ: give {memory}:{'w' if writes else 'v'}:0x{held:02X}:m"
     if not writes:
         return f"{memory} holds something else than {compared}"
@@ -314,7 +315,7 @@ KINDS = {
     "no such memory": f"the memories are {', '.join(MEMORIES)}",
     "no such operation": "the operations are w (write), v (compare) and r (read)",
     "no such format here": "the formats are i, s, r, e, a and m to write and compare, i, s, r, h, d, o and b to read",
-    "no file named": "a file comes last, as MEMORY:OP:FILE:FORMAT",
+    "no file named": "a file comes third, as MEMORY:OP:FILE:FORMAT",
 }
 
 
@@ -342,7 +343,8 @@ REPLIED: Table = {
     "command 10 ": "the programmer can't reach the chip, which is unchanged: check wires, power, clock and reset pin",
     "command (17|19|1C) ": "a bootloader can't write fuses and the lock, or read the calibration: use a programmer",
     "no answer$": "no further valid reply: check the cable and the power; {state}",
-    "no answer in|.*bad answer$": "something else sends data (the board's application), or {speed} is wrong; {state}",
+    "no answer in|.*bad answer$": "something else sends data (the board's application), {speed} is wrong, or the "
+    "programmer doesn't keep to STK500v2; {state}",
     "link ": "the device is gone: check the cable; {state}",
     "command ": "the programmer refused the command: {state}; if it refuses again, use another one",
     "-: cannot be (created|written)$": f"standard output is closed or full; {STAYS}",

@@ -66,7 +66,9 @@ class Report:
             changes = any(re.search(r"^chip erased$| bytes written$", line) for line in self.lines)
         if not changes:
             return "unchanged"
-        return "done" if status == 0 else "erased or partly written"
+        # (if only the last command got no reply, all else was done)
+        is_done = status == 0 or any(run.left_at_error and run.error == "no answer" for run in self.runs[-1:])
+        return "done" if is_done else "erased or partly written"
 
     def count(self, words: Words, update: Update, what: str) -> int | None:
         """Returns the bytes in avrstk's line about an update, or None. Lines come in the order of the updates."""

@@ -257,7 +257,9 @@ class Server:
             if ended != signal.SIGCHLD:
                 job.end()
         status = 1 if ended is None else 124 if ended == signal.SIGALRM else job.status()
-        return status or int(self.lacks_faults() or self.has_failed)
+        # (these are reported also if the command has failed)
+        lacks = self.lacks_faults()
+        return status or int(lacks or self.has_failed)
 
     def lacks_faults(self) -> bool:
         """Reports the faults that never struck, and returns whether the status depends on them."""
