@@ -9,7 +9,7 @@
 
 A script's output is printed when the script has ended. All steps run even if one fails; the status is then 1. If in a
 script only cases failed that measure time, these cases are run once more, alone. Then that run counts, and the summary
-names it; at most four scripts are run again. Before that, the script itself has made failed runs again in which it
+names it; at most two scripts are run again. Before that, the script itself has made failed runs again in which it
 measured a pause of the machine, each at most five times; its last line counts them. The summary has each step's status,
 minutes, processor seconds and last line, the lines that report failures, and how the mutants were refused. It lists
 checks that were left out because a tool isn't installed (`./test --tools` installs the tools); with NEED_ALL=1 in the
@@ -97,7 +97,7 @@ MOST = 62
 
 # how many scripts may be run again, and what their names then end with
 AGAIN = " (again, alone)"
-MOST_AGAIN = 4
+MOST_AGAIN = 2
 
 # rt's line for a refused mutant, and the kinds of refusal; the first match counts. rt cuts a line after 160 characters,
 # so these words may be incomplete
