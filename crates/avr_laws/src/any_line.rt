@@ -85,8 +85,8 @@ pub fn what_a_run_reports_is_true<T: AnyProgrammer>()
         exchanges }
 {}
 
-/// States the same as [`what_a_run_reports_is_true`] of the emulated programmer, for any plan and any state of the lock
-/// and the fuses.
+/// States for the emulated programmer what [`what_a_run_reports_is_true`] states, for any plan and any state of the
+/// lock and the fuses.
 pub fn what_a_run_reports_is_true_on_an_emulated_chip()
     ensures { (plan : Plan) (m : Memories) (k : ℕ) (p : Programmer) (exchanges : List Exchange)
         → IsPart plan.part → All (IsFitted plan.part) plan.tasks → FitsPart plan.part m → HasMemories plan.part m p

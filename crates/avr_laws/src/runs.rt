@@ -159,7 +159,7 @@ pub fn an_ended_run_and_one_with_status_0_are_as_one<T: AnyProgrammer>()
         (memory_in T.part mem (T.view (after_received_bytes T.device over more q)))) }
 {}
 
-/// States the same as [`an_ended_run_and_one_with_status_0_are_as_one`] of the emulated programmer, for any plan and
+/// States for the emulated programmer what [`an_ended_run_and_one_with_status_0_are_as_one`] states, for any plan and
 /// any state of the lock and the fuses. The first run sent any prefix of its bytes.
 // Proof: `emulated_as_one` (Outcomes/TwoRuns), by `done_again` (SecondRun/Status) and, for another signature,
 // `session_alike` (Outcomes/OtherPart).
