@@ -167,10 +167,10 @@ def verdicts(crates):
 
 def refusals(mutants):
     yield from ["| Mutant | Refused at | What the prover said |", "| --- | --- | --- |"]
-    for crate, name, said in mutants:
-        only = LESS.match(said)
-        found = PLACE.match(only[2] if only else said)
-        place, words = (f"`{found[1]}`", found[2]) if found else ("", said)
+    for crate, name, reason in mutants:
+        only = LESS.match(reason)
+        found = PLACE.match(only[2] if only else reason)
+        place, words = (f"`{found[1]}`", found[2]) if found else ("", reason)
         words = "; ".join(filter(None, [only and only[1], words.replace("|", "\\|")]))
         yield f"| {crate}: {name.replace('_', ' ')} | {place} | {words} |"
 
