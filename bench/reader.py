@@ -71,8 +71,8 @@ def count_all(program, texts):
     front = ["valgrind", "--tool=callgrind", "--callgrind-out-file=/dev/null"]
     for kind, (file, length) in texts.items():
         for who, name in NAMES.items():
-            told = run(program, who, kind, file, 1, [*front, f"--toggle-collect={who}_read"]).stderr
-            count = int(re.search(r"Collected : (\d+)", told)[1])
+            printed = run(program, who, kind, file, 1, [*front, f"--toggle-collect={who}_read"]).stderr
+            count = int(re.search(r"Collected : (\d+)", printed)[1])
             print(f"{count / length:8.1f} instructions a byte  {kind}: {name}")
 
 

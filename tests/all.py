@@ -35,7 +35,7 @@ from cases import LATE, TOP
 UNPROVED = TOP / "out/unproved/avrstk"
 PROVED = TOP / "crates/avrstk/out/avrstk"
 # the crates that are programs
-PROGRAMS = {it.parent.parent.name: it.parent.parent / "out" for it in TOP.glob("crates/*/src/main.rt")}
+PROGRAMS = {source.parent.parent.name: source.parent.parent / "out" for source in TOP.glob("crates/*/src/main.rt")}
 
 # scripts of tools/, which only read
 CHECKED = (
@@ -144,7 +144,7 @@ class Done:
 def say(lines):
     """Prints lines with the minutes so far, without lines of other steps between them."""
     minutes = (time.monotonic() - BEGUN) / 60
-    sys.stdout.write("".join(f"{minutes:5.1f} {it}\n" for it in lines))
+    sys.stdout.write("".join(f"{minutes:5.1f} {line}\n" for line in lines))
     sys.stdout.flush()
 
 
@@ -164,7 +164,7 @@ def run(what, command, each=None, **environment):
         processor = used.ru_utime + used.ru_stime
     except OSError as fault:
         status, processor, lines = 127, 0, [f"cannot be run: {fault}"]
-    done = Done(what, status, time.monotonic() - begun, processor, [it for it in lines if it.strip()])
+    done = Done(what, status, time.monotonic() - begun, processor, [line for line in lines if line.strip()])
     say([*([] if each else lines), f"== {done.end()}: {what}, {done.took()}"])
     return done
 
@@ -190,11 +190,11 @@ def script(name, kind="", before=(), **environment):
 def settled(done):
     """Returns the outcome of all steps. Of the first scripts that failed only at measuring time, those cases are run
     again alone."""
-    late = [it for it in done if it.status == LATE and it.again][:MOST_AGAIN]
-    for it in late:
-        again = it.again()
-        again.lines = [*filter(LEFT_OUT.fullmatch, it.lines), *again.lines]
-        done[done.index(it)] = again
+    late = [step for step in done if step.status == LATE and step.again][:MOST_AGAIN]
+    for step in late:
+        again = step.again()
+        again.lines = [*filter(LEFT_OUT.fullmatch, step.lines), *again.lines]
+        done[done.index(step)] = again
     return done
 
 
@@ -247,11 +247,11 @@ class Checks(threading.Thread):
         more."""
         lines = ["crate          first check   mutants   the slowest after the first"]
         for folder in sorted((TOP / "crates").iterdir()):
-            names = sorted(it.stem for it in folder.glob("must-fail/*.edit"))
+            names = sorted(edit.stem for edit in folder.glob("must-fail/*.edit"))
             first, mutants = self.of(folder.name)
             slow = sorted(zip(mutants[1:], names[1:]), reverse=True)[:3]
-            told = ", ".join(f"{name} {seconds:.0f}" for seconds, name in slow)
-            lines.append(f"{folder.name:14} {first:9.0f} s {sum(mutants):7.0f} s   {told}".rstrip())
+            slowest = ", ".join(f"{name} {seconds:.0f}" for seconds, name in slow)
+            lines.append(f"{folder.name:14} {first:9.0f} s {sum(mutants):7.0f} s   {slowest}".rstrip())
         return lines
 
 
@@ -296,7 +296,7 @@ def free_memory():
 def over_library(folder, proving):
     """Runs the scripts over the library for C, which is built in this folder."""
     proved = proving.wait_for("avr_records")
-    return [script(it, before=LAST, AVR_RECORDS_C=folder, PROVED_BY_CI=proved) for it in LIBRARY]
+    return [script(name, before=LAST, AVR_RECORDS_C=folder, PROVED_BY_CI=proved) for name in LIBRARY]
 
 
 def stamper():
@@ -316,9 +316,12 @@ def start_unproved(lanes, over, names, before=()):
     def over_it(name):
         return [script(name, "unproved: ", AVRSTK=str(UNPROVED))] if built.result().status == 0 else []
 
-    begun = [lanes.submit(lambda it: [script(it, before=before)], name) for name in SOURCES]
+    def without_it(name):
+        return [script(name, before=before)]
+
+    begun = [lanes.submit(without_it, name) for name in SOURCES]
     begun += [over.submit(over_it, name) for name in names]
-    return lambda: [built.result(), *(done for it in begun for done in it.result())]
+    return lambda: [built.result(), *(done for future in begun for done in future.result())]
 
 
 def say_what_lacks():
@@ -350,15 +353,15 @@ def everything():
             others = start_unproved(lanes, lanes, BOTH, LAST)
             with_it = {"AVRSTK": str(PROVED), "PROVED_BY_CI": proving.wait_for(*PROGRAMS)}
             stamped = stamp()
-            over_it = [lanes.submit(script, it, "proved: ", **with_it) for it in PROGRAM]
-            done = [*others(), *over_c.result(), proof.result(), stamped, *(it.result() for it in over_it)]
+            over_it = [lanes.submit(script, name, "proved: ", **with_it) for name in PROGRAM]
+            done = [*others(), *over_c.result(), proof.result(), stamped, *(future.result() for future in over_it)]
         return settled(done), proving.checks
 
 
 def chosen(names):
     """Runs the scripts of these names, with the built program."""
     known = list(dict.fromkeys([*SOURCES, *LIBRARY, *PROGRAM]))
-    steps = [it for it in known if it in names or it.split()[0] in set(names) - set(known)]
+    steps = [name for name in known if name in names or name.split()[0] in set(names) - set(known)]
     current = (
         os.environ.get("AVRSTK") or not subprocess.run(["./avrstk", "--which"], cwd=TOP, capture_output=True).returncode
     )
@@ -370,11 +373,11 @@ def chosen(names):
 
 def machine():
     """Returns what the times depend on."""
-    kit, told = (subprocess.run(["rt", word], capture_output=True, text=True) for word in ("version", "help"))
+    kit, help_page = (subprocess.run(["rt", word], capture_output=True, text=True) for word in ("version", "help"))
     # (a kit whose rt ci takes names remembers what passed)
     keeps = (
         "keeps what passed"
-        if re.search(r"rt ci \[?NAME", told.stdout + told.stderr)
+        if re.search(r"rt ci \[?NAME", help_page.stdout + help_page.stderr)
         else "proves everything anew in each rt ci"
     )
     return f"{LANES} processors, {free_memory() / 1e6:.0f} GB free; {kit.stdout.strip()}, which {keeps}"
@@ -382,7 +385,7 @@ def machine():
 
 def costs(done, checks):
     """Returns the table of processor seconds, and the whole in first checks of one crate."""
-    whole, (measure, _) = sum(it.processor for it in done), checks.of(MEASURE)
+    whole, (measure, _) = sum(step.processor for step in done), checks.of(MEASURE)
     two = f"reckoned for two processors: {whole / 2 / 60:.0f} minutes"
     ratio = (
         f"{whole / measure:.0f} times {MEASURE}'s first check of {measure:.0f} s"
@@ -396,24 +399,24 @@ def costs(done, checks):
 def summary(done, checks=None):
     """Prints the outcome of all steps, and returns the status."""
     print("== summary", *(costs(done, checks) if checks else []), sep="\n")
-    for it in done:
-        print(f"{it.end():10} {it.seconds / 60:5.1f} min {it.processor:6.0f} s  {it.what}: {it.last()}")
-        for line in [it.strip() for it in it.lines if FAILURE.match(it)][:MOST_FAILURES] if it.status else []:
+    for step in done:
+        print(f"{step.end():10} {step.seconds / 60:5.1f} min {step.processor:6.0f} s  {step.what}: {step.last()}")
+        for line in [row.strip() for row in step.lines if FAILURE.match(row)][:MOST_FAILURES] if step.status else []:
             print(f"    {line[:300]}")
-    refused = [found[1] for it in done for found in map(REFUSED.search, it.lines) if found]
+    refused = [found[1] for step in done for found in map(REFUSED.search, step.lines) if found]
     kinds = Counter(next(kind for kind, words in REFUSALS.items() if words.search(how)) for how in refused)
     if refused:
-        told = ", ".join(f"{kinds[kind]} {kind}" for kind in REFUSALS if kinds[kind])
-        print(f"mutants: {len(refused)} refused, of these {told}")
-    left = [line for it in done for line in it.left_out()]
+        counted = ", ".join(f"{kinds[kind]} {kind}" for kind in REFUSALS if kinds[kind])
+        print(f"mutants: {len(refused)} refused, of these {counted}")
+    left = [line for step in done for line in step.left_out()]
     print(f"left out because a tool isn't installed: {len(left) or 'nothing'}", *left, sep="\n    ")
-    again = [it.what for it in done if it.what.endswith(AGAIN)]
+    again = [step.what for step in done if step.what.endswith(AGAIN)]
     print(f"scripts that were run again, at most {MOST_AGAIN}: {', '.join(again) or 'none'}")
-    wrong = sum(it.status != 0 for it in done)
-    processor = sum(it.processor for it in done)
+    wrong = sum(step.status != 0 for step in done)
+    processor = sum(step.processor for step in done)
     took = f"{(time.monotonic() - BEGUN) / 60:.0f} minutes on {LANES} processors, {processor:.0f} s of one"
     print(f"{len(done)} steps in {took}; {wrong} of them failed")
-    passed, failed = (sum(counts) for counts in zip(*(it.counts() for it in done)))
+    passed, failed = (sum(counts) for counts in zip(*(step.counts() for step in done)))
     print(f"{passed} passed, {failed} failed")
     return int(wrong > 0)
 
@@ -425,9 +428,9 @@ def main(words):
         return summary(*everything())
     if not words:
         return summary(few())
-    known = {it.split()[0] for it in (*SOURCES, *LIBRARY, *PROGRAM)} | {*SOURCES, *LIBRARY, *PROGRAM}
+    known = {name.split()[0] for name in (*SOURCES, *LIBRARY, *PROGRAM)} | {*SOURCES, *LIBRARY, *PROGRAM}
     if set(words) - known:
-        print(__doc__.strip(), "", "Scripts:", *(f"    {it}" for it in sorted(known)), sep="\n")
+        print(__doc__.strip(), "", "Scripts:", *(f"    {name}" for name in sorted(known)), sep="\n")
         return 2
     return summary(chosen(words))
 

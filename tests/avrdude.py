@@ -104,7 +104,7 @@ class Beside:
 
     def chips_are_alike(self, what):
         theirs, own = self.room.read("served.bin"), self.room.read("own.bin")
-        sizes = [len(it or b"") for it in (theirs, own)]
+        sizes = [len(chip or b"") for chip in (theirs, own)]
         differ = [at for at, (a, b) in enumerate(zip(theirs or b"", own or b"")) if a != b]
         good = sizes == [self.part.chip] * 2 and not differ
         check(f"{self.name}: {what}: the chip file", good, f"{sizes} bytes, {len(differ)} differ, at {differ[:8]}")
@@ -135,17 +135,19 @@ class Beside:
 
     def read(self):
         """Both programs read each memory into a file; each compares the records that the other wrote."""
-        found, messages, _ = self.by_avrdude(updates(*(f"{it}:r:{it}.theirs:r" for it in MEMORIES)))
-        own, _ = self.by_this(updates(*(f"{it}:r:{it}.own:r" for it in MEMORIES)))
+        found, messages, _ = self.by_avrdude(updates(*(f"{memory}:r:{memory}.theirs:r" for memory in MEMORIES)))
+        own, _ = self.by_this(updates(*(f"{memory}:r:{memory}.own:r" for memory in MEMORIES)))
         check(f"{self.name}: all memories are read", found == own == 0, f"{found}, {own}\n{messages.decode()}")
-        for it in MEMORIES:
-            theirs, ours = self.room.read(f"{it}.theirs"), self.room.read(f"{it}.own")
-            check(f"{self.name}: {it} is read alike", theirs is not None and theirs == ours, f"{theirs}\n{ours}"[:300])
+        for memory in MEMORIES:
+            theirs, ours = self.room.read(f"{memory}.theirs"), self.room.read(f"{memory}.own")
+            check(
+                f"{self.name}: {memory} is read alike", theirs is not None and theirs == ours, f"{theirs}\n{ours}"[:300]
+            )
         records = ["flash:{}:read.hex:i", "eeprom:{}:read.srec:s"]
         by_both = [self.by_avrdude, self.by_this]
         for reads, compares in [by_both, by_both[::-1]]:
-            found = reads(updates(*(it.format("r") for it in records)))[0]
-            again = compares(updates(*(it.format("v") for it in records)))[0]
+            found = reads(updates(*(record.format("r") for record in records)))[0]
+            again = compares(updates(*(record.format("v") for record in records)))[0]
             check_equal(f"{self.name}: records of one are read by the other, {reads.__name__}", (found, again), (0, 0))
         self.chips_are_alike("after all was read")
 
@@ -153,7 +155,7 @@ class Beside:
         """Requests that must fail leave the chip unchanged: a different image compared, a part with another
         signature."""
         self.request("another image", updates("eeprom:v:flash.bin:r", "lfuse:w:0x00:m"), status=1)
-        other = next(it for it in PARTS if it != self.name)
+        other = next(name for name in PARTS if name != self.name)
         (self.room.folder / "served.bin").rename(self.room.folder / "kept.bin")
         found, _, ended = self.by_avrdude(updates("lfuse:w:0x00:m"), part=other)
         check_equal(f"{self.name}: another part", (found != 0, ended), (True, (0, b"", b"")))

@@ -24,6 +24,7 @@ import sys
 import time
 from concurrent.futures import ThreadPoolExecutor
 from dataclasses import dataclass
+from functools import partial
 
 from cases import attempts, check, check_equal, named, pauses, run_cases, sampled
 from line import BadLine, Link, frame_size, frames_of
@@ -51,8 +52,8 @@ class Plan:
         self.chip = draw.randbytes(FLASH + EEPROM) + b"\x62\xd9\xff\xff"
         self.page_writes = list(self.states())
         updates = ["flash:w:flash.bin:r"] * has_flash + ["eeprom:w:eeprom.bin:r", "lfuse:w:0xE2:m"]
-        self.words = ["-p", "m328p", *(word for it in updates for word in ("-U", it))]
-        self.told = self.run(Room(), "emu:chip.bin", "chip.bin")[1]
+        self.words = ["-p", "m328p", *(word for update in updates for word in ("-U", update))]
+        self.messages = self.run(Room(), "emu:chip.bin", "chip.bin")[1]
 
     def states(self):
         """Yields the chip at first, and after the erase and each page write."""
@@ -156,22 +157,22 @@ def run(plan, seed, most, fate_of):
     room = Room()
     plan.prepare(room, "served.bin")
     link = BadLink(room, seed, most, fate_of)
-    status, told = plan.run(room, f"net:127.0.0.1:{link.port}", "served.bin")
-    return status, told, *link.end(), room.read("served.bin")
+    status, messages = plan.run(room, f"net:127.0.0.1:{link.port}", "served.bin")
+    return status, messages, *link.end(), room.read("served.bin")
 
 
-def holds(name, plan, status, told, is_forged, served, chip):
+def holds(name, plan, status, messages, is_forged, served, chip):
     """Checks a run and its server by what is proved."""
     check(f"{name}: the server", served == (0, b"", b""), served)
     check(f"{name}: the chip is whole", chip is not None and len(chip) == CHIP_FILE)
     if status == 0:
         check(f"{name}: the chip has what was written", is_forged or chip == plan.page_writes[-1])
-        check_equal(f"{name}: the messages", told, plan.told)
+        check_equal(f"{name}: the messages", messages, plan.messages)
     else:
         check(f"{name}: the chip is as some first page writes leave it", is_forged or chip in plan.page_writes)
-        front = told[:-1]
-        check(f"{name}: the messages begin so", status == 1 and front == plan.told[: len(front)], told)
-        check(f"{name}: and end with an error", told[-1:] and told[-1].startswith(b"avrstk: error: "), told)
+        front = messages[:-1]
+        check(f"{name}: the messages begin so", status == 1 and front == plan.messages[: len(front)], messages)
+        check(f"{name}: and end with an error", messages[-1:] and messages[-1].startswith(b"avrstk: error: "), messages)
 
 
 def drawn(rate, kinds):
@@ -202,27 +203,31 @@ KINDS = {
     "cuts": Kind(45, [1, 7, 40, 300], drawn(0, LOSSES), (45, 45)),
     "stalls": Kind(42, [3, 20, 300], drawn(5, STALLS), (34, 42), has_flash=False),
     "lags": Kind(15, [300], lagging, (0, 7)),
-    **{f"losses of {it} %": Kind(16, [300], drawn(it, LOSSES), has_flash=False) for it in RATES},
+    **{f"losses of {rate} %": Kind(16, [300], drawn(rate, LOSSES), has_flash=False) for rate in RATES},
 }
 
 
 def runs_over(name, kind):
     """Makes all runs over one kind of link."""
-    plans = [Plan(it, kind.has_flash) for it in range(1 if "losses" in name else 10)]
+    # (a pause can make a run fail, which matters only if runs must succeed)
+    may_fail = not kind.good or kind.good[0] == 0
+
+    def all_outcomes(link):
+        return attempts(lambda: run(*link), lambda outcome: outcome[0] == 0 or may_fail)
+
+    plans = [Plan(seed, kind.has_flash) for seed in range(1 if "losses" in name else 10)]
     with ThreadPoolExecutor(AT_ONCE) as pool:
-        draws = [random.Random(f"{name} {it}") for it in range(kind.count)]
+        draws = [random.Random(f"{name} {number}") for number in range(kind.count)]
         links = [
-            (plans[it % len(plans)], f"{name} {it}", draw.choice(kind.pieces), kind.fates(draw))
-            for it, draw in enumerate(draws)
+            (plans[number % len(plans)], f"{name} {number}", draw.choice(kind.pieces), kind.fates(draw))
+            for number, draw in enumerate(draws)
         ]
-        # (a pause can make a run fail, which matters only if runs must succeed)
-        may_fail = not kind.good or kind.good[0] == 0
-        tried = list(pool.map(lambda it: attempts(lambda: run(*it), lambda found: found[0] == 0 or may_fail), links))
+        tried = list(pool.map(all_outcomes, links))
     for (plan, label, *_), outcomes in zip(links, tried):
         for outcome in outcomes:
             holds(label, plan, *outcome)
-    found = [it[-1] for it in tried]
-    good, forged = (sum(it) for it in zip(*((it[0] == 0, it[2]) for it in found)))
+    found = [outcomes[-1] for outcomes in tried]
+    good, forged = (sum(flags) for flags in zip(*((outcome[0] == 0, outcome[2]) for outcome in found)))
     SUCCEEDED[name] = good
     check(f"{name}: the chips of most runs are judged", forged <= (kind.count // 4 if "losses" in name else 0), forged)
     print(
@@ -291,8 +296,8 @@ class SmallPlan:
             status,
             messages.splitlines(),
             room.read("served.bin"),
-            {it: room.read(it) for it in self.read},
-            [it[5:-1] for it in sent],
+            {name: room.read(name) for name in self.read},
+            [request[5:-1] for request in sent],
         )
 
 
@@ -300,30 +305,41 @@ def may_succeed(before, after, dialog):
     """Returns whether a run may succeed in which the programmer restarts after it has received the frames `before`:
     only to sign on had been sent, or only to leave was left of its dialog. (These are bodies of frames; a frame whose
     reply comes late is sent again, so frames aren't counted.)"""
-    signs_on = all(it[0] == SIGN_ON for it in before)
-    leaves = all(it[0] == LEAVE for it in after) and all(it in before or it[0] == LEAVE for it in dialog)
+    signs_on = all(body[0] == SIGN_ON for body in before)
+    leaves = all(body[0] == LEAVE for body in after) and all(body in before or body[0] == LEAVE for body in dialog)
     return signs_on or leaves
+
+
+def undisturbed(plan):
+    """Makes a run of a plan without a restart, and returns its outcome."""
+    return attempts(lambda: plan.run({}), lambda outcome: outcome[0] == 0)[-1]
+
+
+def restarted(case):
+    """Makes a run of a plan in which the programmer restarts after a frame, and returns its outcome."""
+    plan, at, _ = case
+    return plan.run({at: "restart"})
 
 
 def restarts():
     """The programmer restarts after each frame of a plan in turn, also after its reply to the last one."""
-    plans = [SmallPlan(it) for it in range(200)]
+    plans = [SmallPlan(seed) for seed in range(200)]
     with ThreadPoolExecutor(AT_ONCE) as pool:
-        good = list(pool.map(lambda plan: attempts(lambda: plan.run({}), lambda it: it[0] == 0)[-1], plans))
+        good = list(pool.map(undisturbed, plans))
         for number, (plan, found) in enumerate(zip(plans, good)):
             wanted = (0, found[1], plan.left, plan.read, found[4])
             check_equal(f"plan {number}, {plan.words}: without a restart", found, wanted)
-        tried = [(plan, it, found) for plan, found in zip(plans, good) for it in range(1, len(found[4]) + 1)]
+        tried = [(plan, at, found) for plan, found in zip(plans, good) for at in range(1, len(found[4]) + 1)]
         tried = sampled("restarts", 150, tried)
-        found = list(pool.map(lambda it: it[0].run({it[1]: "restart"}), tried))
-    for (plan, at, good), (status, told, *held, sent) in zip(tried, found):
+        found = list(pool.map(restarted, tried))
+    for (plan, at, good), (status, messages, *held, sent) in zip(tried, found):
         name = f"{plan.words}: a restart after frame {at} of {len(good[4])}"
         if status == 0:
-            check_equal(name, (told, *held), good[1:4])
+            check_equal(name, (messages, *held), good[1:4])
             check(f"{name}: status 0", may_succeed(sent[:at], sent[at:], good[4]), sent)
         else:
-            check(name, status == 1 and told[:-1] == good[1][: len(told) - 1], told)
-    ended_well = sum(it[0] == 0 for it in found)
+            check(name, status == 1 and messages[:-1] == good[1][: len(messages) - 1], messages)
+    ended_well = sum(outcome[0] == 0 for outcome in found)
     check("some runs with a restart succeed, and some don't", 0 < ended_well < len(found), ended_well)
     print(f"restarts: {ended_well} of {len(found)} runs succeeded", flush=True)
 
@@ -331,7 +347,7 @@ def restarts():
 def as_many_succeed():
     """Checks how many runs over links that cut frames, stall or lag succeeded. A run that
     failed was made again if a pause was measured meanwhile."""
-    for name, kind in ((name, it) for name, it in KINDS.items() if it.good):
+    for name, kind in ((name, kind) for name, kind in KINDS.items() if kind.good):
         if name not in SUCCEEDED:
             runs_over(name, kind)
         least, most = kind.good
@@ -339,9 +355,7 @@ def as_many_succeed():
 
 
 SUCCEEDED = {}
-CASES = {name: lambda it=(name, kind): runs_over(*it) for name, kind in KINDS.items()} | named(
-    restarts, as_many_succeed
-)
+CASES = {name: partial(runs_over, name, kind) for name, kind in KINDS.items()} | named(restarts, as_many_succeed)
 
 if __name__ == "__main__":
     sys.exit(run_cases(CASES, __doc__, timed=["as_many_succeed"]))

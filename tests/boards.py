@@ -24,7 +24,7 @@ import subprocess
 import sys
 import threading
 import time
-from functools import lru_cache
+from functools import lru_cache, partial
 from pathlib import Path
 
 import serial
@@ -39,7 +39,7 @@ from avrstk_version1 import Version1  # noqa: E402
 
 CORE = Path("/usr/share/arduino/hardware/arduino/avr")
 SKETCHES = [TOP / "out/ArduinoISP.ino", Path("/usr/share/doc/arduino/examples/11.ArduinoISP/ArduinoISP/ArduinoISP.ino")]
-SKETCH = next((it for it in SKETCHES if it.exists()), None)
+SKETCH = next((path for path in SKETCHES if path.exists()), None)
 FLASH, EEPROM, PAGE = 32_768, 1_024, 128
 FUSES = bytes([0x62, 0xD9, 0xFF, 0xFF])
 TINY = '[parts.tiny]\nsignature = "1E950F"\nflash_size = 2048\nflash_page = 128\neeprom_size = 64\neeprom_page = 4\n'
@@ -77,17 +77,17 @@ def sketch(name, baud):
     text += "uint8_t write_eeprom_chunk(unsigned int start, unsigned int length);\n"
     text += SKETCH.read_text().replace("#define BAUDRATE\t19200", f"#define BAUDRATE {baud}")
     room.put(f"{name}.cpp", text.encode())
-    folders = [f"-I{CORE / it}" for it in ("cores/arduino", "variants/standard", "libraries/SPI/src")]
+    folders = [f"-I{CORE / folder}" for folder in ("cores/arduino", "variants/standard", "libraries/SPI/src")]
     flags = ["-Os", "-w", "-mmcu=atmega328p", "-DF_CPU=16000000L", "-DARDUINO=10819", "-DDECIMAL_DIG=17", *folders]
     flags += ["-ffunction-sections", "-fdata-sections", "-DARDUINO_AVR_UNO", "-DARDUINO_ARCH_AVR"]
     plus = [*flags, "-std=gnu++11", "-fpermissive", "-fno-exceptions", "-fno-threadsafe-statics"]
-    known = [it for it in (CORE / "cores/arduino").iterdir() if it.suffix in (".c", ".cpp", ".S")]
+    known = [file for file in (CORE / "cores/arduino").iterdir() if file.suffix in (".c", ".cpp", ".S")]
     files = [*known, *(CORE / "libraries/SPI/src").glob("*.cpp"), room.folder / f"{name}.cpp"]
-    for at, it in enumerate(files):
+    for at, file in enumerate(files):
         how = {".c": ["avr-gcc", *flags], ".S": ["avr-gcc", *flags, "-x", "assembler-with-cpp"]}.get(
-            it.suffix, ["avr-g++", *plus]
+            file.suffix, ["avr-g++", *plus]
         )
-        compiled(f"{name}.{at}.o", *how, "-c", it)
+        compiled(f"{name}.{at}.o", *how, "-c", file)
     compiled(
         f"{name}.elf",
         "avr-gcc",
@@ -107,7 +107,7 @@ def firmware(kind):
         (sketch if kind.startswith("ArduinoISP") else optiboot)(kind, KINDS[kind][1])
         file = compiled(f"{kind}.all.hex", "avr-objcopy", "-O", "ihex", "-R", ".eeprom", f"{kind}.elf")
     # (simavr's reader takes only records of data)
-    rows = [it for it in file.read_text().split() if it[7:9] in ("00", "01")]
+    rows = [row for row in file.read_text().split() if row[7:9] in ("00", "01")]
     room.put(f"{kind}.hex", "\n".join([*rows, ""]).encode())
     return room.folder / f"{kind}.hex"
 
@@ -153,8 +153,8 @@ class Board:
         self.begun = self.ended = None
         self.lib = ctypes.CDLL(str(library()))
         self.lib.board_run.restype, self.lib.board_run.argtypes = ctypes.c_double, [ctypes.c_double, ctypes.c_uint]
-        for it in ("board_flash", "target_flash", "target_eeprom", "target_fuses"):
-            getattr(self.lib, it).restype = ctypes.POINTER(ctypes.c_uint8)
+        for memory in ("board_flash", "target_flash", "target_eeprom", "target_fuses"):
+            getattr(self.lib, memory).restype = ctypes.POINTER(ctypes.c_uint8)
         flash = flash.ljust(FLASH, b"\xff")
         assert self.lib.board_new(bytes(firmware(kind)), *KINDS[kind], flash) == 0, kind
         if self.is_sketch:
@@ -217,9 +217,9 @@ def serve(caller, programmer):
     frames = Frames()
     with caller, contextlib.suppress(ConnectionError):
         while piece := caller.recv(65_536):
-            for it in filter(is_frame, frames.pieces(piece)):
-                body = programmer.reply(it[5:-1])
-                caller.sendall(frame(it[1], body) if body else b"\0")
+            for request in filter(is_frame, frames.pieces(piece)):
+                body = programmer.reply(request[5:-1])
+                caller.sendall(frame(request[1], body) if body else b"\0")
 
 
 def over(board, words, programmer=None):
@@ -248,11 +248,11 @@ def clean():
         room.put("data.bin", image[:64])
         ended = over(board, ["-p", "m328p", *more, "-U", "flash:w:image.bin:r", "-U", "flash:r:back.bin:r"])
         texts = ["lfuse: 1 bytes {}", "eeprom: 64 bytes {}"] * board.is_sketch + ["flash: 5000 bytes {}"]
-        told = [it.format(what) for it in texts for what in ("written", "verified")]
+        expected = [text.format(what) for text in texts for what in ("written", "verified")]
         front = ["device signature = 1E 95 0F", *["chip erased"] * board.is_sketch]
         found = ended[1].decode().splitlines()
         check_equal(
-            f"{kind}: its status and lines", (ended[0], found[:-2]), (0, lines(*front, *told).decode().splitlines())
+            f"{kind}: its status and lines", (ended[0], found[:-2]), (0, lines(*front, *expected).decode().splitlines())
         )
         flash = board.flash()
         wanted = (image + b"\xff" * FLASH if board.is_sketch else image + b"\xff" * 120 + old[5_120:])[: len(flash)]
@@ -299,7 +299,7 @@ def session(kind, size, words, fates, old=b""):
     flash, pages = board.flash(), -(-size // PAGE) * PAGE
     beside = b"\xff" * FLASH if board.is_sketch else old.ljust(FLASH, b"\xff")
     is_whole = flash[pages:] == beside[pages : len(flash)]
-    return status, flash[:size] == image, is_whole, sum(it.struck for it in fates)
+    return status, flash[:size] == image, is_whole, sum(fate.struck for fate in fates)
 
 
 def apart(work):
@@ -336,12 +336,12 @@ def prepare(kind, size):
 def sessions(what, kind, size, words, fates, old=b""):
     """Runs a session with each of these fates. None may end with status 0 and a wrong image."""
     prepare(kind, size)
-    found = [apart(lambda it=it: session(kind, size, words, it, old)) for it in fates]
-    totals = collections.Counter("none" if it is None else it[:2] for it in found)
-    wrong = [at for at, it in enumerate(found) if it is None or it[0] == 0 and not it[1]]
+    found = [apart(partial(session, kind, size, words, pair, old)) for pair in fates]
+    totals = collections.Counter("none" if outcome is None else outcome[:2] for outcome in found)
+    wrong = [at for at, outcome in enumerate(found) if outcome is None or outcome[0] == 0 and not outcome[1]]
     check(f"{what}: status 0 has the image", not wrong, f"not in sessions {wrong[:20]}: {totals}")
-    check(f"{what}: faults struck", sum(it[3] for it in found if it) > len(found) // 6, str(totals))
-    struck = sum(bool(it and it[3]) for it in found)
+    check(f"{what}: faults struck", sum(outcome[3] for outcome in found if outcome) > len(found) // 6, str(totals))
+    struck = sum(bool(outcome and outcome[3]) for outcome in found)
     print(f"{what}: {len(found)} sessions, {struck} with faults, {dict(totals)}", flush=True)
     return found
 
@@ -349,7 +349,7 @@ def sessions(what, kind, size, words, fates, old=b""):
 def each_byte():
     """One byte on the way to an Uno is lost, doubled or has one bit flipped: each byte of a short run."""
     places = share("each_byte", 12, 172, range(516))
-    fates = [(Fates({it: WHATS[it % len(WHATS)]}), Fates()) for it in places]
+    fates = [(Fates({place: WHATS[place % len(WHATS)]}), Fates()) for place in places]
     sessions("a fault to the board", "optiboot-fast", 300, ["-D"], fates, random.Random(9).randbytes(FLASH))
 
 
@@ -360,7 +360,7 @@ def lossy():
         if kind.startswith("ArduinoISP") and not SKETCH:
             continue
         drawn = share(f"lossy {kind}", 4, 60, range(300))
-        fates = [tuple(Fates(every=2_000, seed=f"{it}{way}") for way in ("up", "down")) for it in drawn]
+        fates = [tuple(Fates(every=2_000, seed=f"{number}{way}") for way in ("up", "down")) for number in drawn]
         sessions(f"losses, {kind}", kind, size, words, fates, random.Random(9).randbytes(FLASH))
 
 
@@ -368,13 +368,22 @@ def damaged_erases():
     """Each bit of a chip erase is flipped on its way to ArduinoISP. Status 0 also means FF in the rest of the flash."""
     prepare("ArduinoISP-fast", 200)
     board, sent = Board("ArduinoISP-fast"), []
-    board.up = lambda held: sent.append((board.sent - len(held), held)) or held
+
+    def note(held):
+        sent.append((board.sent - len(held), held))
+        return held
+
+    board.up = note
     over(board, ["--parts", "tiny.toml", "-p", "tiny", "-U", "flash:w:image200.bin:r"])
     at = next(at for at, held in sent if held[:3] == b"V\xac\x80")
     bits = [(at + place, bit) for place in range(1, 5) for bit in range(8)]
     fates = [(Fates({place: bit}), Fates()) for place, bit in share("damaged_erases", 4, 11, bits)]
     found = sessions("a damaged erase", "ArduinoISP-fast", 200, [], fates, random.Random(9).randbytes(2_048))
-    check("status 0: nothing is left beside the image", not any(it[0] == 0 and not it[2] for it in found), str(found))
+    check(
+        "status 0: nothing is left beside the image",
+        not any(outcome[0] == 0 and not outcome[2] for outcome in found),
+        str(found),
+    )
 
 
 def lost_end():
@@ -390,8 +399,10 @@ def lost_end():
 
     last = apart(received)
     drawn = share("lost_end", 4, 20, [(place, what) for place in (last - 1, last) for what in WHATS])
-    found = sessions("a lost end", "optiboot-fast", size, words, [(Fates(), Fates(dict([it]))) for it in drawn], old)
-    check("a lost end: all end with status 0", all(it[:2] == (0, True) for it in found), str(found))
+    found = sessions(
+        "a lost end", "optiboot-fast", size, words, [(Fates(), Fates(dict([fault]))) for fault in drawn], old
+    )
+    check("a lost end: all end with status 0", all(outcome[:2] == (0, True) for outcome in found), str(found))
 
 
 class Terminal:
@@ -408,7 +419,7 @@ class Terminal:
         self.thread.start()
 
     def change(self, held):
-        return held if serial.speed(self.line)[0] == KINDS[self.kind][1] else bytes(it ^ 0xA5 for it in held)
+        return held if serial.speed(self.line)[0] == KINDS[self.kind][1] else bytes(byte ^ 0xA5 for byte in held)
 
     def live(self):
         was_open, begun = False, time.monotonic() - self.board.time
@@ -475,11 +486,11 @@ def typed():
         if kind == "ArduinoISP" and not SKETCH:
             continue
         at = Terminal(kind, random.Random(9).randbytes(FLASH))
-        status, told = run_script(words.format(at.device).split())
+        status, messages = run_script(words.format(at.device).split())
         board = at.end()
-        check_equal(f"{what}: status", (status, told.splitlines()[-1:]), (0, ["avrstk: done"]))
+        check_equal(f"{what}: status", (status, messages.splitlines()[-1:]), (0, ["avrstk: done"]))
         note = "avrstk-serial: version 1 has no checksums: this run is tested, not proved"
-        check_equal(f"{what}: is not called proved", told.splitlines().count(note), 1)
+        check_equal(f"{what}: is not called proved", messages.splitlines().count(note), 1)
         if words == FUSES_TYPED:
             check_equal(f"{what}: fuses and lock", board.rest()[1], b"\xff\xde\xfd\xff")
             check_equal(f"{what}: flash", board.flash(), b"\xff" * FLASH)
@@ -504,7 +515,7 @@ def avrdude_beside():
         wanted = data[:4] + b"\xff" * 4 + data[4:8] + b"\xff" * 4 + data[8:12]
         check_equal("avrdude, EEPROM over ArduinoISP: the bytes", held[:20], wanted)
         at = Terminal("ArduinoISP", old)
-        status, told = run_script(words.format(at.device).split())
+        status, messages = run_script(words.format(at.device).split())
         held, _ = at.end().rest()
         check_equal("avrstk-serial, EEPROM over ArduinoISP", (status, held[:64]), (0, data))
     at = Terminal("optiboot", old)
@@ -516,7 +527,7 @@ def avrdude_beside():
         "avrdude, eeprom:w at an Uno: its firmware is another", flash[:128] != old[:128], (ran.returncode, ran.stderr)
     )
     at = Terminal("optiboot", old)
-    status, told = run_script(words.format(at.device).split())
+    status, messages = run_script(words.format(at.device).split())
     check_equal("avrstk-serial, eeprom:w at an Uno", (status, at.end().flash()), (1, old[: KINDS["optiboot"][0]]))
 
 
@@ -556,7 +567,7 @@ def measured():
     all runs, and AVRDUDE's; else one."""
     is_full = os.environ.get("FULL") == "1"
     table = (TOP / "docs/BOARDS.md").read_text()
-    rows = [[cell.strip() for cell in it.strip("| ").split("|")] for it in table.splitlines() if it[:1] == "|"]
+    rows = [[cell.strip() for cell in line.strip("| ").split("|")] for line in table.splitlines() if line[:1] == "|"]
     for size in 5_000, 30_000:
         room.put(f"image{size}.bin", random.Random(77).randbytes(size))
     room.put("data.bin", bytes(range(1, 65)))
@@ -568,7 +579,7 @@ def measured():
             found = apart(lambda: run_measured(name, is_avrdude))
             client = "AVRDUDE 7.1" if is_avrdude else "`avrstk-serial`"
             print("|", " | ".join([name, client, *found]), "|", flush=True)
-            row = next((it[2:] for it in rows if it[:2] == [name, client]), ["", "", "0"])
+            row = next((cells[2:] for cells in rows if cells[:2] == [name, client]), ["", "", "0"])
             # (how often AVRDUDE asks for the board depends on the time)
             count = 1 if is_avrdude else 2
             check_equal(f"{name}, {client}", row[:count], list(found[:count]))
@@ -634,11 +645,11 @@ class Leaving(serial.Bootloader):
     def live(self, caller):
         self.address = self.erased = 0
         with caller:
-            for it in frames_of(caller):
-                self.count += it[5] == 0x11
+            for request in frames_of(caller):
+                self.count += request[5] == 0x11
                 if not self.has_left and self.count != 1:
-                    caller.sendall(frame(it[1], it[5:6] + self.reply(it[5], it[6:-1])))
-                self.has_left |= it[5] == 0x11
+                    caller.sendall(frame(request[1], request[5:6] + self.reply(request[5], request[6:-1])))
+                self.has_left |= request[5] == 0x11
 
 
 def lost_end_of_wiring():
@@ -648,9 +659,9 @@ def lost_end_of_wiring():
     at = serial.Board(server=board)
     room.put("image.hex", hex_of([(0, bytes(256))]))
     words = ["-p", "m328p", "-c", "wiring", "-D", "-U", "flash:w:image.hex", "-P", at.device]
-    status, told = run_script(words)
+    status, messages = run_script(words)
     at.end()
-    check_equal("a lost end over -c wiring", (status, told.splitlines()[-1]), (0, "avrstk: done"))
+    check_equal("a lost end over -c wiring", (status, messages.splitlines()[-1]), (0, "avrstk: done"))
     check_equal("LEAVE was repeated, and the image is there", (board.count, board.flash[:256]), (2, bytes(256)))
 
 
@@ -659,9 +670,9 @@ def run_script(words):
     text = STAND_IN.format(lib=str(TOP / "lib/avrstk"), script=str(TOP / "avrstk-serial"), pid=os.getpid())
     room.put("stand-in.py", text.encode())
     command = [sys.executable, "stand-in.py"]
-    with room.start(words, program=command, env=os.environ | {"AVRSTK": str(PROGRAM)}) as it:
-        _, told = it.communicate(timeout=PATIENCE)
-    return it.returncode, told.decode()
+    with room.start(words, program=command, env=os.environ | {"AVRSTK": str(PROGRAM)}) as started:
+        _, messages = started.communicate(timeout=PATIENCE)
+    return started.returncode, messages.decode()
 
 
 def leaves_to_another():
@@ -686,15 +697,15 @@ def leaves_to_another():
     }
     for words, is_left in cases.items():
         how = {"env": os.environ | environment, "program": [sys.executable, room.folder / "avrdude"]}
-        with room.start(words.split(), **how) as it:
-            output, told = it.communicate(timeout=PATIENCE)
+        with room.start(words.split(), **how) as started:
+            output, messages = started.communicate(timeout=PATIENCE)
         check_equal(f"{words}: another program runs", output.decode(), f"other: {words}\n" if is_left else "")
-        check(f"{words}: a line says so", (b"runs in place of avrstk" in told) == is_left, told)
+        check(f"{words}: a line says so", (b"runs in place of avrstk" in messages) == is_left, messages)
     how["env"] = how["env"] | {"AVRSTK_ELSE": "nosuch"}
-    with room.start("-c usbasp -p m328p".split(), **how) as it:
-        _, told = it.communicate(timeout=PATIENCE)
+    with room.start("-c usbasp -p m328p".split(), **how) as started:
+        _, messages = started.communicate(timeout=PATIENCE)
     absent = b"avrstk-serial: AVRSTK_ELSE names no other program here: nosuch\n"
-    check("a program that isn't there", told.startswith(absent) and told.count(b"\n") == 2, told)
+    check("a program that isn't there", messages.startswith(absent) and messages.count(b"\n") == 2, messages)
     (room.folder / "avrdude").unlink()
     shutil.rmtree(folder)
 
@@ -709,8 +720,8 @@ CASES = named(
 def missing():
     """Returns what isn't installed of what all boards need, in words; none if all is."""
     needed = [CORE, Path("/usr/include/simavr/sim_avr.h"), Path("/usr/include/libelf.h")]
-    found = [str(it) for it in needed if not it.exists()]
-    found += [it for it in ("cc", "avr-gcc", "avr-g++", "avr-objcopy") if shutil.which(it) is None]
+    found = [str(path) for path in needed if not path.exists()]
+    found += [tool for tool in ("cc", "avr-gcc", "avr-g++", "avr-objcopy") if shutil.which(tool) is None]
     return " and ".join(found)
 
 

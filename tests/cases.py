@@ -106,8 +106,11 @@ def check(name, good, detail=""):
         passed += 1
     else:
         failed += 1
-        told = name + (f"\n{detail}" if detail else "")
-        print(f"FAILED: {told}", flush=True) if held is None else held.append(told)
+        report = name + (f"\n{detail}" if detail else "")
+        if held is None:
+            print(f"FAILED: {report}", flush=True)
+        else:
+            held.append(report)
         if os.environ.get("FIRST_FAILURE") == "1":
             sys.exit(1)
     return bool(good)
@@ -143,8 +146,8 @@ def wait_until(is_there, pause=0.005):
 def table(name):
     """Returns the rows of tests/tables/NAME.txt, each a list of as many cells."""
     text = (TOP / f"tests/tables/{name}.txt").read_text()
-    rows = [[it.strip() for it in f"{row} ".split(" | ")] for row in text.splitlines() if not row.startswith("#")]
-    assert len({len(it) for it in rows}) == 1, f"tables/{name}.txt is empty, or its rows differ in length"
+    rows = [[cell.strip() for cell in f"{row} ".split(" | ")] for row in text.splitlines() if not row.startswith("#")]
+    assert len({len(row) for row in rows}) == 1, f"tables/{name}.txt is empty, or its rows differ in length"
     return rows
 
 
@@ -154,7 +157,9 @@ def bytes_of(cell):
     def held(part):
         return part[1:-1].encode() if part.startswith("'") else bytes.fromhex(part)
 
-    return b"".join(held(it) * int(times or 1) for it, _, times in (it.partition("*") for it in cell.split("+")))
+    return b"".join(
+        held(part) * int(times or 1) for part, _, times in (part.partition("*") for part in cell.split("+"))
+    )
 
 
 def sampled(what, most, given):
@@ -179,14 +184,14 @@ def own_environment(**more):
 
 def named(*functions):
     """Returns functions by their names."""
-    return {it.__name__: it for it in functions}
+    return {function.__name__: function for function in functions}
 
 
 def chosen(cases):
     """Returns the cases named on the command line. If none is named, returns all, or a share: CASES_SHARE=1/2 takes
     every second case, from the first on."""
     given, (first, step) = sys.argv[1:], map(int, os.environ.get("CASES_SHARE", "1/1").split("/"))
-    return [it for it in cases if it in given] if given else list(cases)[first - 1 :: step]
+    return [name for name in cases if name in given] if given else list(cases)[first - 1 :: step]
 
 
 def run_cases(cases, doc, timed=()):
@@ -195,7 +200,7 @@ def run_cases(cases, doc, timed=()):
     `timed` cases measure time, or wait for a time that the program measures. If one fails and a pause was measured
     meanwhile, it is made again, unless it has itself made runs again."""
     if set(sys.argv[1:]) - set(cases):
-        print(doc.strip(), "", "Cases:", *(f"    {it}" for it in cases), sep="\n")
+        print(doc.strip(), "", "Cases:", *(f"    {name}" for name in cases), sep="\n")
         return 2
     wrong = set()
     for name in chosen(cases):
@@ -230,15 +235,15 @@ def run_timed(name, case):
 
     def attempt():
         global passed, failed, left, held
-        for told in held or []:
-            print(f"no outcome, because a pause was measured: {told}", flush=True)
+        for report in held or []:
+            print(f"no outcome, because a pause was measured: {report}", flush=True)
         (passed, failed, left), held = before, []
         made = again
         return run_case(name, case), again > made
 
     is_good, _ = attempts(attempt, any)[-1]
-    for told in held:
-        print(f"FAILED: {told}", flush=True)
+    for report in held:
+        print(f"FAILED: {report}", flush=True)
     held = None
     return is_good
 

@@ -33,7 +33,7 @@ from records import hex_of
 
 room = Room()
 FOLDER = os.path.realpath(room.folder)
-CHIP, LOCK_FILE, NEW_FILE = (room.folder / it for it in ["chip.bin", "chip.bin.avrstk-lock", "chip.bin.avrstk-new"])
+CHIP, LOCK_FILE, NEW_FILE = (room.folder / name for name in ["chip.bin", "chip.bin.avrstk-lock", "chip.bin.avrstk-new"])
 
 DONE = (0, lines("done"))
 IN_USE = lines("error: chip.bin: in use by another run")
@@ -68,7 +68,7 @@ def writes_fuse(value, name="chip.bin"):
 
 def beside():
     """Returns the names of the files that runs make beside a chip."""
-    return sorted(it.name for it in room.folder.iterdir() if ".avrstk-" in it.name)
+    return sorted(file.name for file in room.folder.iterdir() if ".avrstk-" in file.name)
 
 
 def is_good(what, found, chip=None):
@@ -98,7 +98,7 @@ def traced(prepare, words, how=None, meanwhile=None, when=1):
 
 def number_of(prepare, words, name, text):
     """Returns which call of this name the first one is whose words have this text, in a run of its own."""
-    return next(it.number for it in traced(prepare, words)[2] if it.name == name and text in it.words)
+    return next(call.number for call in traced(prepare, words)[2] if call.name == name and text in call.words)
 
 
 def is_safe(what, old, status, calls):
@@ -109,7 +109,7 @@ def is_safe(what, old, status, calls):
     check(
         f"{what}: each power cut leaves the old chip or the new one",
         seen <= {old, new},
-        [len(it or b"") for it in seen],
+        [len(chip or b"") for chip in seen],
     )
     check(
         f"{what}: status 0 if the new chip is on the disk, else 1", status == 1 or (status, last) == (0, {new}), status
@@ -124,7 +124,7 @@ def each_power_cut():
         new, what = with_fuse(old, 0x62), f"chip {bool(old)}"
         status, _, calls = traced(prepare, writes_fuse(0x62))
         check_equal(f"{what}: the run", status, 0)
-        synced = [it.words.split("<")[1].split(">")[0] for it in calls if it.name == "fsync"]
+        synced = [call.words.split("<")[1].split(">")[0] for call in calls if call.name == "fsync"]
         new_or_chip = os.path.join(FOLDER, "chip.bin" if old else NEW_FILE.name)
         check_equal(f"{what}: what is synced", synced, [os.path.join(FOLDER, NEW_FILE.name), FOLDER, new_or_chip])
         is_safe(what, old, status, calls)
@@ -134,16 +134,19 @@ def each_power_cut():
         )
         check("without the folder's sync the new chip may be lost", old in power_cuts(calls, old, FOLDER)[1])
         # (the last three are those of a file system without hard links, which does without)
-        errors = [it for it in itertools.product(calls, ["EIO", "ENOENT", "EMFILE"])]
-        errors += [it for it in itertools.product(calls, ["EPERM", "EOPNOTSUPP", "EMLINK"]) if it[0].name == "link"]
-        kept = [it for it in errors if it[0].name in ["link", "rename", "fsync"]]
-        others = [it for it in errors if it not in kept]
+        errors = list(itertools.product(calls, ["EIO", "ENOENT", "EMFILE"]))
+        errors += [
+            pair for pair in itertools.product(calls, ["EPERM", "EOPNOTSUPP", "EMLINK"]) if pair[0].name == "link"
+        ]
+        kept = [pair for pair in errors if pair[0].name in ["link", "rename", "fsync"]]
+        others = [pair for pair in errors if pair not in kept]
         for call, error in kept + sampled(f"{what}: other failing calls", 20, others):
             status, _, failed = traced(prepare, writes_fuse(0x62), f"{call.name}:error={error}:when={call.number}")
             is_safe(f"{what}: {error} at {call.name} {call.words[:80]}", old, status, failed)
-            stays = status == 1 and call.name in ["link", "rename"] and call.words.endswith('"chip.bin"')
-            check(f"{error} at {call.name}: the new file stays", room.read(NEW_FILE.name) == new) if stays else None
-            check_equal(f"{error} at link: the run", status, 0) if error in ["EPERM", "EOPNOTSUPP", "EMLINK"] else None
+            if status == 1 and call.name in ["link", "rename"] and call.words.endswith('"chip.bin"'):
+                check(f"{error} at {call.name}: the new file stays", room.read(NEW_FILE.name) == new)
+            if error in ["EPERM", "EOPNOTSUPP", "EMLINK"]:
+                check_equal(f"{error} at link: the run", status, 0)
 
 
 def ended_anywhere():
@@ -159,7 +162,8 @@ def ended_anywhere():
                 -signal.SIGKILL,
             )
             left.add(room.read("chip.bin"))
-            check_equal(f"{what}: permissions", mode_of(CHIP), 0o640) if old else None
+            if old:
+                check_equal(f"{what}: permissions", mode_of(CHIP), 0o640)
             is_good(f"{what}: the next run", room.run(writes_fuse(0x63)), with_fuse(old, 0x63))
         check(f"chip {bool(old)}: the old one and the new one are seen", left == {old, with_fuse(old, 0x62)}, len(left))
 
@@ -175,16 +179,16 @@ def others_meanwhile():
 
     def look(started):
         (run,) = Path(f"/proc/{started.pid}/task/{started.pid}/children").read_text().split()
-        opened.extend(os.readlink(it) for it in Path(f"/proc/{run}/fd").iterdir())
+        opened.extend(os.readlink(link) for link in Path(f"/proc/{run}/fd").iterdir())
 
     for what, prepare, call, act, chip, left in [
-        ("another chip", fresh_room, "fsync", lambda it: put(CHIP), b"mine", []),
-        ("a copy into the chip", fresh_room, "fsync", lambda it: CHIP.write_bytes(FRESH), FRESH, []),
-        ("no chip", fresh_room, "fsync", lambda it: CHIP.unlink(), None, []),
-        ("another new file", fresh_room, "fsync", lambda it: put(NEW_FILE), OLD, []),
-        ("no new file", fresh_room, "fsync", lambda it: NEW_FILE.unlink(), OLD, []),
-        ("another chip, before the last look", fresh_room, "rename", lambda it: put(CHIP), b"mine", []),
-        ("a chip where none was", room.clear, "link", lambda it: put(CHIP), b"mine", [NEW_FILE.name]),
+        ("another chip", fresh_room, "fsync", lambda _: put(CHIP), b"mine", []),
+        ("a copy into the chip", fresh_room, "fsync", lambda _: CHIP.write_bytes(FRESH), FRESH, []),
+        ("no chip", fresh_room, "fsync", lambda _: CHIP.unlink(), None, []),
+        ("another new file", fresh_room, "fsync", lambda _: put(NEW_FILE), OLD, []),
+        ("no new file", fresh_room, "fsync", lambda _: NEW_FILE.unlink(), OLD, []),
+        ("another chip, before the last look", fresh_room, "rename", lambda _: put(CHIP), b"mine", []),
+        ("a chip where none was", room.clear, "link", lambda _: put(CHIP), b"mine", [NEW_FILE.name]),
     ]:
         status = traced(prepare, writes_fuse(0x11), call, act)[0]
         check_equal(f"{what}: the run and what is there", (status, room.read("chip.bin"), beside()), (1, chip, left))
@@ -226,8 +230,8 @@ def any_call_fails():
             counts[name] += 1
             if (calls or '"chip.bin"' in given) and name not in ["execve", "mmap"]:
                 calls.append((name, counts[name], given[:80]))
-        tried = [(it, "EIO", later) for it in calls for later in ["", "+"]]
-        tried += itertools.product([it for it in calls if it[0] in CHANGES], OF_DISKS, ["", "+"])
+        tried = [(call, "EIO", later) for call in calls for later in ["", "+"]]
+        tried += itertools.product([call for call in calls if call[0] in CHANGES], OF_DISKS, ["", "+"])
         for (name, number, given), error, later in sampled(f"chip {bool(old)}: calls that fail", 20, tried):
             what = f"chip {bool(old)}: {error} at {name} {number}{later}, {given}"
             status = traced(prepare, words, f"{name}:error={error}:when={number}{later}")[0]
@@ -236,7 +240,8 @@ def any_call_fails():
             is_whole = chip in [old, old or FRESH, new]
             is_right = (status, is_whole) == (1, True) or (status, chip, is_read) == (0, new, True)
             check(f"{what}: the chip and the file", is_right, (status, len(chip or b""), is_read))
-            check_equal(f"{what}: the status", status, 1) if name == "fsync" else None
+            if name == "fsync":
+                check_equal(f"{what}: the status", status, 1)
             is_good(f"{what}: the next run", room.run(writes_fuse(0x63)), with_fuse(chip, 0x63))
 
 
@@ -255,9 +260,9 @@ def forgiven():
         (room.clear, "link", "avrstk-new", 0, may_not | {"EMLINK", "ENOSYS", "EOPNOTSUPP"}),
     ]:
         # (a folder's descriptor is in the result of its opening, and so is not among the words)
-        found = [it for it in traced(prepare, writes_fuse(0x62))[2] if it.name == name]
-        found = [it for it in found if text in it.words or (name == "openat" and '"."' in it.words)]
-        all_tried += [(prepare, found[which], it, it in passed) for it in errors]
+        found = [call for call in traced(prepare, writes_fuse(0x62))[2] if call.name == name]
+        found = [call for call in found if text in call.words or (name == "openat" and '"."' in call.words)]
+        all_tried += [(prepare, found[which], error, error in passed) for error in errors]
     # (an opening or a sync that a signal interrupts is made again)
     for prepare, call, error, passes in sampled("errors of calls", 40, all_tried):
         status = traced(prepare, writes_fuse(0x62), f"{call.name}:error={error}:when={call.number}")[0]
@@ -299,7 +304,8 @@ def whose_lock():
         status, messages, _ = traced(prepare, words, call, act, when)
         last = messages.splitlines(True)[-1] if wanted[1] else None
         check_equal(f"{what}: the run", (status, last), wanted)
-        check_equal(f"{what}: what a link leads to", room.read("victim"), b"mine") if what == "a link" else None
+        if what == "a link":
+            check_equal(f"{what}: what a link leads to", room.read("victim"), b"mine")
         check(f"{what}: the chip is whole", len(room.read("chip.bin")) == CHIP_FILE)
 
 
@@ -323,13 +329,13 @@ def held_by_a_run():
         fresh_room()
         (room.folder / "link.bin").symlink_to("chip.bin")
         (room.folder / "far.bin").symlink_to(room.folder / "link.bin")
-        told = (1, b"", lines(f"error: {other}: in use by another run"))
+        refused = (1, b"", lines(f"error: {other}: in use by another run"))
         with Server(room, other) as server, waiting(["-U", "lfuse:w:0x11:m"], name):
-            check_equal(f"{name}, {other}: a run", room.run(writes_fuse(0x22, other)), told)
-            check_equal(f"{name}, {other}: a server", Server(room, other, waits=False).end(), told)
+            check_equal(f"{name}, {other}: a run", room.run(writes_fuse(0x22, other)), refused)
+            check_equal(f"{name}, {other}: a server", Server(room, other, waits=False).end(), refused)
             with server.call() as caller:
                 check_equal(f"{name}, {other}: what a caller receives", caller.recv(1), b"")
-            check_equal(f"{name}, {other}: the server that was there", server.end(), told)
+            check_equal(f"{name}, {other}: the server that was there", server.end(), refused)
         check(f"{name}: it writes the chip", room.read("chip.bin") == with_fuse(OLD, 0x11))
 
 
@@ -365,22 +371,22 @@ def what_is_refused():
     link to no file or to itself, a pipe, a device, a folder, a name that is too long, and one in a folder that isn't
     there. So is a chip whose lock file isn't regular."""
     for name, make in [
-        ("link.bin", lambda it: it.symlink_to("chip.bin")),
-        ("loop.bin", lambda it: it.symlink_to("loop.bin")),
+        ("link.bin", lambda path: path.symlink_to("chip.bin")),
+        ("loop.bin", lambda path: path.symlink_to("loop.bin")),
         ("pipe", os.mkfifo),
-        ("null", lambda it: it.symlink_to("/dev/null")),
-        (os.path.basename(FOLDER), lambda it: it.symlink_to(".")),
-        ("nowhere/chip.bin", lambda it: None),
-        ("c" * 244, lambda it: None),
-        ("chip.bin", lambda it: os.mkfifo(LOCK_FILE)),
-        ("chip.bin", lambda it: LOCK_FILE.symlink_to("chip.bin")),
+        ("null", lambda path: path.symlink_to("/dev/null")),
+        (os.path.basename(FOLDER), lambda path: path.symlink_to(".")),
+        ("nowhere/chip.bin", lambda path: None),
+        ("c" * 244, lambda path: None),
+        ("chip.bin", lambda path: os.mkfifo(LOCK_FILE)),
+        ("chip.bin", lambda path: LOCK_FILE.symlink_to("chip.bin")),
     ]:
         room.clear()
         make(room.folder / name)
         before = beside()
-        told = (1, b"", lines(f"error: {name}: cannot be written"))
-        check_equal(f"{name}: a run", room.run(writes_fuse(0x62, name)), told)
-        check_equal(f"{name}: --serve", Server(room, name, waits=False).end(), told)
+        refused = (1, b"", lines(f"error: {name}: cannot be written"))
+        check_equal(f"{name}: a run", room.run(writes_fuse(0x62, name)), refused)
+        check_equal(f"{name}: --serve", Server(room, name, waits=False).end(), refused)
         check_equal(f"{name}: no file is made", (room.read("chip.bin"), beside()), (None, before))
 
 
@@ -396,7 +402,8 @@ def read_into_the_chip():
             (room.folder / "caf\udce9").symlink_to(".")
             (room.folder / "odd.bin").symlink_to("caf\udce9/chip.bin")
             (room.folder / "link.bin").symlink_to("chip.bin")
-            (room.folder / "name.bin").hardlink_to(CHIP) if old else None
+            if old:
+                (room.folder / "name.bin").hardlink_to(CHIP)
             found = room.run([*first, "-U", f"eeprom:r:{name}:r"])
             check_equal(f"{name}: the run", found, (1, b"", lines(f"error: {name}: cannot be created")))
             check(f"{name}: the chip is as it was", (room.read("chip.bin"), beside()) == (old, []))
@@ -415,8 +422,8 @@ def read_into_the_chip():
                 check(f"{name} to {its}: it stays", room.read(its) == b"mine")
     for its in ["chip.bin", LOCK_FILE.name, NEW_FILE.name]:
         fresh_room()
-        told = (1, lines("error: late: cannot be created"))
-        with waiting([], last=told, then=["-U", "lfuse:r:late:h"]):
+        refused = (1, lines("error: late: cannot be created"))
+        with waiting([], last=refused, then=["-U", "lfuse:r:late:h"]):
             (room.folder / "late").symlink_to(its)
         check(f"a link to {its}, made late: the chip is whole", (room.read("chip.bin"), beside()) == (OLD, []))
     with tempfile.TemporaryDirectory() as other:
@@ -425,7 +432,7 @@ def read_into_the_chip():
         is_good(
             "into other files", room.run([*EMULATED, "-U", f"eeprom:r:{other}/chip.bin:r", "-U", "eeprom:r:odd.bin:r"])
         )
-        check_equal("what was read", [it.read_bytes() for it in Path(other).iterdir()], [OLD[EEPROM:LFUSE]] * 2)
+        check_equal("what was read", [file.read_bytes() for file in Path(other).iterdir()], [OLD[EEPROM:LFUSE]] * 2)
 
 
 def a_full_disk():
@@ -453,10 +460,10 @@ def mounted():
         if not shutil.which("strace"):
             return leave_out("calls on a chip that is mounted", "strace is not installed")
         status, _, calls = traced(lambda: None, writes_fuse(0x63))
-        over = next(at for at, it in enumerate(calls) if it.name == "openat" and "O_TRUNC" in it.words)
-        names = [it.name for it in calls[over:] if it.name in ["write", "fsync", "unlink"]]
+        over = next(at for at, call in enumerate(calls) if call.name == "openat" and "O_TRUNC" in call.words)
+        names = [call.name for call in calls[over:] if call.name in ["write", "fsync", "unlink"]]
         check_equal("what is done in place", (status, names), (0, ["write", "fsync", "unlink", "unlink"]))
-        write = next(it for it in calls[over:] if it.name == "write")
+        write = next(call for call in calls[over:] if call.name == "write")
         status = traced(lambda: None, writes_fuse(0x64), f"write:error=EIO:when={write.number}")[0]
         check_equal(
             "a write in place that fails: the run and the mounted file", (status, room.read("real.bin")), (1, b"")
@@ -490,8 +497,8 @@ def what_stays():
         (0o444, 0o755, None, NOBODY, NOBODY),
         (0o644, 0o555, None, NOBODY, NOBODY),
         (0o644, 0o333, 0o644, NOBODY, NOBODY),
-        *((it, 0o755, it & 0o777, NOBODY, NOBODY) for it in [0o640, 0o4751, 0o2750, 0o1600, 0o6777]),
-        *((it, 0o755, kept, 0, NOBODY) for it, kept in [(0o666, 0o666), (0o664, 0o644), (0o660, 0o600)]),
+        *((mode, 0o755, mode & 0o777, NOBODY, NOBODY) for mode in [0o640, 0o4751, 0o2750, 0o1600, 0o6777]),
+        *((mode, 0o755, kept, 0, NOBODY) for mode, kept in [(0o666, 0o666), (0o664, 0o644), (0o660, 0o600)]),
         (0o640, 0o755, 0o640, NOBODY - 1, 0),
     ][: 12 if IS_ROOT else 8]:
         fresh_room()
@@ -500,9 +507,13 @@ def what_stays():
         link.symlink_to("chip.bin")
         if folder == 0o755:
             LOCK_FILE.touch()
-            NEW_FILE.symlink_to("victim") if mode == kept else room.put(NEW_FILE.name, bytes(100_000))
+            if mode == kept:
+                NEW_FILE.symlink_to("victim")
+            else:
+                room.put(NEW_FILE.name, bytes(100_000))
         with as_nobody() as how:
-            os.chown(CHIP, NOBODY, group) if IS_ROOT else None
+            if IS_ROOT:
+                os.chown(CHIP, NOBODY, group)
             CHIP.chmod(mode)
             room.folder.chmod(folder)
             found = end_of(room.start(writes_fuse(0x62, "link.bin"), **(how if who else {})))
@@ -527,8 +538,8 @@ def what_stays():
 
 
 # opens the chip and the new file beside it, for as long as there is no file `stop`
-WATCH = """echo ready; while [ ! -e stop ]; do for it in chip.bin *.avrstk-new; do
-if true <"$it"; then echo "$it"; fi; done; done 2>/dev/null"""
+WATCH = """echo ready; while [ ! -e stop ]; do for file in chip.bin *.avrstk-new; do
+if true <"$file"; then echo "$file"; fi; done; done 2>/dev/null"""
 
 
 def another_user():
@@ -575,7 +586,7 @@ def stormy():
             chance.choice(list(live)).kill()
         if CHIP.stat().st_size != CHIP_FILE:
             odd.add("the chip isn't whole")
-        for run in [it for it in live if it.poll() is not None]:
+        for run in [started for started in live if started.poll() is not None]:
             place, (status, _, messages) = live.pop(run), end_of(run)
             if status == 0:
                 written.add(place)
@@ -583,7 +594,7 @@ def stormy():
                 odd.add((status, messages))
     chip = room.read("chip.bin")
     check("runs succeed", written)
-    check_equal("lost", [it for it in sorted(written) if chip[EEPROM + it] != it % 255], [])
+    check_equal("lost", [place for place in sorted(written) if chip[EEPROM + place] != place % 255], [])
     check_equal("what runs shouldn't do", odd, set())
 
 

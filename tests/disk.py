@@ -46,7 +46,7 @@ class File:
 def named(names, changes):
     """Returns the names after these changes: each names a file anew, or removes a name."""
     for name, file in changes:
-        names = {it: other for it, other in names.items() if it != name} | ({name: file} if file else {})
+        names = {kept: other for kept, other in names.items() if kept != name} | ({name: file} if file else {})
     return names
 
 
@@ -66,7 +66,7 @@ class Disk:
     def replay(self, call):
         """Does what a call did."""
         path = (re.findall(r"^\d+<(.*?)>", call.words) or [None])[0]
-        names = [os.path.basename(it) for it in re.findall(r'"(.*?)"', call.words)]
+        names = [os.path.basename(quoted) for quoted in re.findall(r'"(.*?)"', call.words)]
         file = self.names.get(os.path.basename(path) if path else names[0])
         if call.result < 0 or call.name in HARMLESS:
             return
@@ -85,7 +85,7 @@ class Disk:
         elif call.name == "fsync":
             self.synced, self.changes = self.names, []
         elif call.name in ["link", "rename", "unlink"]:
-            self.name(*[(names[0], None)] * (call.name != "link"), *((it, file) for it in names[1:]))
+            self.name(*[(names[0], None)] * (call.name != "link"), *((other, file) for other in names[1:]))
         else:
             raise AssertionError(f"a call that isn't known: {call}")
 
@@ -93,7 +93,7 @@ class Disk:
         """Returns each chip that a power cut may leave; None for no file."""
         all_kept = itertools.product([False, True], repeat=len(self.changes))
         changes = [itertools.chain(*itertools.compress(self.changes, kept)) for kept in all_kept]
-        files = {named(self.synced, it).get("chip.bin") for it in changes}
+        files = {named(self.synced, change).get("chip.bin") for change in changes}
         return {chip for file in files for chip in (file.left() if file else [None])}
 
 

@@ -39,40 +39,40 @@ def what_check_quotes():
     module, law = re.search(r"^    \$ rt check --only (\w+)::(\w+)$", page, re.M).groups()
     source = text(f"crates/avr_laws/src/{module}.rt")
     check("the law", re.search(rf"^pub fn {law}\b", source, re.M) and f"avr_laws::{module}::{law}: proved" in page, law)
-    files = {it.rstrip(".") for it in re.findall(r"\bcrates/\w+(?:/[\w.-]+)*", page)}
+    files = {path.rstrip(".") for path in re.findall(r"\bcrates/\w+(?:/[\w.-]+)*", page)}
     for file in sorted(files):
         check(f"there is {file}", (TOP / file).exists())
     tried = re.search(r"^    \$ rt must-fail (\w+)$", page, re.M)[1]
     check("the mutant is of that crate", f"crates/{tried}/must-fail/any_sequence.edit" in files, files)
-    quoted = [it for it in page.splitlines() if it.startswith("    ") and not it.startswith(("    $", "    fn "))]
+    quoted = [row for row in page.splitlines() if row.startswith("    ") and not row.startswith(("    $", "    fn "))]
     # (the drawing quotes nothing)
     drawn = page[page.index("    the chip holds your images") : page.index("    your board")] + "    your board"
-    quoted = [it for it in quoted if it not in drawn.splitlines()]
+    quoted = [row for row in quoted if row not in drawn.splitlines()]
     crates = [
-        it
+        path
         for name in ("stk_host", "avr_image")
-        for it in (TOP / "crates" / name).rglob("*")
-        if it.suffix in (".rt", ".antt", ".edit")
+        for path in (TOP / "crates" / name).rglob("*")
+        if path.suffix in (".rt", ".antt", ".edit")
     ]
-    known = {words(row) for it in crates for row in it.read_text().splitlines()} | {words(PROVED)}
+    known = {words(row) for path in crates for row in path.read_text().splitlines()} | {words(PROVED)}
     for row in quoted:
         check(f"is in the sources: {row.strip()}", words(row) in known)
     # what the tables of the claim read out, but for what `..` stands for
     laws = [
-        it
+        path
         for name in ("avr_laws", "avr_tool")
-        for it in (TOP / "crates" / name).glob("s*/*")
-        if it.suffix in (".rt", ".antt")
+        for path in (TOP / "crates" / name).glob("s*/*")
+        if path.suffix in (".rt", ".antt")
     ]
-    stated = words(" ".join(it.read_text() for it in laws))
+    stated = words(" ".join(path.read_text() for path in laws))
     claim = page[page.index("\n## The claim") : page.index("\n## Prove it")]
     cells = [
-        it
+        cell
         for row in re.findall(r"^\| (.*?) \| ", claim, re.M)
-        for it in re.findall("`([^`]*)`", row)
-        if not it.endswith(":")
+        for cell in re.findall("`([^`]*)`", row)
+        if not cell.endswith(":")
     ]
-    for part in (part for it in cells for part in it.split("..")):
+    for part in (part for cell in cells for part in cell.split("..")):
         check(f"is in the sources: {part}", words(part) in stated)
     check("quotes something", len(quoted) > 8 and len(cells) > 20, (quoted, cells))
 
@@ -109,13 +109,17 @@ def the_conditions():
             or page.name in ("PROOFS.md", "TROUBLESHOOTING.md", "WHY.md")
             or page == TOP / "README.md"
         ):
-            check_equal(f"{page.name} has all conditions", [it for it in CONDITIONS if it.lower() not in held], [])
+            check_equal(
+                f"{page.name} has all conditions",
+                [condition for condition in CONDITIONS if condition.lower() not in held],
+                [],
+            )
 
 
 def files_of_recipes():
     """Most files in CONTRIBUTING's table of changes exist, and those of crates in the crate named before them."""
     rows = re.search(r"^\| Change \| Files \|.*?\n\n", text("CONTRIBUTING.md"), re.M | re.S)[0]
-    crates = {it.name for it in (TOP / "crates").iterdir()}
+    crates = {folder.name for folder in (TOP / "crates").iterdir()}
     crate = None
     for word in re.findall(r"[\w/.]*\w", rows):
         crate = word if word in crates else crate
@@ -135,7 +139,7 @@ def the_logic():
     if not shutil.which("rt"):
         return leave_out("the sum of the logic", "rt is not installed")
     ran = subprocess.run(["rt", "version"], capture_output=True, text=True)
-    for page in ("README.md", *(f"docs/{it.name}" for it in sorted(TOP.glob("docs/*.md")))):
+    for page in ("README.md", *(f"docs/{file.name}" for file in sorted(TOP.glob("docs/*.md")))):
         sums = set(re.findall(r"logic\s+([0-9a-f]{16})", text(page)))
         if sums or page in ("README.md", "docs/CHECK.md"):
             check(f"the logic that {page} names", sums and sums <= set(ran.stdout.split()), (sums, ran.stdout))
@@ -154,8 +158,8 @@ def bare(written):
 
 def worked_rows():
     """Each worked row that was set before the code has a test, and the test's file has the row's bytes and lines."""
-    rows = [it.split(" | ", 3) for it in text("tests/tables/rows.txt").splitlines() if not it.startswith("#")]
-    check_equal("worked rows", len({it[0] for it in rows}), ROWS)
+    rows = [row.split(" | ", 3) for row in text("tests/tables/rows.txt").splitlines() if not row.startswith("#")]
+    check_equal("worked rows", len({row[0] for row in rows}), ROWS)
     for name, _, file, held in rows:
         known = bare(text(file))
         for part in held.split(" ; "):

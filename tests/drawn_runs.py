@@ -47,8 +47,8 @@ eesave_bit = 3
 
 # what may become of a command and its reply; over standard streams there are no silences
 SILENT = ("lose", "lose reply", "late")
-HEARD = ("refuse", "spoil", "noise", "babble", "status", "last", "other", "short", "long", "number", "twice", "end")
-NOISE = [bytes.fromhex(it) for it in ["0700", "1B", "1B1B1B", "1B0100000E", "1B0501140E", "1B0100010D0117"]]
+REPLIED = ("refuse", "spoil", "noise", "babble", "status", "last", "other", "short", "long", "number", "twice", "end")
+NOISE = [bytes.fromhex(digits) for digits in ["0700", "1B", "1B1B1B", "1B0100000E", "1B0501140E", "1B0100010D0117"]]
 
 
 class Link:
@@ -117,8 +117,8 @@ class Double(Peer):
         # the pauses before the last reply was sent: the next frame may be there as soon as that is sent
         before = pauses.so_far()
         try:
-            for it in frames_of(caller):
-                reply, now = self.link.replies(it), pauses.so_far()
+            for request in frames_of(caller):
+                reply, now = self.link.replies(request), pauses.so_far()
                 caller.sendall(reply)
                 if pauses.so_far() > before:
                     self.late.add(len(self.link.sent))
@@ -147,25 +147,29 @@ def srec_file(image, draw):
     """Returns an S-record file with this image."""
     kind = draw.choice([1, 2, 3] if max(image, default=0) < 65_536 else [2, 3])
     rows = [bytes([0, 3, 0, 0])] if draw.random() < 0.3 else []
-    held = [(at + it, part[it : it + 20]) for at, part in runs_of(image, draw) for it in range(0, len(part), 20)]
+    held = [
+        (at + offset, part[offset : offset + 20])
+        for at, part in runs_of(image, draw)
+        for offset in range(0, len(part), 20)
+    ]
     for at, part in held:
         rows.append(bytes([kind, len(part) + kind + 2]) + at.to_bytes(kind + 1, "big") + part)
     count = len(held) + (draw.random() < 0.1)
     rows += [bytes([5, 3]) + count.to_bytes(2, "big")] if draw.random() < 0.4 else []
     rows.append(bytes([10 - kind, kind + 2]) + bytes(kind + 1))
-    return "".join(f"S{it[0]}{it[1:].hex().upper()}{~sum(it[1:]) & 255:02X}\n" for it in rows).encode()
+    return "".join(f"S{row[0]}{row[1:].hex().upper()}{~sum(row[1:]) & 255:02X}\n" for row in rows).encode()
 
 
 def segment_file(image):
     """Returns an Intel HEX file with segments. Above 64 KiB the address wraps inside of many records."""
     rows = []
     for at, part in runs_of(image):
-        for it in range(0, len(part), 16):
-            data, before = bytes(part[it : it + 16]), max(0, at + it - 0xFFF0) // 16
-            segment = before or (at + it) // 16 & 0xF000
+        for offset in range(0, len(part), 16):
+            data, before = bytes(part[offset : offset + 16]), max(0, at + offset - 0xFFF0) // 16
+            segment = before or (at + offset) // 16 & 0xF000
             rows += [bytes([2, 0, 0, 2]) + segment.to_bytes(2, "big")]
-            rows += [bytes([len(data)]) + (at + it - segment * 16 & 0xFFFF).to_bytes(2, "big") + b"\x00" + data]
-    return "".join(f":{(it + bytes([-sum(it) & 255])).hex()}\n" for it in [*rows, bytes([0, 0, 0, 1])]).encode()
+            rows += [bytes([len(data)]) + (at + offset - segment * 16 & 0xFFFF).to_bytes(2, "big") + b"\x00" + data]
+    return "".join(f":{(row + bytes([-sum(row) & 255])).hex()}\n" for row in [*rows, bytes([0, 0, 0, 1])]).encode()
 
 
 def damaged(text, draw):
@@ -174,8 +178,8 @@ def damaged(text, draw):
     digit = draw.choice([b"0", b"F", b"a", b"G", b":", b"S", b" ", b"\n", b"7", b"\t\n"])
     row = draw.randrange(len(rows) + 1)
     faults = [text[:at] + digit + text[at + 1 :], text[:at] + text[at + 1 :], text[:at] + digit + text[at:], text[:at]]
-    moved = [b"".join(it) for it in (rows[:-1], rows[:row] + rows[row + 1 :], rows[:row] + rows[row:][::-1])]
-    ends = [text.replace(b"\n", it) for it in (b"\r\n", b" \t\n\n", b" " * 560 + b"\n", b" " * 600 + b"\n")]
+    moved = [b"".join(order) for order in (rows[:-1], rows[:row] + rows[row + 1 :], rows[:row] + rows[row:][::-1])]
+    ends = [text.replace(b"\n", ending) for ending in (b"\r\n", b" \t\n\n", b" " * 560 + b"\n", b" " * 600 + b"\n")]
     return draw.choice([*faults, *faults[:2], *moved, *ends, text.lower(), text + b"rubbish\n"])
 
 
@@ -183,13 +187,13 @@ def image_file(draw, size):
     """Returns a format, and a file to write."""
     image = image_in(draw, size)
     if draw.random() < 0.1:
-        image = {at + draw.choice([size - 1, size, 65_536]): it for at, it in image.items()}
+        image = {at + draw.choice([size - 1, size, 65_536]): byte for at, byte in image.items()}
     kind = draw.choice("iisrw" + "wwww" * (size > 65_536))
     if kind == "r":
         at = draw.choice([0, 1, 2, size - 1, size, size + 1, draw.randrange(size)]) % 5000
         text = draw.choice([b"", b"", b"\x7fELF", b":0400000001", b" :0"]) + bytes(draw.choices(range(256), k=at))
     else:
-        runs = [(at, bytes(it)) for at, it in runs_of(image)]
+        runs = [(at, bytes(part)) for at, part in runs_of(image)]
         files = {"i": lambda: hex_of(runs, draw.choice([1, 16, 32, 255])), "w": lambda: segment_file(image)}
         text = files.get(kind, lambda: srec_file(image, draw))()
         text = damaged(text, draw) if draw.random() < 0.25 else text
@@ -202,7 +206,9 @@ def values(draw, size):
     odd = ["256", "08", "0x", "-1", "0x100", "twelve", "0b2", "+1", "1_0", "0o17", "4294967297"]
     taken = draw.choices(good, k=draw.choice([1, 1, 1, 1, min(3, size), 2]))
     taken += [draw.choice(odd)] * (draw.random() < 0.05)
-    front, between, end = (draw.choice(it) for it in (["", "", ",", " "], [",", " ", ", ", "\t"], ["", "", ","]))
+    front, between, end = (
+        draw.choice(choices) for choices in (["", "", ",", " "], [",", " ", ", ", "\t"], ["", "", ","])
+    )
     return front + between.join(taken) + end
 
 
@@ -235,27 +241,27 @@ def part_file(draw):
     odd = ["= =", "flash_size = 1", "flash_size = 262145", "flash_page = 3", "eeprom_page = 512", "eesave_bit = 8"]
     odd += ['signature = "1E"', "own = 5", "eeprom_size = 95"]
     rows[at : at + (draw.random() < 0.7)] = draw.choice([[], [draw.choice(odd)], [rows[at]]])
-    return "".join(f"{it}\n" for it in (rows if draw.random() < 0.2 else PART_FILE.splitlines()))
+    return "".join(f"{row}\n" for row in (rows if draw.random() < 0.2 else PART_FILE.splitlines()))
 
 
 def chip_file(draw, part):
     """Returns a chip, or nothing for a new one."""
     length = part.flash_size + part.eeprom_size
     chip = bytearray(b"\xff" * length)
-    for at, it in {**image_in(draw, length), **image_in(draw, length)}.items():
-        chip[at] = it
+    for at, byte in {**image_in(draw, length), **image_in(draw, length)}.items():
+        chip[at] = byte
     fuses = bytes(draw.choice([0xFF, 0xD9, 0xD1, 0x62, draw.randrange(256)]) for _ in range(3))
     return draw.choice([None, *[bytes(chip) + fuses + draw.choice([b"\xff"] * 3 + [b"\xfe", b"\xfc"])] * 3])
 
 
 def words_of(draw, part, port, updates):
     """Returns a command line."""
-    asked = [["-p", part.id]] * (draw.random() < 0.99) + [["-P", port], *(["-U", it] for it in updates)]
+    asked = [["-p", part.id]] * (draw.random() < 0.99) + [["-P", port], *(["-U", text] for text in updates)]
     if part is OWN or draw.random() < 0.1:
         asked.append(["--parts", "p.toml"])
-    asked += [["-" + it] for it in "eDVFAnqv" if draw.random() < (0.15 if it in "nqv" else 0.3)]
+    asked += [["-" + letter] for letter in "eDVFAnqv" if draw.random() < (0.15 if letter in "nqv" else 0.3)]
     more = [["-q"], ["-c", "stk500v2"], ["-b", "115200"], ["-P", port], ["-ev"], ["-p", part.id]]
-    asked += [it for it in more if draw.random() < 0.06]
+    asked += [option for option in more if draw.random() < 0.06]
     if draw.random() < 0.03:
         wrong = "-c arduino|-P usb|-P net:h:0|-P emu:-|-p m9|--parts none.toml|--parts=-|--chip -"
         asked.append(draw.choice(wrong.split("|")).split())
@@ -264,7 +270,7 @@ def words_of(draw, part, port, updates):
     def joined(words):
         return ["".join(words)] if len(words) == 2 and len(words[0]) == 2 and draw.random() < 0.2 else words
 
-    return [word for it in (asked if fixed else draw.sample(asked, len(asked))) for word in joined(it)]
+    return [word for option in (asked if fixed else draw.sample(asked, len(asked))) for word in joined(option)]
 
 
 class Drawn:
@@ -286,10 +292,10 @@ class Drawn:
         if draw.random() < 0.05:
             self.part, self.chip = BUILT_IN[part is BUILT_IN[0]], None
         self.is_silent = self.kind.startswith("net:")
-        kinds = [*HEARD, *SILENT] if self.is_silent else HEARD
+        kinds = [*REPLIED, *SILENT] if self.is_silent else REPLIED
         count = draw.choice([0, 0, 0, 1, 1, 2, 3, 8])
         places = [draw.choice([draw.randint(1, 12), draw.randint(1, 300)]) for _ in range(count)]
-        self.fates = {it: draw.choice(kinds) for it in places}
+        self.fates = {place: draw.choice(kinds) for place in places}
         if draw.random() < 0.1:
             first, kind = draw.randint(1, 12), draw.choice(["refuse", "babble", "spoil", "noise"])
             self.fates.update(dict.fromkeys(range(first, first + draw.randint(3, 5)), kind))
@@ -299,7 +305,7 @@ class Drawn:
         return Link(Programmer(self.part, self.chip), fates, self.seed, self.is_silent)
 
     def words_at(self, port):
-        return [it.replace("PORT", str(port)) for it in self.words]
+        return [word.replace("PORT", str(port)) for word in self.words]
 
 
 def model_of(drawn, words, late=()):
@@ -313,9 +319,9 @@ def model_of(drawn, words, late=()):
 def late_replies(drawn, peer):
     """Returns the frames whose replies came late because of pauses: a pause was measured, and then the program repeated
     the frame, or the two frames of which it was the second."""
-    bodies = [it[5:-1] for it in peer.link.sent]
-    measured = [it for it in peer.late - drawn.fates.keys() if it < len(bodies)]
-    return [it for it in measured if bodies[it] in bodies[max(0, it - 2) : it]]
+    bodies = [request[5:-1] for request in peer.link.sent]
+    measured = [number for number in peer.late - drawn.fates.keys() if number < len(bodies)]
+    return [number for number in measured if bodies[number] in bodies[max(0, number - 2) : number]]
 
 
 def made(drawn):
@@ -337,8 +343,8 @@ def made(drawn):
         model = model_of(drawn, words, late) if late and model.link else model
     wanted = {"status": model.status, "messages": lines(*model.lines), "output": model.output}
     found = {"status": status, "messages": messages, "output": output}
-    wanted.update({name: it for name, it in model.files.items() if name != "-"})
-    found.update({it.name: room.read(it.name) for it in room.folder.iterdir() if it.name not in room.given})
+    wanted.update({name: content for name, content in model.files.items() if name != "-"})
+    found.update({file.name: room.read(file.name) for file in room.folder.iterdir() if file.name not in room.given})
     if peer:
         wanted["frames"] = b"".join(model.link.sent) if model.link else b""
         found["frames"] = b"".join(peer.link.sent)
@@ -353,23 +359,29 @@ def difference(seed, kinds):
         wanted, found = made(drawn)
     except Exception:
         return f"{seed}: an exception\n{traceback.format_exc()}", 1
-    differing = [it for it in {**wanted, **found} if wanted.get(it) != found.get(it)]
-    told = [f"{it}\n  model:   {wanted.get(it)!r:.600}\n  program: {found.get(it)!r:.600}" for it in differing]
+    differing = [name for name in {**wanted, **found} if wanted.get(name) != found.get(name)]
+    details = [
+        f"{name}\n  model:   {wanted.get(name)!r:.600}\n  program: {found.get(name)!r:.600}" for name in differing
+    ]
     head = f"{seed}: {', '.join(differing)}\n{drawn.words} {drawn.fates}"
-    return "\n".join([head, *told]) if told else "", wanted["status"]
+    return "\n".join([head, *details]) if details else "", wanted["status"]
 
 
 def compared(seed, count, kinds):
     """Compares as many drawn runs, and checks that many end with status 0."""
+
+    def outcome(drawn_by):
+        return attempts(lambda: difference(drawn_by, kinds), lambda found: not found[0])[-1]
+
     seed = os.environ.get("SAMPLE") or seed
-    seeds = [f"{seed}:{it}" for it in range(count // 10 if "SAMPLE" in os.environ else count)]
+    seeds = [f"{seed}:{number}" for number in range(count // 10 if "SAMPLE" in os.environ else count)]
     seeds = [os.environ["RUN"]] if "RUN" in os.environ else seeds
     print(f"{len(seeds)} runs are drawn by {seed}", flush=True)
     with ThreadPoolExecutor(AT_ONCE) as pool:
-        done = list(pool.map(lambda it: attempts(lambda: difference(it, kinds), lambda it: not it[0])[-1], seeds))
-    for told, _ in done:
-        which, _, how = told.partition("\n")
-        check(f"a run that the model makes otherwise: {which}", not told, how)
+        done = list(pool.map(outcome, seeds))
+    for report, _ in done:
+        which, _, how = report.partition("\n")
+        check(f"a run that the model makes otherwise: {which}", not report, how)
     good = sum(status == 0 for _, status in done)
     check("a quarter of the runs or more ends with status 0", good * 4 >= len(seeds) or len(seeds) < 50, good)
 

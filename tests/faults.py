@@ -84,6 +84,7 @@ class Sweep:
 
     def __init__(self, room, shim, label, words, given, status=0):
         self.room, self.shim, self.label, self.words, self.given = room, shim, label, words, given
+        self.old = None
         self.sound = self.done()
         if self.sound[0] != status:
             raise AssertionError(f"{label}: {self.sound}")
@@ -117,11 +118,11 @@ class Sweep:
                 check_equal(f"{fault}, which is not met", done, self.sound)
                 return counts
             is_sound = done == self.sound
-            if not check(fault, is_sound or (kind, how) in FAULTS and self.is_told(kind, how, *done), done):
+            if not check(fault, is_sound or (kind, how) in FAULTS and self.is_reported(kind, how, *done), done):
                 return counts
-            counts["unneeded" if is_sound else "told"] += 1
+            counts["unneeded" if is_sound else "reported"] += 1
 
-    def is_told(self, kind, how, status, output, messages, chip, read_file):
+    def is_reported(self, kind, how, status, output, messages, chip, read_file):
         """Returns whether a failed run reports the failure and each half-written file."""
         refused = Path(self.room.read("refused").decode())
         # (the folder is synced after the chip is in place)
@@ -131,10 +132,10 @@ class Sweep:
             # (after an error of the session there is no memory to save the chip either, and that is reported too)
             lines += [f"{line}\navrstk: error: out of memory" for line in lines]
         # (the line is whole, unless a message couldn't be written)
-        is_told = any(is_front_and_line(messages, self.sound[2], line, kind == "write") for line in lines)
+        is_reported = any(is_front_and_line(messages, self.sound[2], line, kind == "write") for line in lines)
         is_chip = chip in (self.old, self.sound[3]) or is_on_its_way(self.old, chip, self.sound[3])
         is_front = read_file is None or (self.sound[4] or b"").startswith(read_file)
-        return status == 1 and self.sound[1].startswith(output) and is_told and is_chip and is_front
+        return status == 1 and self.sound[1].startswith(output) and is_reported and is_chip and is_front
 
 
 class Serving(Sweep):
@@ -145,26 +146,26 @@ class Serving(Sweep):
         self.old = CHIPS["m328p"]
         self.room.put("chip.bin", self.old)
         with Server(self.room, "chip.bin", waits=False, env=os.environ | self.refusing(refused)) as server:
-            heard = received_from(server)
+            received = received_from(server)
             status, _, messages = server.end()
-        return status, heard, messages.replace(str(server.port).encode(), b"PORT"), self.room.read("chip.bin"), None
+        return status, received, messages.replace(str(server.port).encode(), b"PORT"), self.room.read("chip.bin"), None
 
 
 def received_from(server):
     """Sends the frames of a session, and returns the replies up to the end of the connection."""
-    heard = b""
+    received = b""
     try:
         with caller_of(server) as caller:
             for frame, end in zip(FRAMES, ENDS):
                 caller.sendall(frame)
-                while len(heard) < end:
+                while len(received) < end:
                     piece = caller.recv(4096)
                     if not piece:
-                        return heard
-                    heard += piece
+                        return received
+                    received += piece
     except OSError:
         pass
-    return heard
+    return received
 
 
 def caller_of(server):
@@ -177,21 +178,21 @@ def caller_of(server):
     raise ConnectionRefusedError(f"nobody serves at {server.port}")
 
 
-def is_front_and_line(said, sound, line, may_stop):
+def is_front_and_line(messages, sound, line, may_stop):
     """Returns whether these are a prefix of an undisturbed run's messages, then the error line, or part of it if
     `may_stop`."""
-    if may_stop and sound.startswith(said):
+    if may_stop and sound.startswith(messages):
         return True
     return any(
-        sound.startswith(said[:end]) and is_front_of_error(said[end:], line.encode(), may_stop)
-        for end in range(len(said) + 1)
+        sound.startswith(messages[:end]) and is_front_of_error(messages[end:], line.encode(), may_stop)
+        for end in range(len(messages) + 1)
     )
 
 
-def is_front_of_error(said, line, may_stop):
+def is_front_of_error(messages, line, may_stop):
     """Returns whether this is the error line, or a prefix of it if `may_stop`."""
     whole = b"avrstk: error: " + line + b"\n"
-    return said == whole or (may_stop and whole.startswith(said))
+    return messages == whole or (may_stop and whole.startswith(messages))
 
 
 class OverNet(Sweep):
@@ -210,8 +211,8 @@ class OverNet(Sweep):
             None,
         )
 
-    def is_told(self, kind, how, status, output, messages, chip, read_file):
-        return super().is_told(kind, how, status, output, messages, None, None) and len(chip or b"") == CHIP_FILE
+    def is_reported(self, kind, how, status, output, messages, chip, read_file):
+        return super().is_reported(kind, how, status, output, messages, None, None) and len(chip or b"") == CHIP_FILE
 
 
 def is_on_its_way(old, chip, end):
@@ -231,7 +232,7 @@ def swept(sweep, ways):
     """Refuses each call of a run, in these ways."""
     for kind, how in ways:
         counts = sweep.through(kind, how)
-        print(f"{counts['told']:6} told, {counts['unneeded']:5} of no effect: {kind}, {how}", flush=True)
+        print(f"{counts['reported']:6} reported, {counts['unneeded']:5} of no effect: {kind}, {how}", flush=True)
 
 
 def prepared():
@@ -242,6 +243,10 @@ def prepared():
     subprocess.run(["cc", "-O2", "-shared", "-fPIC", "-o", str(shim), str(TOP / "tests/refuse.c"), "-ldl"], check=True)
     room.given |= {"large.bin", shim.name}
     return room, shim
+
+
+def every_fault(room, shim, label, run):
+    swept(Sweep(room, shim, label, *run), ALL)
 
 
 def over_late_line(room, shim, label):
@@ -257,12 +262,9 @@ def while_serving(room, shim, label):
 
 def cases_of(room, shim):
     """Returns the cases by their names."""
-    cases = {label: lambda label=label, it=it: swept(Sweep(room, shim, label, *it), ALL) for label, it in RUNS.items()}
-    for label, look in [
-        (LATE_LINE, over_late_line),
-        ("a session served at a port", while_serving),
-    ]:
-        cases[label] = lambda label=label, look=look: look(room, shim, label)
+    cases = {label: partial(every_fault, room, shim, label, run) for label, run in RUNS.items()}
+    for label, case in [(LATE_LINE, over_late_line), ("a session served at a port", while_serving)]:
+        cases[label] = partial(case, room, shim, label)
     return cases
 
 

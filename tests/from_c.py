@@ -38,7 +38,7 @@ IMAGES = 60
 SECONDS = 20
 USAGE = "records FILE SIZE ihex|srec [ROOM]"
 # the functions that the header declares, and the faults with a text of their own
-CALLS = [f"avr_records_{it}" for it in ("detect", "fault_text", "length", "read", "version", "write")]
+CALLS = [f"avr_records_{name}" for name in ("detect", "fault_text", "length", "read", "version", "write")]
 FAULTS = [*range(9), 10, 11, 12]
 
 
@@ -139,8 +139,10 @@ def typed_as_shown(library):
     section = (TOP / "docs/LIBRARY.md").read_text().split("## From C and Python\n")[1].split("\n## ")[0]
     first, *commands = re.findall(r"^    \$ (.*)$", section, re.M)
     check_equal("the first one", first, "examples/c/build.sh out/c")
-    commands = [it.replace("out/c", shlex.quote(str(library.folder))) for it in commands]
-    printed = [subprocess.run(["sh", "-c", it], cwd=TOP, capture_output=True, check=True).stdout for it in commands]
+    commands = [command.replace("out/c", shlex.quote(str(library.folder))) for command in commands]
+    printed = [
+        subprocess.run(["sh", "-c", command], cwd=TOP, capture_output=True, check=True).stdout for command in commands
+    ]
     image = image_of((TOP / "examples/blink.hex").read_bytes())
     check_equal("C's", (printed[0], image_of(printed[1])), (b"", image))
     check_equal("Python's", printed[2].decode().splitlines(), shown(image))
@@ -148,8 +150,8 @@ def typed_as_shown(library):
     ran = subprocess.run(
         ["sh", "-c", commands[2].partition(" ")[2]], cwd=TOP, capture_output=True, text=True, env=without
     )
-    told = ran.stderr.endswith(": examples/c/build.sh builds the library, and ./install.sh --with-c installs it\n")
-    check_equal("without a library", (ran.returncode, ran.stderr.count("\n"), told), (1, 1, True))
+    is_hint = ran.stderr.endswith(": examples/c/build.sh builds the library, and ./install.sh --with-c installs it\n")
+    check_equal("without a library", (ran.returncode, ran.stderr.count("\n"), is_hint), (1, 1, True))
 
 
 def images_come_back(library):
@@ -183,9 +185,9 @@ def lengths_are_told(library):
             data[address] = byte
             present[address // 8] |= 1 << address % 8
         for kind in (1, 2):
-            told = loaded.avr_records_length(kind, *records.lent(data), *records.lent(present))
+            result = loaded.avr_records_length(kind, *records.lent(data), *records.lent(present))
             text = b"".join(records.pieces(loaded, kind, data, present, 80))
-            check_equal(f"seed {seed}, the length of {kind}", (told.length, told.fault), (len(text), 0))
+            check_equal(f"seed {seed}, the length of {kind}", (result.length, result.fault), (len(text), 0))
 
 
 def time_is_linear(library):
@@ -206,24 +208,25 @@ def cursors_are_judged(library):
     """A cursor that no call leaves is refused and stays unchanged. A cursor's fields are where the header has them."""
     records, loaded = library.in_python()
     for kind, size, ended, fault in [(1, 5, 0, 0), (1, 0, 2, 11), (2, 5, 0, 11), (2, 4, 1, 0), (2, 3, 2, 11)]:
-        lent = [it for held in (b"\x0a", b"\x01") for it in records.lent(bytearray(held))]
+        lent = [argument for held in (b"\x0a", b"\x01") for argument in records.lent(bytearray(held))]
         cursor, room = records.Cursor(0, 0, 0, size, ended), bytearray(80)
         piece = loaded.avr_records_write(kind, *lent, cursor, *records.lent(room))
         check_equal(f"format {kind}, addresses of {size}, ended {ended}", piece.fault, fault)
-        check_equal("and then", (cursor.address_size, cursor.ended), (size, ended)) if fault else None
+        if fault:
+            check_equal("and then", (cursor.address_size, cursor.ended), (size, ended))
 
 
 def faults_are_told(library):
     """Damaged files are refused with the expected fault, from C and from Python."""
     file = library.folder / "damaged"
-    for text, size, told in table("damaged"):
-        told = told.replace("FILE", str(file))
+    for text, size, message in table("damaged"):
+        message = message.replace("FILE", str(file))
         file.write_bytes(bytes_of(text))
-        check_equal(f"{text} in {size} bytes", library.fault(file, size), told)
-        told = told.removeprefix(f"{file}: ")
+        check_equal(f"{text} in {size} bytes", library.fault(file, size), message)
+        message = message.removeprefix(f"{file}: ")
         by_python = library.by_python(file, size)
         check_equal(
-            f"{text} in {size} bytes by Python", (by_python.returncode, by_python.stderr.decode().strip()), (1, told)
+            f"{text} in {size} bytes by Python", (by_python.returncode, by_python.stderr.decode().strip()), (1, message)
         )
 
 
@@ -246,18 +249,18 @@ def texts_are_put(library):
         for size in (0, 1, 5, len(text), len(text) + 1, 40):
             room = bytearray(b"\xa5" * size)
             put = (text[: size - 1] + b"\0" if size else b"") + b"\xa5" * max(0, size - len(text) - 1)
-            told = loaded.avr_records_fault_text(fault, *records.lent(room))
-            check_equal(f"the text of {fault} in {size}", (told, room), (len(text), put))
+            length = loaded.avr_records_fault_text(fault, *records.lent(room))
+            check_equal(f"the text of {fault} in {size}", (length, room), (len(text), put))
 
 
 def versions_agree(library):
     """The header, the library, pkg-config's file and the Python program have the version in VERSION."""
     major, minor, patch = map(int, VERSION.split("."))
     number = 10_000 * major + 100 * minor + patch
-    told = subprocess.run(
+    printed = subprocess.run(
         [library.compiled(TOP / "tests/versions.c")], capture_output=True, check=True, text=True
     ).stdout
-    check_equal("the header and the archive", told, f"{VERSION} {VERSION} {number} {number}\n")
+    check_equal("the header and the archive", printed, f"{VERSION} {VERSION} {number} {number}\n")
     records, loaded = library.in_python()
     check_equal("Python and the shared library", (records.VERSION, loaded.avr_records_version()), (number, number))
     config = (library.folder / "avr_records.pc").read_text()
@@ -283,7 +286,7 @@ def only_its_calls_are_seen(library):
     for words in (["-g", "libavr_records.a"], ["-D", "libavr_records.so"]):
         words = ["nm", "--defined-only", *words]
         listed = subprocess.run(words, cwd=library.folder, capture_output=True, check=True, text=True).stdout
-        exported = [it.split()[-1] for it in listed.splitlines() if len(it.split()) == 3]
+        exported = [line.split()[-1] for line in listed.splitlines() if len(line.split()) == 3]
         check_equal(f"what {words[-1]} exports", exported, CALLS)
 
 

@@ -36,9 +36,9 @@ def output_fails():
     read_fuse = [*EMULATED, "-U", "lfuse:r:-:h"]
     for name, target in [("full", "/dev/full"), ("closed pipe", None)]:
         unwritten = lines(SIGNATURE, "error: -: cannot be written")
-        for words, told in [(STDIO, lines("error: link cannot be written")), (read_fuse, unwritten)]:
+        for words, message in [(STDIO, lines("error: link cannot be written")), (read_fuse, unwritten)]:
             room.clear()
-            check_equal(f"output {name}: {words}", with_output(words, target), (1, told))
+            check_equal(f"output {name}: {words}", with_output(words, target), (1, message))
         check_equal("the chip file after it", len(room.read("chip.bin") or b""), CHIP_FILE)
 
 
@@ -73,10 +73,10 @@ def input_fails():
 
 def meets(kind, run=lambda words, redirected: room.run(words, closed=redirected)):
     """Makes the runs of a kind in the table of streams; `run` takes the options and a shell's redirections."""
-    for of, words, redirected, status, output, told in table("streams"):
+    for of, words, redirected, status, output, message in table("streams"):
         if of == kind:
             room.clear()
-            wanted = int(status), bytes_of(output), lines_of(told)
+            wanted = int(status), bytes_of(output), lines_of(message)
             check_equal(f"{words} {redirected}", run(shlex.split(words), redirected), wanted)
 
 
@@ -112,14 +112,14 @@ def with_limit(kibibytes, words, redirected=""):
 def files_are_full():
     """A write beyond a file's size limit (`ulimit -f`) fails, and the run with it."""
     chip = bytes(place % 255 for place in range(32_768)) + b"\xff" * 1_028
-    for update, redirected, before, after, status, told in table("full"):
+    for update, redirected, before, after, status, message in table("full"):
         room.clear()
         room.put("chip.bin", chip)
         room.put("out", bytes(int(before)))
         # (a log that is write-only)
         (room.folder / "out").chmod(0o200)
         found = with_limit(36, [*EMULATED, "-U", update], redirected)
-        check_equal(f"{update} {redirected}", found, (int(status), b"", lines_of(told)))
+        check_equal(f"{update} {redirected}", found, (int(status), b"", lines_of(message)))
         check_equal(f"{update} {redirected}: its length", (room.folder / "out").stat().st_size, int(after))
         check(f"{update} {redirected}: the chip is as it was", room.read("chip.bin") == chip)
 
@@ -134,15 +134,17 @@ def replies_are_cut():
     or before the socket's options are set, the port cannot be opened; both outcomes are right."""
     for count in range(len(REPLIES)):
         whole = sum(end <= count for end in ENDS)
-        said = [SIGNATURE] if whole >= 5 else []
+        signature = [SIGNATURE] if whole >= 5 else []
         peer = FrontOfReplies(REPLIES[:count], resets=False)
         found = room.run(["-p", "m328p", "-P", f"net:127.0.0.1:{peer.port}"])
-        told = lines(*said, "error: link ended")
-        check_equal(f"{count} bytes and the end", (*found, peer.end()), (1, b"", told, FRAMES[: whole + 1]))
+        expected = lines(*signature, "error: link ended")
+        check_equal(f"{count} bytes and the end", (*found, peer.end()), (1, b"", expected, FRAMES[: whole + 1]))
         peer = FrontOfReplies(REPLIES[:count], resets=True)
         status, _, messages = room.run(["-p", "m328p", "-P", f"net:127.0.0.1:{peer.port}"])
         peer.end()
-        faults = [lines(*it, f"error: link cannot be {verb}") for it in ([], said) for verb in ("read", "written")]
+        faults = [
+            lines(*front, f"error: link cannot be {verb}") for front in ([], signature) for verb in ("read", "written")
+        ]
         faults.append(lines(f"error: port net:127.0.0.1:{peer.port} cannot be opened"))
         check(f"{count} bytes and a reset", status == 1 and messages in faults, f"{status}, {messages}")
 
@@ -162,7 +164,7 @@ def callers_are_odd():
             check_equal(f"the reply to {name}", answered, wanted)
     for name, count, verbs in [("at once", 0, ["read", "written"]), ("after a reply", ENDS[0], ["read"])]:
         found, _ = served(lambda caller: resets(caller, count))
-        wanted = [(1, b"", lines(f"error: link cannot be {it}")) for it in verbs]
+        wanted = [(1, b"", lines(f"error: link cannot be {verb}")) for verb in verbs]
         check(f"a caller that resets {name}", found in wanted, found)
 
 
@@ -195,7 +197,12 @@ def nothing_is_read():
         listener.listen()
         port = f"net:127.0.0.1:{listener.getsockname()[1]}"
         started = room.start(["-p", "m2560", "-P", port, "-q", "-V", *["-U", "flash:w:large.bin:r"] * 16])
-        begin = [b"\x01\x00\x08STK500_2", b"\x10\x00", *(b"\x1b\x00%c\x00" % it for it in b"\x1e\x98\x01"), b"\x12\x00"]
+        begin = [
+            b"\x01\x00\x08STK500_2",
+            b"\x10\x00",
+            *(b"\x1b\x00%c\x00" % byte for byte in b"\x1e\x98\x01"),
+            b"\x12\x00",
+        ]
         with listener.accept()[0] as peer:
             peer.settimeout(5)
             try:
@@ -245,7 +252,7 @@ class Trickle(Peer):
             begun = time.monotonic()
             while time.monotonic() - begun < 0.25:
                 try:
-                    self.heard.append(caller.recv(4096))
+                    self.received.append(caller.recv(4096))
                 except TimeoutError:
                     pass
 
@@ -255,8 +262,8 @@ def a_silence_is_a_second_without_a_byte():
     peer = Trickle()
     started = room.start(["-p", "m328p", "-P", f"net:127.0.0.1:{peer.port}"])
     started.communicate(timeout=PATIENCE)
-    heard = [it for it in peer.end() if it]
-    check("one frame in three seconds", heard[:1] == [frame(1, 1)] and len(heard) == 1, heard)
+    received = [piece for piece in peer.end() if piece]
+    check("one frame in three seconds", received[:1] == [frame(1, 1)] and len(received) == 1, received)
 
 
 def standard_streams_that_do_not_block():
@@ -322,7 +329,7 @@ def ended_from_outside():
     os.mkfifo(room.folder / "pipe")
     started = room.start([*EMULATED, "-U", "lfuse:w:0xE2:m", "-U", "lfuse:r:pipe:h"])
     # the run blocks at the second update, because no process reads the pipe
-    check("the first update is done", any(b"verified" in it for it in started.stderr))
+    check("the first update is done", any(b"verified" in line for line in started.stderr))
     started.send_signal(signal.SIGINT)
     started.communicate(timeout=PATIENCE)
     check("emu: that is ended saves nothing", (started.returncode, room.read("chip.bin")) == (-signal.SIGINT, None))
@@ -333,9 +340,9 @@ def loaded_for_its_caller():
     that time, that is reported, and the chip stays as it is."""
     room.clear()
     with Server(room, "chip.bin") as server:
-        told = [SIGNATURE, "lfuse: 1 bytes written", "lfuse: 1 bytes verified", "done"]
+        expected = [SIGNATURE, "lfuse: 1 bytes written", "lfuse: 1 bytes verified", "done"]
         check_equal(
-            "a run before a caller comes", room.run([*EMULATED, "-U", "lfuse:w:0xE2:m"]), (0, b"", lines(*told))
+            "a run before a caller comes", room.run([*EMULATED, "-U", "lfuse:w:0xE2:m"]), (0, b"", lines(*expected))
         )
         with server.call() as caller:
             found = [*replies_to(caller, ENTER, bytes.fromhex("180450000000"))]

@@ -49,7 +49,7 @@ class Peer:
         self.listener = socket.create_server((self.host, 0))
         self.listener.settimeout(PATIENCE)
         self.port = self.listener.getsockname()[1]
-        self.heard = []
+        self.received = []
         self.thread = threading.Thread(target=self.meet, daemon=True)
         self.thread.start()
 
@@ -69,7 +69,7 @@ class Peer:
         socket.create_connection((self.host, self.port), PATIENCE).close()
         self.thread.join()
         self.listener.close()
-        return self.heard
+        return self.received
 
 
 class Link(Peer):
@@ -77,6 +77,7 @@ class Link(Peer):
 
     def __init__(self, server):
         self.server = server
+        self.served = None
         super().__init__()
 
     def serve(self, caller):
@@ -97,9 +98,9 @@ class Link(Peer):
 
     def end(self):
         """Returns what was received, once the programmer has ended; `served` has its outcome."""
-        heard = super().end()
+        received = super().end()
         self.served = self.server.end()
-        return heard
+        return received
 
 
 class FrontOfReplies(Peer):
@@ -116,7 +117,7 @@ class FrontOfReplies(Peer):
             caller.setsockopt(socket.SOL_SOCKET, socket.SO_LINGER, struct.pack("ii", 1, 0))
             return
         caller.shutdown(socket.SHUT_WR)
-        self.heard.extend(frames_of(caller))
+        self.received.extend(frames_of(caller))
 
 
 class BadLine(Link):
@@ -125,15 +126,19 @@ class BadLine(Link):
     a `restart` the programmer restarts after its reply: it ends, and is served again with the chip that it saved."""
 
     def __init__(self, room, fates, part="m328p", words=()):
-        self.fates, self.served_again = fates, lambda: Server(room, part=part, words=words)
-        super().__init__(self.served_again())
+        self.fates, self.room, self.part, self.words = fates, room, part, words
+        super().__init__(self.start())
+
+    def start(self):
+        """Returns a new programmer, with the chip that the one before saved."""
+        return Server(self.room, part=self.part, words=self.words)
 
     def serve(self, caller):
         frames = frames_of(caller)
         try:
             while self.restarts(frames, caller):
                 self.server.end()
-                self.server = self.served_again()
+                self.server = self.start()
         except BrokenPipeError:
             # (the caller has gone, and its last attempts were replied to late)
             pass
@@ -143,8 +148,8 @@ class BadLine(Link):
         with self.server.call() as programmer:
             answers, late = frames_of(programmer), b""
             for frame in frames:
-                self.heard.append(frame)
-                fate = self.fates.get(len(self.heard), "good")
+                self.received.append(frame)
+                fate = self.fates.get(len(self.received), "good")
                 if fate == "lost command":
                     continue
                 programmer.sendall(frame)

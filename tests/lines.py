@@ -41,32 +41,32 @@ room = Room()
 met = set()
 
 
-def run(what, words, told, status=1, output=b"", given=b"", chip=None):
+def run(what, words, messages, status=1, output=b"", given=b"", chip=None):
     """Checks that a run prints these lines, in a folder without a chip file, or with this one."""
     room.clear()
     if chip is not None:
         room.put("chip.bin", chip)
-    check_equal(what, room.run(words, given), (status, output, lines(*told)))
-    met.update(told)
+    check_equal(what, room.run(words, given), (status, output, lines(*messages)))
+    met.update(messages)
 
 
-def refused(what, words, told, **more):
+def refused(what, words, message, **more):
     """Checks that a run is refused before anything is sent: it prints one line, and creates no chip file."""
-    run(what, words, [f"error: {told}"], **more)
+    run(what, words, [f"error: {message}"], **more)
     check_equal(f"{what}: no chip file", room.read("chip.bin"), more.get("chip"))
 
 
 def settings_are_refused():
     """Command lines with wrong or missing settings are refused, each with its line."""
-    for words, told in table("settings"):
+    for words, message in table("settings"):
         words = shlex.split(words)
-        refused(f"{words}", words, told)
+        refused(f"{words}", words, message)
 
 
 def help_is_printed():
     """Help goes to standard output, with status 0. It has a text for each option, and each text of its source whole."""
     source = (TOP / "crates/avr_plan/src/command.rt").read_text().replace("\\\n", "")
-    texts = [it for it in re.findall(r'"([^"]*)"', source) if " " in it]
+    texts = [text for text in re.findall(r'"([^"]*)"', source) if " " in text]
     for word in ["-h", "--help"]:
         status, output, messages = room.run([word])
         check_equal(f"{word}: status and messages", (status, messages), (0, b""))
@@ -75,26 +75,26 @@ def help_is_printed():
         check_equal(
             f"{word}: its options", re.findall(r"^ +(--?\w+)", text, re.M), [option for option, _ in table("help")]
         )
-        for option, told in table("help"):
-            check(f"{word}: {option}", re.search(rf"^ +{option}\b.*  {re.escape(told)}$", text, re.M), text)
-        check_equal(f"{word}: texts that are cut", [it for it in texts if it not in text], [])
+        for option, description in table("help"):
+            check(f"{word}: {option}", re.search(rf"^ +{option}\b.*  {re.escape(description)}$", text, re.M), text)
+        check_equal(f"{word}: texts that are cut", [part for part in texts if part not in text], [])
 
 
 def words_are_refused():
     """If `clap` refuses an argument, its message goes to standard error, with status 1."""
-    for words, told in table("words"):
+    for words, message in table("words"):
         status, output, messages = room.run(words.split())
         check_equal(f"{words}", (status, output), (1, b""))
-        check(f"{words}: its line", messages.decode().startswith(told), messages[:80])
+        check(f"{words}: its line", messages.decode().startswith(message), messages[:80])
     run("a word that is not UTF-8", [b"-p", b"\xff"], ["error: invalid data"])
 
 
 def images_are_refused():
     """Image files with a fault are refused, each with its line."""
-    for update, content, told in table("images"):
+    for update, content, message in table("images"):
         if content:
             room.keep(update.split(":")[2], bytes_of(content))
-        refused(f"{update} of {content}", [*EMULATED, "-U", update], told)
+        refused(f"{update} of {content}", [*EMULATED, "-U", update], message)
 
 
 def no_update_is_begun():
@@ -105,8 +105,8 @@ def no_update_is_begun():
         ("-U lfuse:w:0xE2:m -U signature:w:1:m", "signature is read-only"),
     ]
     # (over standard streams frames would be the output)
-    for (words, told), port in itertools.product(rows, [STDIO, EMULATED]):
-        refused(f"{port[3]} {words}", [*port, *words.split()], told)
+    for (words, message), port in itertools.product(rows, [STDIO, EMULATED]):
+        refused(f"{port[3]} {words}", [*port, *words.split()], message)
         check_equal(f"{port[3]} {words}: the file of the read", room.read("out.h"), None)
 
 
@@ -122,9 +122,12 @@ def images_are_taken():
     rubbish = room.keep("rubbish.hex", b":00000001FF\nrubbish\n")
     run("rubbish after an end record", [*EMULATED, "-U", f"flash:w:{rubbish}"], nothing, 0)
     open_ended = room.keep("open.hex", b":0400000001020304F2\n")
-    told = [*ERASED, "flash: 4 bytes written", "flash: 4 bytes verified", DONE]
+    expected = [*ERASED, "flash: 4 bytes written", "flash: 4 bytes verified", DONE]
     run(
-        "no end record", [*EMULATED, "-U", f"flash:w:{open_ended}"], [f"warning: {open_ended}: no end record", *told], 0
+        "no end record",
+        [*EMULATED, "-U", f"flash:w:{open_ended}"],
+        [f"warning: {open_ended}: no end record", *expected],
+        0,
     )
 
 
@@ -133,8 +136,8 @@ def part_files():
     good = (TOP / "examples/parts.toml").read_text()
     name = re.search(r"\[parts\.(\S+)\]", good).group(1)
 
-    def parts(text, told):
-        refused(f"a part file with {text[:50]!r}", [*EMULATED, "--parts", room.keep("p.toml", text.encode())], told)
+    def parts(text, message):
+        refused(f"a part file with {text[:50]!r}", [*EMULATED, "--parts", room.keep("p.toml", text.encode())], message)
 
     parts("a = = 1", "p.toml: not TOML")
     parts(re.sub("flash_page.*\n", "", good), "p.toml: flash_page is missing")
@@ -143,8 +146,8 @@ def part_files():
     parts(re.sub(r"eeprom_size.*\n", "eeprom_size = 1023\n", good), "p.toml: sizes do not fit")
     parts("#" * (PART_FILE_LIMIT + 1), f"p.toml: longer than {PART_FILE_LIMIT} bytes")
     longest = room.keep("q.toml", (good + "#").ljust(PART_FILE_LIMIT, "x").encode())
-    told = ["device signature = 1E 94 06", DONE]
-    run("the longest part file", ["-p", name, "-P", "emu:chip.bin", "--parts", longest], told, 0)
+    expected = ["device signature = 1E 94 06", DONE]
+    run("the longest part file", ["-p", name, "-P", "emu:chip.bin", "--parts", longest], expected, 0)
     refused("no name", [*EMULATED, "--parts", ""], ": cannot be opened")
     refused("no such part", ["-p", "m328", "-P", "emu:chip.bin"], "no part m328")
 
@@ -162,25 +165,28 @@ def chip_files():
 def nothing_is_written():
     """With -n the program reads and compares memories, but doesn't write or erase them."""
     words = [*EMULATED, *"-n -e -U lfuse:w:0xE2:m -U lfuse:v:0xFF:m -U lfuse:r:-:h -U flash:w:empty.bin".split()]
-    told = [*(f"lfuse: 1 bytes {it}" for it in ["not written", "verified", "read"]), "flash: 0 bytes not written"]
-    run("-n", words, [SIGNATURE, "warning: chip not erased because of -n", *told, DONE], 0, b"0xff\n")
+    expected = [
+        *(f"lfuse: 1 bytes {outcome}" for outcome in ["not written", "verified", "read"]),
+        "flash: 0 bytes not written",
+    ]
+    run("-n", words, [SIGNATURE, "warning: chip not erased because of -n", *expected, DONE], 0, b"0xff\n")
     check_equal("-n: the chip is as it was", room.read("chip.bin"), b"\xff" * CHIP_FILE)
-    told = [SIGNATURE, "error: lfuse: address 00000000: E2 expected, FF found"]
-    run("-n and a comparison that differs", [*EMULATED, "-n", "-U", "lfuse:v:0xE2:m"], told)
+    expected = [SIGNATURE, "error: lfuse: address 00000000: E2 expected, FF found"]
+    run("-n and a comparison that differs", [*EMULATED, "-n", "-U", "lfuse:v:0xE2:m"], expected)
 
 
 def replies_are_bad():
     """Wrong replies, refusals and noise lead to the expected line and number of frames."""
     cases = [("4,096 bytes four times", "", bytes(4 * 4096), "error: no answer in 4096 bytes", 5)]
-    for name, words, replies, told, frames in table("replies"):
-        numbered = (it.split(":") for it in replies.split())
+    for name, words, replies, message, frames in table("replies"):
+        numbered = (reply.split(":") for reply in replies.split())
         replies = b"".join(frame(int(number), bytes_of(body)) for number, body in numbered)
-        cases.append((name, words, REPLIES[: ENDS[0]] + replies, told, int(frames)))
-    for name, words, replies, told, frames in cases:
+        cases.append((name, words, REPLIES[: ENDS[0]] + replies, message, int(frames)))
+    for name, words, replies, message, frames in cases:
         room.clear()
         status, output, messages = room.run([*STDIO, *words.split()], replies)
-        check_equal(name, (status, messages, frames_in(output)), (int("error: " in told), lines_of(told), frames))
-        met.update(told.split("; "))
+        check_equal(name, (status, messages, frames_in(output)), (int("error: " in message), lines_of(message), frames))
+        met.update(message.split("; "))
 
 
 class Elsewhere(FrontOfReplies):
@@ -216,10 +222,10 @@ def nobody_else_is_called():
         timed = traced(r'SO_(RCV|SND)TIMEO\w*, "\\(\w)\\0')
         seconds = [("RCV", "1"), ("SND", "n")] if wanted else []
         check_equal(f"{words}: a read times out after 1 second, a write after 10", timed, seconds)
-        found = [it for it in traced(r"^(\w+\(.*)") if "TIMEO" not in it]
+        found = [line for line in traced(r"^(\w+\(.*)") if "TIMEO" not in line]
         check(f"{words}: its calls", len(found) == len(wanted), found)
-        for it, (call, told) in zip(found, wanted):
-            check(f"{words}: {call}", it.startswith(f"{call}(") and told in it, it)
+        for made, (call, argument) in zip(found, wanted):
+            check(f"{words}: {call}", made.startswith(f"{call}(") and argument in made, made)
     check_equal("what the peer received", peer.end(), FRAMES)
     room.clear()
     with Server(room, **tracing("-e", "trace=setsockopt")) as server:
@@ -245,11 +251,11 @@ def long_lines():
     for length in (most - 1, most, most + 1, 3 * most):
         name = "x" * length
         refused(f"a name of {length} bytes", [*EMULATED, "-U", f"flash:w:{name}"], f"{name}: cannot be opened")
-    for length, (words, told) in itertools.product([65, 256, most], table("long_names")):
+    for length, (words, message) in itertools.product([65, 256, most], table("long_names")):
         # (a chip file may have a name of 65 bytes)
-        if length > 65 or "written" not in told:
-            words, told = (it.replace("NAME", "x" * length) for it in (words, told))
-            refused(f"{words[:50]} of {length} bytes", words.split(), told)
+        if length > 65 or "written" not in message:
+            words, message = (text.replace("NAME", "x" * length) for text in (words, message))
+            refused(f"{words[:50]} of {length} bytes", words.split(), message)
 
 
 def a_line_is_one_write():
@@ -262,7 +268,7 @@ def a_line_is_one_write():
         started = room.start(words, **tracing("-e", "trace=write"))
         messages = started.communicate(timeout=PATIENCE)[1].splitlines(keepends=True)
         written = traced(r"^write\(2, .* = (\d+)$")
-        check_equal(f"the writes of {words[4]}", [int(it) for it in written], [len(it) for it in messages])
+        check_equal(f"the writes of {words[4]}", [int(size) for size in written], [len(line) for line in messages])
         check_equal(f"the lines of {words[4]}", len(messages), count)
 
 
@@ -275,38 +281,38 @@ def runs_share_a_log():
         for started in runs:
             started.communicate(timeout=PATIENCE)
             check_equal("a run", started.returncode, 0)
-    told = [SIGNATURE, "lfuse: 1 bytes written", "lfuse: 1 bytes verified", "hfuse: 1 bytes verified", DONE]
-    check_equal("the log", sorted((room.read("log") or b"").splitlines()), sorted(lines(*told).splitlines() * 50))
+    expected = [SIGNATURE, "lfuse: 1 bytes written", "lfuse: 1 bytes verified", "hfuse: 1 bytes verified", DONE]
+    check_equal("the log", sorted((room.read("log") or b"").splitlines()), sorted(lines(*expected).splitlines() * 50))
 
 
 def each_line_was_met():
     """Checks that this script met each line of the table of messages, or another test has it. So this case is last."""
-    for name in [it for it in CASES if it not in chosen(CASES)]:
+    for name in [name for name in CASES if name not in chosen(CASES)]:
         CASES[name]()
     page = (TOP / "docs/TROUBLESHOOTING.md").read_text()
     table = page[page.index("| Line | When |") :].split("\n\n")[0]
     for row in table.splitlines()[2:]:
         if row.startswith("|"):
             for line in alternatives(re.findall(r"`([^`]+)`", row.split("|")[1])):
-                file = next((it for it, ends in ELSEWHERE.items() if line.removeprefix("error: ") in ends), None)
+                file = next((name for name, ends in ELSEWHERE.items() if line.removeprefix("error: ") in ends), None)
                 if file:
                     end = line.split(": ")[-1]
                     check(f"{file} has `{end}`", end in (TOP / "tests" / file).read_text())
                 else:
-                    check(f"the line `{line}` was met", any(re.fullmatch(pattern(line), it) for it in met))
+                    check(f"the line `{line}` was met", any(re.fullmatch(pattern(line), message) for message in met))
 
 
 def alternatives(texts):
     """Returns the lines of a row. A text without its own prefix replaces the end of the first line."""
     begin = texts[0][: texts[0].rfind(": ") + 2]
-    return [texts[0], *(it if it.startswith(("error: ", "warning: ")) else begin + it for it in texts[1:])]
+    return [texts[0], *(text if text.startswith(("error: ", "warning: ")) else begin + text for text in texts[1:])]
 
 
 def pattern(line):
     """Returns a pattern for a line of the table."""
     words = {"XX": "[0-9A-F]{2}", "ADDR": "[0-9A-F]{8}", "N": "[0-9]+", "MEM": "[a-z]+", "FIELD": "[a-z_]+"}
     words |= {name: ".*" for name in ["FILE", "ID", "TEXT", "NAME"]}
-    return re.sub(r"\b[A-Z]+\b", lambda it: words.get(it[0], it[0]), re.escape(line))
+    return re.sub(r"\b[A-Z]+\b", lambda match: words.get(match[0], match[0]), re.escape(line))
 
 
 CASES = named(

@@ -36,7 +36,7 @@ class Line(Link):
     """An ordered link to the served programmer of an ATtiny85 with this chip. `spoil` changes a frame by its number. If
     `pauses` has the prefix of a reply, the link pauses in it: eleven bytes later, until the caller has sent again."""
 
-    def __init__(self, chip, spoil=lambda number, it: it, pauses=b""):
+    def __init__(self, chip, spoil=lambda number, request: request, pauses=b""):
         self.spoil, self.pauses, self.came, self.paused = spoil, pauses, b"", False
         room.clear()
         room.put("chip.bin", chip)
@@ -44,9 +44,9 @@ class Line(Link):
         super().__init__(Server(room, "chip.bin", "t85"))
 
     def there(self, caller, programmer):
-        for it in frames_of(caller):
-            self.heard.append(it)
-            programmer.sendall(self.spoil(it[1], it))
+        for request in frames_of(caller):
+            self.received.append(request)
+            programmer.sendall(self.spoil(request[1], request))
 
     def back(self, programmer, caller):
         given = 0
@@ -55,10 +55,10 @@ class Line(Link):
             place = self.came.find(self.pauses) if self.pauses and not self.paused else -1
             cut = place + len(self.pauses) + 11
             if place >= 0 and len(self.came) >= cut:
-                sent, end = len(self.heard), time.monotonic() + PAUSE
+                sent, end = len(self.received), time.monotonic() + PAUSE
                 caller.sendall(self.came[given:cut])
                 given, self.paused = cut, True
-                while len(self.heard) == sent and time.monotonic() < end:
+                while len(self.received) == sent and time.monotonic() < end:
                     time.sleep(0.02)
             caller.sendall(self.came[given:])
             given = len(self.came)
@@ -88,9 +88,9 @@ def made_contents(first, read):
     for free in set(range(256)) - {0x1B}:
         block[place - 1] = free
         answered = frame(read, b"\x14\x00", bytes(block), b"\x00")
-        heard = bytes(block[place:]) + answered[-2:] + frame(again, b"\x06\x00")
-        heard += frame(read + 2, b"\x14\x00", bytes(block), b"\x00")
-        if xor(heard[:265]) == 0 and heard[263] == 0:
+        received = bytes(block[place:]) + answered[-2:] + frame(again, b"\x06\x00")
+        received += frame(read + 2, b"\x14\x00", bytes(block), b"\x00")
+        if xor(received[:265]) == 0 and received[263] == 0:
             return block
     raise SystemExit("no contents have this XOR")
 
@@ -103,7 +103,7 @@ def reply_to_read(number):
 def a_verified_run_is_wrong():
     """A run ends with status 0 although the chip has another byte than the image or the file. An image is compared; one
     is written to flash that isn't erased and so can't take the byte; a file is read."""
-    for name, first, read, words, told in [
+    for name, first, read, words, messages in [
         ("compared", 0xAA, 7, ["-U", "flash:v:image.hex:i"], ["flash: 1 bytes verified"]),
         (
             "written",
@@ -116,7 +116,9 @@ def a_verified_run_is_wrong():
     ]:
         line = Line(chip_of(made_contents(first, read)), pauses=reply_to_read(read))
         found, chip = line.run(*words)
-        check(f"{name} over a pause: status 0", line.paused and found == (0, lines(SIGNATURE, *told, "done")), found)
+        check(
+            f"{name} over a pause: status 0", line.paused and found == (0, lines(SIGNATURE, *messages, "done")), found
+        )
         check(f"{name}: the chip has another byte", chip[0] == first, chip[:1])
     file = room.read("out.bin")
     others = sum(one != other for one, other in zip(file, chip))
@@ -127,12 +129,12 @@ def without_a_pause_all_is_seen():
     """Without the pause the wrong byte is reported; a pause within other contents does no harm."""
     line = Line(chip_of(made_contents(0xAA, 7)))
     found, _ = line.run("-U", "flash:v:image.hex:i")
-    told = lines(SIGNATURE, "error: flash: address 00000000: 55 expected, AA found")
-    check_equal("without the pause the difference is reported", found, (1, told))
+    expected = lines(SIGNATURE, "error: flash: address 00000000: 55 expected, AA found")
+    check_equal("without the pause the difference is reported", found, (1, expected))
     line = Line(chip_of(bytes((place * 37 + 11) % 256 for place in range(256))), pauses=reply_to_read(7))
     found, chip = line.run("-A", "-U", "flash:r:out.bin:r")
-    told = lines(SIGNATURE, f"flash: {FLASH} bytes read", "done")
-    check("other contents heal over the pause", line.paused and found == (0, told), found)
+    expected = lines(SIGNATURE, f"flash: {FLASH} bytes read", "done")
+    check("other contents heal over the pause", line.paused and found == (0, expected), found)
     check("and the file is the chip", room.read("out.bin") == chip[:FLASH])
 
 
@@ -140,7 +142,10 @@ def a_spoiled_size_swallows_frames():
     """If the link damages the size of one LOAD_ADDRESS, the programmer takes the next two frames, and five bytes
     of the third, as its rest."""
     content = bytes((place * 91 + 3) % 256 for place in range(FLASH))
-    line = Line(content + b"\xff" * REST, spoil=lambda number, it: it[:3] + b"\x20" + it[4:] if number == 8 else it)
+    line = Line(
+        content + b"\xff" * REST,
+        spoil=lambda number, request: request[:3] + b"\x20" + request[4:] if number == 8 else request,
+    )
     room.put("image.bin", content)
     found, chip = line.run("-U", "flash:v:image.bin:r")
     check_equal("a spoiled size: `no answer`, status 1", found, (1, lines(SIGNATURE, "error: no answer")))
@@ -174,13 +179,13 @@ class Keeps(Line):
     def serve(self, caller):
         with self.server.call() as programmer:
             replies = frames_of(programmer)
-            for it in frames_of(caller):
-                if it[1] == 6 and self.earlier:
+            for request in frames_of(caller):
+                if request[1] == 6 and self.earlier:
                     caller.sendall(self.earlier)
                     continue
-                programmer.sendall(it)
+                programmer.sendall(request)
                 reply = next(replies)
-                if it[1] == 6:
+                if request[1] == 6:
                     self.kept = reply
                 else:
                     caller.sendall(reply)
@@ -188,13 +193,13 @@ class Keeps(Line):
 
 def a_reply_of_an_earlier_run_is_taken():
     """A late reply of a first run is taken in the second one. Frame 6 reads the fuse; the reply says 62."""
-    told = lines(SIGNATURE, "lfuse: 1 bytes verified", "done")
+    expected = lines(SIGNATURE, "lfuse: 1 bytes verified", "done")
     first = Keeps(with_lfuse(0x62))
     found, chip = first.run("-U", "lfuse:v:0x62:m")
-    check_equal("the first run reads the fuse again", (found, chip[LFUSE]), ((0, told), 0x62))
+    check_equal("the first run reads the fuse again", (found, chip[LFUSE]), ((0, expected), 0x62))
     found, chip = Keeps(with_lfuse(0xE2), first.kept).run("-U", "lfuse:v:0x62:m")
     check_equal(
-        "the second one takes the old reply: status 0, and another fuse", (found, chip[LFUSE]), ((0, told), 0xE2)
+        "the second one takes the old reply: status 0, and another fuse", (found, chip[LFUSE]), ((0, expected), 0xE2)
     )
 
 
@@ -209,10 +214,10 @@ def a_part_with_too_much_flash():
     words = ["--parts", "part.toml", "-p", "t85", "-P", f"net:127.0.0.1:{server.port}", "-U", "flash:w:image.bin:r"]
     status, _, messages = room.run(words)
     server.end()
-    told = lines(
+    expected = lines(
         SIGNATURE, "chip erased", f"flash: {2 * FLASH} bytes written", f"flash: {2 * FLASH} bytes verified", "done"
     )
-    check("twice the flash: status 0 and `verified`", (status, messages) == (0, told), (status, messages))
+    check("twice the flash: status 0 and `verified`", (status, messages) == (0, expected), (status, messages))
     check("and the chip has half of the image", (room.read("chip.bin") or b"")[:FLASH] == flash)
 
 

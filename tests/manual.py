@@ -33,15 +33,15 @@ def of_help():
     if ran.returncode:
         sys.exit(f"--help ends with status {ran.returncode}: {ran.stderr}")
     rows = ran.stdout.split("Options:\n")[1].split("\n\n")[0].splitlines()
-    found = [re.match(r" +(?:(-\w)(?:, )?)?(--[\w-]+)?(?:\.\.\.)?(?: <(\w+)>)?  ", it).groups() for it in rows]
+    found = [re.match(r" +(?:(-\w)(?:, )?)?(--[\w-]+)?(?:\.\.\.)?(?: <(\w+)>)?  ", row).groups() for row in rows]
     return {(name, value) for short, long, value in found for name in (short, long) if name}, ran.stdout
 
 
 def of_usage():
     """Returns the options of USAGE's table, each with its value's name."""
     rows = USAGE.read_text().split("| Option |")[1].split("\n\n")[0].splitlines()[2:]
-    named = [it for row in rows for it in re.findall(r"`(-[^`]*)`", cells(row)[0])]
-    return {(name, value or None) for name, _, value in (it.partition(" ") for it in named)}
+    named = [option for row in rows for option in re.findall(r"`(-[^`]*)`", cells(row)[0])]
+    return {(name, value or None) for name, _, value in (option.partition(" ") for option in named)}
 
 
 def parts():
@@ -55,19 +55,19 @@ def shown_runs(file):
     blocks = [rows for kind, rows in blocks_of((TOP / file).read_text()) if kind == "code"]
     with tempfile.TemporaryDirectory() as folder:
         shutil.copytree(TOP / "examples", f"{folder}/examples")
-        commands = [it for rows in blocks for it in "\n".join(row[4:] for row in rows).split("$ ")[1:]]
+        commands = [command for rows in blocks for command in "\n".join(row[4:] for row in rows).split("$ ")[1:]]
         for row, *shown in map(str.splitlines, commands):
             words = shlex.split(row)
             if words[0] not in ("avrstk", "./avrstk") or "emu:" not in row:
                 continue
-            words = [it for it in words[1:] if it != "--unproved"]
+            words = [word for word in words[1:] if word != "--unproved"]
             how = {"stdout": subprocess.PIPE, "stderr": subprocess.STDOUT, "text": True}
             ran = subprocess.run([PROGRAM, *words], cwd=folder, **how)
-            wanted = [it for it in shown if "avrstk: unproved: " not in it]
+            wanted = [line for line in shown if "avrstk: unproved: " not in line]
             printed = ran.stdout.splitlines()
             # (tests/recipes.py runs the commands without shown output)
             if wanted:
-                failed = any(it.startswith("avrstk: error: ") for it in wanted)
+                failed = any(line.startswith("avrstk: error: ") for line in wanted)
                 check(f"{file}: {row}", ran.returncode == failed and wanted == printed, printed)
 
 
@@ -78,7 +78,7 @@ def differences_hold():
     table = re.search(r"^ +\$ cat parts.toml\n((?: +.*\n)+?) +\$ avrstk", usage, re.M)[1]
     byte, end = re.search(r"`(:0100.*?)`\s+and\s+then\s+`(:.*?)`", usage).groups()
     files = {
-        "parts.toml": "".join(it.strip() + "\n" for it in table.splitlines()),
+        "parts.toml": "".join(row.strip() + "\n" for row in table.splitlines()),
         "byte.hex": f"{byte}\n{end}\n",
         "noted.hex": f"# a note\n{byte}\n{end}\n",
         "cut.hex": f"{byte}\n",
@@ -88,10 +88,10 @@ def differences_hold():
     with tempfile.TemporaryDirectory() as folder:
         for name, text in files.items():
             Path(folder, name).write_text(text)
-        for words, status, told in rows_of("differences"):
+        for words, status, message in rows_of("differences"):
             ran = subprocess.run([PROGRAM, *words.split()], cwd=folder, capture_output=True, text=True)
-            told = told.replace("LENGTH", str(len(files["noted.hex"])))
-            is_told = told in ran.stderr if told else not ran.stderr
+            message = message.replace("LENGTH", str(len(files["noted.hex"])))
+            is_told = message in ran.stderr if message else not ran.stderr
             check(words, ran.returncode == int(status) and is_told, ran)
         check_equal(
             "one byte of EEPROM", Path(folder, "read.bin").read_bytes(), b"\xff" * 100 + b"\x2a" + b"\xff" * 923
@@ -116,11 +116,11 @@ def pages_are_whole():
         title = re.escape(escaped(name.upper()))
         head = rf'\.TH {title} {SECTIONS[name]} \d{{4}}-\d\d-\d\d "avrstk {re.escape(VERSION)}" '
         check(f"{name} has its name, a date and the version", re.match(head, text), text.splitlines()[0])
-        headings = [it for it in re.findall(r"^\.SH (.*)", text, re.M) if it in HEADINGS]
+        headings = [heading for heading in re.findall(r"^\.SH (.*)", text, re.M) if heading in HEADINGS]
         check_equal(f"{name} has its headings", headings, HEADINGS if SECTIONS[name] == 1 else COMMON)
         shown = re.sub(r'^\.\\".*|\\f.|\\(?=-)', "", text, flags=re.M)
         check_equal(f"{name} names what is installed", NOT_INSTALLED.findall(shown), [])
-        others = {escaped(it) for it in PAGES if it != name}
+        others = {escaped(page) for page in PAGES if page != name}
         named = set(re.findall(r"^\.BR (\S+) \([17]\)", text.split("\n.SH SEE ALSO\n")[1], re.M))
         check(f"{name} names the other pages", others <= named, named)
 
@@ -130,9 +130,9 @@ def pages_have_the_options():
     scripts = [("avrstk", PROGRAM), ("avrstk-serial", TOP / "avrstk-serial"), ("avrstk-serve", TOP / "avrstk-serve")]
     for name, command in scripts:
         ran = subprocess.run([command, "--help"], capture_output=True, text=True)
-        shown = "\n".join(it for it in ran.stdout.splitlines() if not HERE_ALONE.search(it))
+        shown = "\n".join(line for line in ran.stdout.splitlines() if not HERE_ALONE.search(line))
         rows = re.findall(r"^ +(-.*?)(?:  |$)", shown, re.M)
-        wanted = {it for row in rows for it in re.findall(r"(?<![\w-])--?[\w?][\w-]*", row)}
+        wanted = {option for row in rows for option in re.findall(r"(?<![\w-])--?[\w?][\w-]*", row)}
         tags = re.findall(r"^\.T[PQ]\n(.*)", PAGES[name].read_text(), re.M)
         found = set(re.findall(r"(?<![\w-])--?[\w?][\w-]*", " ".join(tags).replace("\\-", "-").replace("\\fB", " ")))
         check(f"{name} --help names options", not ran.returncode and wanted, ran)
@@ -169,10 +169,10 @@ def examples_run():
     """The pages' examples over `emu:` work."""
     with tempfile.TemporaryDirectory() as folder:
         shutil.copy(TOP / "examples/blink.hex", f"{folder}/firmware.hex")
-        for words in (it for name in PAGES for it in examples_of(name)):
-            if not any(it.startswith("emu:") for it in words):
+        for words in (example for name in PAGES for example in examples_of(name)):
+            if not any(word.startswith("emu:") for word in words):
                 continue
-            words = [str(TOP / "parts/classic.toml") if it.endswith("/classic.toml") else it for it in words]
+            words = [str(TOP / "parts/classic.toml") if word.endswith("/classic.toml") else word for word in words]
             ran = subprocess.run([PROGRAM, *words[1:]], cwd=folder, capture_output=True, text=True)
             check(" ".join(words), ran.returncode == 0 and ran.stderr.endswith("avrstk: done\n"), ran)
 
@@ -195,7 +195,7 @@ def names_agree():
     check_equal("the completions are those of --help", set(completed), {name for name, _ in options})
     letters = {name[1] for name, _ in options if len(name) == 2}
     for file, form in LETTERS.items():
-        found = {it for match in re.findall(form, (TOP / file).read_text()) for it in match}
+        found = {letter for match in re.findall(form, (TOP / file).read_text()) for letter in match}
         check_equal(f"{file} has the letters of --help", letters - found, set())
     check("--help names the built-in parts", ", ".join(parts()[:-1]) in shown and parts()[-1] in shown, parts())
     in_clone, installed = re.findall(r"--parts (\S+\.toml)", shown)
@@ -205,7 +205,7 @@ def names_agree():
         f"\n.I {installed}\n" in PAGES["avrstk"].read_text(),
         installed,
     )
-    check("USAGE names the built-in parts", all(f"`{it}` (AT" in USAGE.read_text() for it in parts()), parts())
+    check("USAGE names the built-in parts", all(f"`{part}` (AT" in USAGE.read_text() for part in parts()), parts())
     check("the completions have the built-in parts", f'"{" ".join(parts())}"' in completions, parts())
 
 
@@ -239,8 +239,8 @@ def stated_by(text):
     seen = set()
     for block in text.split("\n\n")[2:]:
         if block.startswith("  "):
-            for it in re.split(r"\n(?=  \S)", block):
-                name = re.split(" {2,}", it.strip())[0]
+            for entry in re.split(r"\n(?=  \S)", block):
+                name = re.split(" {2,}", entry.strip())[0]
                 yield f"In full: {name}" if name in seen else name
                 seen.add(name)
         elif block != "In full:":
@@ -253,18 +253,20 @@ def each_word_of_help():
     rows = rows_of("claims")
     for name, needed in [("avrstk-serial", ["-p ", "-P "]), ("avrstk-serve", ["-p ", "--chip "])]:
         brief, whole = (
-            subprocess.run([TOP / name, it], capture_output=True, text=True).stdout for it in ("-h", "--help")
+            subprocess.run([TOP / name, option], capture_output=True, text=True).stdout for option in ("-h", "--help")
         )
-        check_equal(f"{name} --help has {COLUMNS} columns", [it for it in whole.splitlines() if len(it) > COLUMNS], [])
+        check_equal(
+            f"{name} --help has {COLUMNS} columns", [line for line in whole.splitlines() if len(line) > COLUMNS], []
+        )
         check(f"{name} -h fits a screen", 10 < len(brief.splitlines()) <= LINES, brief)
         check(f"{name} --help begins with -h", whole.startswith(brief), brief)
-        for it in needed:
-            check(f"{name} -h says that {it}is needed", re.search(rf"^  {it}.*required", brief, re.M), brief)
-        own = [it.removeprefix(f"{name} ") for it, _ in rows if it.startswith(f"{name} ")]
-        for said in stated_by(whole):
-            check(f"{name} --help: a row has: {said}", any(said.startswith(it) for it in own))
-        for it in own:
-            check(f"{name} --help has: {it}", any(said.startswith(it) for said in stated_by(whole)))
+        for option in needed:
+            check(f"{name} -h says that {option}is needed", re.search(rf"^  {option}.*required", brief, re.M), brief)
+        own = [claim.removeprefix(f"{name} ") for claim, _ in rows if claim.startswith(f"{name} ")]
+        for statement in stated_by(whole):
+            check(f"{name} --help: a row has: {statement}", any(statement.startswith(claim) for claim in own))
+        for claim in own:
+            check(f"{name} --help has: {claim}", any(statement.startswith(claim) for statement in stated_by(whole)))
     for _, case in rows:
         script, function = case.split()
         text = (TOP / f"tests/{script}.py").read_text()
@@ -281,19 +283,23 @@ VALUES |= {"-C": "avrdude.conf", "-B": "10", "-E": "reset", "-i": "1", "-T": "er
 def letters_of_avrdude():
     """USAGE's table has each option of the installed AVRDUDE, and what avrstk and avrstk-serial do with it."""
     rows = USAGE.read_text().split("| Option of AVRDUDE 7.1 |")[1].split("\n\n")[0].splitlines()[2:]
-    told = {letter: cells(row)[1:] for row in rows for letter in re.findall(r"(?<=`)-\S", cells(row)[0])}
+    described = {letter: cells(row)[1:] for row in rows for letter in re.findall(r"(?<=`)-\S", cells(row)[0])}
     if shutil.which("avrdude"):
         shown = subprocess.run(["avrdude", "-?"], capture_output=True, text=True).stderr
         wanted = set(re.findall(r"^  (-\S) ", shown, re.M))
         check("AVRDUDE has options", len(wanted) > 20, shown)
-        check_equal("the options of AVRDUDE that the table lacks", wanted - set(told), set())
+        check_equal("the options of AVRDUDE that the table lacks", wanted - set(described), set())
     else:
         leave_out("the options of AVRDUDE", "it is not installed")
     with tempfile.TemporaryDirectory() as folder:
-        for letter, kinds in told.items():
+        for letter, kinds in described.items():
             for program, kind in zip([PROGRAM, TOP / "avrstk-serial"], kinds):
                 own = {"-p": "m328p", "-P": "emu:chip.bin"} | ({letter: VALUES[letter]} if letter in VALUES else {})
-                words = [program, *(it for pair in own.items() for it in pair), *([] if letter in own else [letter])]
+                words = [
+                    program,
+                    *(word for pair in own.items() for word in pair),
+                    *([] if letter in own else [letter]),
+                ]
                 ran = subprocess.run(words, cwd=folder, capture_output=True, text=True, env=os.environ | AVRSTK)
                 found = "refused" if ran.returncode else "ignored" if "ignored: " in ran.stderr else "accepted"
                 check_equal(f"{program.name} {letter}", found, re.match(r"\w+", kind)[0])

@@ -105,10 +105,15 @@ def settings_of(words):
         raise Refused("no port given (-P)" if port is None else f"port {port} is not known")
     if len(texts) > 16:
         raise Refused("more than 16 updates")
-    updates = [about(f"update {number}", update_of, it) for number, it in enumerate(texts, 1)]
-    streams = [it for it in updates if it.file == "-" and it.format != "m"]
-    inputs = [it for it in streams if it.op != "r"]
-    taken = [values.get("parts"), values.get("chip"), port[4:], *(it.file for it in streams if port == "stdio:")]
+    updates = [about(f"update {number}", update_of, text) for number, text in enumerate(texts, 1)]
+    streams = [update for update in updates if update.file == "-" and update.format != "m"]
+    inputs = [update for update in streams if update.op != "r"]
+    taken = [
+        values.get("parts"),
+        values.get("chip"),
+        port[4:],
+        *(update.file for update in streams if port == "stdio:"),
+    ]
     if "-" in taken or len(inputs) > 1:
         raise Refused("standard streams are taken")
     return Settings(values["p"], port, values.get("parts"), updates, flags)
@@ -153,7 +158,7 @@ def parts_of(text):
                 raise Refused(f"{field} is missing")
             if not is_good(field, tables[name][field]):
                 raise Refused(f"{field} has a bad value")
-        signature, *sizes = (tables[name][it] for it in FIELDS)
+        signature, *sizes = (tables[name][field] for field in FIELDS)
         part = Part(name, bytes.fromhex(signature), *sizes)
         if part.flash_size % part.flash_page or part.eeprom_size % part.eeprom_page:
             raise Refused("sizes do not fit")
@@ -246,7 +251,7 @@ def detected(content):
     """Returns the format of a file."""
     if content[:4] == b"\x7fELF":
         raise Refused("ELF is not read")
-    first = next((it for it in content[:1024].split(b"\n") if it.strip(b" \t\r")), b"")
+    first = next((line for line in content[:1024].split(b"\n") if line.strip(b" \t\r")), b"")
     if re.match(rb":[0-9A-Fa-f]{10}", first):
         return "i"
     return "s" if re.match(rb"S[0-9][0-9A-Fa-f]{8}", first) else "r"
@@ -290,14 +295,14 @@ def ihex_of(content):
         rows += [b"\x02\x00\x00\x04" + (at >> 16).to_bytes(2, "big")] if at and at % 65_536 == 0 else []
         data = content[at : at + 32]
         rows.append(bytes([len(data)]) + (at % 65_536).to_bytes(2, "big") + b"\x00" + data)
-    return [f":{it.hex()}{-sum(it) % 256:02x}" for it in [*rows, b"\x00\x00\x00\x01"]]
+    return [f":{row.hex()}{-sum(row) % 256:02x}" for row in [*rows, b"\x00\x00\x00\x01"]]
 
 
 def srec_of(content):
     wide = 2 if len(content) <= 65_536 else 3
     rows = [(wide - 1, at.to_bytes(wide, "big") + content[at : at + 32]) for at in range(0, len(content), 32)]
-    held = [(kind, bytes([len(it) + 1]) + it) for kind, it in [*rows, (11 - wide, bytes(wide))]]
-    return [f"S{kind}{it.hex()}{~sum(it) & 255:02x}" for kind, it in held]
+    held = [(kind, bytes([len(body) + 1]) + body) for kind, body in [*rows, (11 - wide, bytes(wide))]]
+    return [f"S{kind}{record.hex()}{~sum(record) & 255:02x}" for kind, record in held]
 
 
 def text_of(format, content):
@@ -305,8 +310,8 @@ def text_of(format, content):
     if format == "r":
         return content
     if format in "is":
-        return "".join(f"{it.upper()}\n" for it in (ihex_of if format == "i" else srec_of)(content)).encode()
-    shown = {"d": str, "h": hex, "b": bin, "o": lambda it: f"0{it:o}" if it > 7 else str(it)}[format]
+        return "".join(f"{record.upper()}\n" for record in (ihex_of if format == "i" else srec_of)(content)).encode()
+    shown = {"d": str, "h": hex, "b": bin, "o": lambda byte: f"0{byte:o}" if byte > 7 else str(byte)}[format]
     return (",".join(map(shown, content)) + "\n").encode()
 
 
@@ -345,7 +350,7 @@ class Programmer:
     def read(self, code, body):
         if code in (0x14, 0x16):
             held, at = (self.flash, 2 * self.address) if code == 0x14 else (self.eeprom, self.address)
-            return bytes(held[(at + it) % len(held)] for it in range(int.from_bytes(body[1:3], "big")))
+            return bytes(held[(at + offset) % len(held)] for offset in range(int.from_bytes(body[1:3], "big")))
         if code in (0x1B, 0x1C):
             return self.part.signature[body[4] : body[4] + 1] if code == 0x1B else b"\xff"
         return bytes([self.bytes[[b"\x50\x00", b"\x58\x08", b"\x50\x08", b"\x58\x00"].index(body[2:4])]])
@@ -380,7 +385,7 @@ class Host:
     def __init__(self, link, part):
         self.link, self.part, self.number = link, part, 0
 
-    def heard(self):
+    def received(self):
         """Returns the body of the reply to the last frame, or what ends the attempt."""
         held = bytearray()
         for _ in range(4096):
@@ -403,7 +408,7 @@ class Host:
             for body, count in commands:
                 self.number += 1
                 self.link.send(frame(self.number, body))
-                reply = self.heard()
+                reply = self.received()
                 why = SPOILED if reply == b"\xb0\xc1" else reply
                 if isinstance(why, str):
                     break
@@ -431,7 +436,7 @@ class Host:
         return b"\x06" + (high + (address // 2 if memory == "flash" else address)).to_bytes(4, "big"), 0
 
     def signature(self):
-        return b"".join(self.step((bytes([0x1B, 4, 0x30, 0, it, 0]), 1)) for it in range(3))
+        return b"".join(self.step((bytes([0x1B, 4, 0x30, 0, place, 0]), 1)) for place in range(3))
 
     def read(self, memory):
         if memory == "signature":
@@ -467,9 +472,13 @@ def page_runs_of(image, size):
     """Returns the address and the bytes of each run of the image inside of a page."""
     runs = {}
     for at in sorted(image):
-        begun = next((it for it in runs if it + len(runs[it]) == at and at % size), at)
+        begun = next((start for start in runs if start + len(runs[start]) == at and at % size), at)
         runs[begun] = runs.get(begun, b"") + bytes([image[at]])
     return sorted(runs.items())
+
+
+def digits_of(signature):
+    return signature.hex(" ").upper()
 
 
 class Ended(Exception):
@@ -481,7 +490,7 @@ class Run:
 
     def __init__(self, words, files, line):
         self.files, self.output, self.lines, self.line, self.link = dict(files), b"", [], line, None
-        self.quiet = self.status = 0
+        self.quiet, self.status, self.host = 0, 0, None
         try:
             self.settings = settings_of(words)
             self.quiet = self.settings.flags["q"]
@@ -490,7 +499,7 @@ class Run:
             self.lines.append(f"error: {why}")
             self.status = 1
 
-    def tell(self, text):
+    def report(self, text):
         self.lines += [text] if self.quiet < 1 else []
 
     def warn(self, text):
@@ -506,10 +515,10 @@ class Run:
         asked, parts = self.settings, []
         if asked.parts is not None:
             parts = about(asked.parts, parts_of, self.content(asked.parts).decode())
-        part = next((it for it in [*parts, *BUILT_IN] if it.id == asked.part), None)
+        part = next((known for known in [*parts, *BUILT_IN] if known.id == asked.part), None)
         if not part:
             raise Refused(f"no part {asked.part}")
-        return part, [(it, self.image(part, it)) for it in asked.updates]
+        return part, [(update, self.image(part, update)) for update in asked.updates]
 
     def image(self, part, update):
         if update.op == "r":
@@ -527,7 +536,7 @@ class Run:
     def run(self):
         part, tasks = self.plan()
         chip = self.settings.port[4:] if self.settings.port.startswith("emu:") else None
-        if chip in [it.file for it, _ in tasks if it.op == "r"]:
+        if chip in [update.file for update, _ in tasks if update.op == "r"]:
             raise Refused(f"{chip}: cannot be created")
         held, size = self.files.get(chip), part.flash_size + part.eeprom_size + 4
         if held is not None and len(held) != size:
@@ -541,13 +550,13 @@ class Run:
         finally:
             if chip:
                 self.files[chip] = self.link.programmer.file()
-        self.tell("done")
+        self.report("done")
 
     def session(self, part, tasks):
         leave = bytes.fromhex("11 01 01"), 0
         try:
             self.open(part)
-            self.erase(any(it.op == "w" and it.memory == "flash" for it, _ in tasks))
+            self.erase(any(update.op == "w" and update.memory == "flash" for update, _ in tasks))
             for update, image in tasks:
                 self.do(update, image)
         except Refused:
@@ -559,10 +568,10 @@ class Run:
     def open(self, part):
         self.host.step((b"\x01", 0))
         self.host.step((bytes.fromhex("10 C8 64 19 20 00 53 03 AC 53 00 00"), 0))
-        found, shown = self.host.signature(), lambda it: it.hex(" ").upper()
-        self.tell(f"device signature = {shown(found)}")
+        found = self.host.signature()
+        self.report(f"device signature = {digits_of(found)}")
         if found != part.signature:
-            text = f"signature is {shown(found)}, {part.id} has {shown(part.signature)}"
+            text = f"signature is {digits_of(found)}, {part.id} has {digits_of(part.signature)}"
             if not self.settings.flags["F"]:
                 raise Refused(text)
             self.warn(text)
@@ -574,7 +583,7 @@ class Run:
                 self.warn("chip not erased because of -n")
         elif flags["e"] or writes_flash and not flags["D"]:
             self.host.step((bytes.fromhex("12 09 00 AC 80 00 00"), 0))
-            self.tell("chip erased")
+            self.report("chip erased")
 
     def do(self, update, image):
         memory, flags = update.memory, self.settings.flags
@@ -586,15 +595,15 @@ class Run:
                 self.output += text
             else:
                 self.files[update.file] = text
-            return self.tell(f"{memory}: {len(content)} bytes read")
+            return self.report(f"{memory}: {len(content)} bytes read")
         if update.op == "w" and flags["n"]:
-            return self.tell(f"{memory}: {len(image)} bytes not written")
+            return self.report(f"{memory}: {len(image)} bytes not written")
         if update.op == "w":
             self.host.write(memory, image)
-            self.tell(f"{memory}: {len(image)} bytes written")
+            self.report(f"{memory}: {len(image)} bytes written")
         if update.op == "v" or not flags["V"]:
             content = self.host.read(memory)
             for at in sorted(image):
                 if content[at] != image[at]:
                     raise Refused(f"{memory}: address {at:08X}: {image[at]:02X} expected, {content[at]:02X} found")
-            self.tell(f"{memory}: {len(image)} bytes verified")
+            self.report(f"{memory}: {len(image)} bytes verified")

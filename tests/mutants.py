@@ -67,7 +67,9 @@ def built(folder, rows):
     """Builds the program with all edits in a folder, and returns its bytes; None if it isn't built."""
     left = shutil.ignore_patterns("out", "must-fail", "avrstk_session", "avr_laws")
     shutil.copytree(TOP / "crates", folder / "crates", ignore=left)
-    kept = [it for it in (TOP / "crates.txt").read_text().splitlines() if not re.match("avrstk_session|avr_laws", it)]
+    kept = [
+        line for line in (TOP / "crates.txt").read_text().splitlines() if not re.match("avrstk_session|avr_laws", line)
+    ]
     (folder / "crates.txt").write_text("\n".join(kept) + "\n")
     shutil.copytree(TOP / "tools", folder / "tools")
     shutil.copy(TOP / "avrstk", folder)
@@ -122,9 +124,9 @@ def try_all(folder, program, rows):
     put_program(folder / "edit0/avrstk", program, 0)
     cases = list(dict.fromkeys(row[4] for row in rows))
     with ThreadPoolExecutor(LANES) as lanes:
-        good = dict(zip(cases, lanes.map(lambda it: passes(folder / "edit0/avrstk", it), cases)))
+        good = dict(zip(cases, lanes.map(lambda case: passes(folder / "edit0/avrstk", case), cases)))
         numbered = [(number, row) for number, row in enumerate(rows, 1) if good[row[4]]]
-        list(lanes.map(lambda it: is_refused(folder, program, *it), numbered))
+        list(lanes.map(lambda pair: is_refused(folder, program, *pair), numbered))
 
 
 def main():

@@ -59,7 +59,7 @@ PROGRAMS_PROVED = (
     "The behaviour of avrstk and avrstk_session is proved. "
     "The scripts avrstk-serial and avrstk-serve are tested. Proved"
 )
-DEVELOPMENT = [f"usr/{it}" for it, in table("library") if "NUMBER" not in it]
+DEVELOPMENT = [f"usr/{path}" for path, in table("library") if "NUMBER" not in path]
 
 
 class Packager(Clone):
@@ -97,13 +97,13 @@ class Packager(Clone):
         return self.git("rev-parse", "HEAD").strip()
 
     def packages(self):
-        return {it.name: it.read_bytes() for it in self.made.iterdir()}
+        return {file.name: file.read_bytes() for file in self.made.iterdir()}
 
 
 def ended(started):
     """Returns the status of a run, and its output."""
-    told = started.communicate(timeout=PATIENCE)[0]
-    return started.returncode, told
+    output = started.communicate(timeout=PATIENCE)[0]
+    return started.returncode, output
 
 
 def field(package, name):
@@ -112,7 +112,7 @@ def field(package, name):
 
 def files(folder):
     """Returns the files under a folder."""
-    return sorted(str(it.relative_to(folder)) for it in folder.rglob("*") if it.is_symlink() or not it.is_dir())
+    return sorted(str(path.relative_to(folder)) for path in folder.rglob("*") if path.is_symlink() or not path.is_dir())
 
 
 ROOM = tempfile.TemporaryDirectory()
@@ -122,7 +122,7 @@ ROOM = tempfile.TemporaryDirectory()
 def made():
     """Makes the packages in two clones at the same time, as two users with different settings."""
     os.chmod(ROOM.name, 0o755)
-    clones = [Packager(ROOM.name, it) for it in ["one", "two"]]
+    clones = [Packager(ROOM.name, name) for name in ["one", "two"]]
     if SOMEBODY:
         clones[1].give_to("65534:65534")
     private = ["sh", "-c", 'umask 077 && exec "$0" "$@"']
@@ -131,9 +131,9 @@ def made():
     # (so the files of the two clones have different times)
     time.sleep(1.1)
     started.append(clones[1].start("--with-c", front=[*SOMEBODY, *private], LC_ALL="C.UTF-8"))
-    for status, told in [ended(it) for it in started]:
+    for status, output in [ended(process) for process in started]:
         if status:
-            raise SystemExit(f"tools/package.sh ends with {status}: {told}")
+            raise SystemExit(f"tools/package.sh ends with {status}: {output}")
     return clones
 
 
@@ -145,10 +145,13 @@ def package(name):
 
 def packages_are_the_same():
     """Two clones make identical packages."""
-    one, two = (it.packages() for it in made())
+    one, two = (clone.packages() for clone in made())
     arch = field(package("avrstk"), "Architecture")
     debs = [("avrstk", f"{VERSION}~unproved"), (f"libavr-records{NUMBER}", VERSION), ("libavr-records-dev", VERSION)]
-    wanted = [f"avrstk-{VERSION}~unproved-{os.uname().machine}.tar.xz", *(f"{it}_{of}_{arch}.deb" for it, of in debs)]
+    wanted = [
+        f"avrstk-{VERSION}~unproved-{os.uname().machine}.tar.xz",
+        *(f"{name}_{of}_{arch}.deb" for name, of in debs),
+    ]
     check_equal("the packages", sorted(one), sorted(wanted))
     check_equal("those of the other clone", sorted(two), sorted(one))
     for name, content in one.items():
@@ -159,13 +162,13 @@ def packages_say_what_they_are():
     """Each Debian package names its commit and kit. The program's package states that nothing of it was proved; the
     library's package states that it is proved, because `rt lib` proves it."""
     for name in ["avrstk", f"libavr-records{NUMBER}", "libavr-records-dev"]:
-        told = field(package(name), "Description")
-        flat = " ".join(told.split())
+        description = field(package(name), "Description")
+        flat = " ".join(description.split())
         mark, proof = (" (unproved build)", UNPROVED) if name == "avrstk" else ("", PROVED)
-        check(f"{name} is marked in its first line or not", told.splitlines()[0].endswith(mark), told)
+        check(f"{name} is marked in its first line or not", description.splitlines()[0].endswith(mark), description)
         check_equal(f"{name} states once what is proved", flat.count(f"{proof}, by {KIT}. "), 1)
         check_equal(f"{name} states whether it is unproved", "unproved" in flat.lower(), bool(mark))
-        check(f"{name} has the commit", f"Commit {made()[0].commit()}" in flat, told)
+        check(f"{name} has the commit", f"Commit {made()[0].commit()}" in flat, description)
     depends = field(package("avrstk"), "Depends")
     check(
         "avrstk depends on libc6 and Python", re.match(r"libc6 \(>= 2\.\d+\).*, python3 \(>= 3\.8\)$", depends), depends
@@ -180,7 +183,7 @@ def a_proved_program_is_not_marked():
     that."""
     clone = made()[0]
     shutil.rmtree(clone.made)
-    for name in [it.name for it in (clone.top / "crates").glob("avrstk*")]:
+    for name in [folder.name for folder in (clone.top / "crates").glob("avrstk*")]:
         program = clone.top / "crates" / name / "out" / name
         program.parent.mkdir(exist_ok=True)
         subprocess.run(["gcc", "-x", "c", "-o", program, "-"], input=b"int main(void) { return 0; }", check=True)
@@ -188,8 +191,8 @@ def a_proved_program_is_not_marked():
     program = clone.top / "crates/avrstk/out/avrstk"
     with open(clone.top / "README.md", "a") as readme:
         readme.write("changed\n")
-    status, told = ended(clone.start())
-    check_equal("two packages are made", (status, re.findall("^made", told, re.M)), (0, ["made"] * 2))
+    status, output = ended(clone.start())
+    check_equal("two packages are made", (status, re.findall("^made", output, re.M)), (0, ["made"] * 2))
     found = package("avrstk")
     description = field(found, "Description")
     check_equal("its version", field(found, "Version"), VERSION)
@@ -198,13 +201,13 @@ def a_proved_program_is_not_marked():
     check("it states that it is proved", f"{PROGRAMS_PROVED} by {KIT}." in flat, description)
     check("and of changes", f"Commit {made()[0].commit()}, with changes since." in flat, description)
     shutil.copy(clone.top / "out/unproved/avrstk", program)
-    status, told = ended(clone.start(AVRSTK=str(program)))
+    status, output = ended(clone.start(AVRSTK=str(program)))
     (found,) = clone.made.glob("avrstk_*~unproved_*.deb")
     description = " ".join(field(found, "Description").split())
     check(
         "the unproved program in the proved one's place is marked",
         UNPROVED in description and PROGRAMS_PROVED not in description,
-        told,
+        output,
     )
 
 
@@ -221,30 +224,39 @@ def packages_hold_what_is_installed():
         environment = os.environ | {"AVRSTK": str(PROGRAM), "PATH": f"{made()[1].folder}/bin:{os.environ['PATH']}"}
         subprocess.run([TOP / "install.sh", prefix], env=environment, check=True, stdout=subprocess.DEVNULL)
         (prefix / "share/avrstk/manifest").unlink()
-        placed = [it.replace("zsh/site-functions", "zsh/vendor-completions") for it in files(prefix)]
-        wanted = [f"usr/{it}{'.gz' if it.endswith(('.1', '.7')) else ''}" for it in placed]
+        placed = [path.replace("zsh/site-functions", "zsh/vendor-completions") for path in files(prefix)]
+        wanted = [f"usr/{path}{'.gz' if path.endswith(('.1', '.7')) else ''}" for path in placed]
         docs = ["built-from", "changelog.gz", "copyright"]
-        own = [*docs, "examples/blink.hex", *(f"{it}.md" for it in DOCUMENTS)]
+        own = [*docs, "examples/blink.hex", *(f"{name}.md" for name in DOCUMENTS)]
         found = unpacked("avrstk", Path(folder, "avrstk"))
-        check_equal("avrstk", found, sorted([*wanted, *(f"usr/share/doc/avrstk/{it}" for it in own)]))
+        check_equal("avrstk", found, sorted([*wanted, *(f"usr/share/doc/avrstk/{path}" for path in own)]))
         name = f"libavr-records{NUMBER}"
-        wanted = [f"usr/lib/libavr_records.so.{NUMBER}", *(f"usr/share/doc/{name}/{it}" for it in docs)]
+        wanted = [f"usr/lib/libavr_records.so.{NUMBER}", *(f"usr/share/doc/{name}/{document}" for document in docs)]
         check_equal(name, unpacked(name, Path(folder, "shared")), wanted)
-        wanted = [*DEVELOPMENT, *(f"usr/share/doc/libavr-records-dev/{it}" for it in docs)]
+        wanted = [*DEVELOPMENT, *(f"usr/share/doc/libavr-records-dev/{document}" for document in docs)]
         check_equal("libavr-records-dev", unpacked("libavr-records-dev", Path(folder, "dev")), wanted)
         copyright = Path(folder, "avrstk/usr/share/doc/avrstk/copyright").read_text()
         check("the package states that there is no licence", "There is no licence yet." in copyright, copyright)
-        told = Path(folder, "avrstk/usr/share/doc/avrstk/built-from").read_text()
-        check("and what it was built from", all(it in told for it in [KIT, made()[0].commit(), UNPROVED]), told)
-        modes = {it: oct((Path(folder, "avrstk") / it).stat().st_mode & 0o777) for it in found}
-        programs = {it for it, mode in modes.items() if mode == "0o755"}
-        wanted = {it for it in found if it.startswith(("usr/bin/", "usr/lib/")) and not it.endswith((".py", ".stamp"))}
+        built_from = Path(folder, "avrstk/usr/share/doc/avrstk/built-from").read_text()
+        check(
+            "and what it was built from",
+            all(text in built_from for text in [KIT, made()[0].commit(), UNPROVED]),
+            built_from,
+        )
+        modes = {path: oct((Path(folder, "avrstk") / path).stat().st_mode & 0o777) for path in found}
+        programs = {path for path, mode in modes.items() if mode == "0o755"}
+        wanted = {
+            path for path in found if path.startswith(("usr/bin/", "usr/lib/")) and not path.endswith((".py", ".stamp"))
+        }
         check_equal("programs alone can be run", programs, wanted)
         first = {
-            (Path(folder, "avrstk/usr/bin") / it).read_text().split("\n")[0] for it in ["avrstk-serial", "avrstk-serve"]
+            (Path(folder, "avrstk/usr/bin") / name).read_text().split("\n")[0]
+            for name in ["avrstk-serial", "avrstk-serve"]
         }
         check_equal("the scripts name Debian's Python", first, {"#!/usr/bin/python3"})
-        check_equal("all others can be read by everybody", {modes[it] for it in found if it not in programs}, {"0o644"})
+        check_equal(
+            "all others can be read by everybody", {modes[path] for path in found if path not in programs}, {"0o644"}
+        )
 
 
 def runs(prefix, folder):
@@ -253,7 +265,7 @@ def runs(prefix, folder):
     words = ["-p", "m328p", "-P", "emu:chip.bin", "-U", f"flash:w:{TOP}/examples/blink.hex:i"]
     ran = subprocess.run([prefix / "bin/avrstk", *words], **how)
     check_equal("avrstk", (ran.returncode, ran.stderr.splitlines()[-1:]), (0, ["avrstk: done"]))
-    for script in sorted(it.name for it in (prefix / "bin").iterdir() if it.name != "avrstk"):
+    for script in sorted(file.name for file in (prefix / "bin").iterdir() if file.name != "avrstk"):
         ran = subprocess.run([prefix / "bin" / script, "--help"], **how)
         check(f"{script} --help", ran.returncode == 0 and script in ran.stdout, ran)
     ran = subprocess.run([prefix / "bin/avrstk-serial", "-p", "?"], **how)
@@ -272,13 +284,15 @@ def documents_are_the_packages_own():
     with tempfile.TemporaryDirectory() as folder:
         unpacked("avrstk", Path(folder, "root"))
         docs = Path(folder, "root/usr/share/doc/avrstk")
-        headings = {it.name: set(map(slug, re.findall(r"^#+ (.*)$", it.read_text(), re.M))) for it in docs.glob("*.md")}
+        headings = {
+            file.name: set(map(slug, re.findall(r"^#+ (.*)$", file.read_text(), re.M))) for file in docs.glob("*.md")
+        }
         for name in headings:
             for target in re.findall(r"\]\(([^)]*)\)", (docs / name).read_text()):
                 file, _, heading = target.partition("#")
                 is_there = heading in headings.get(file or name, {}) if heading else file in headings
                 check(f"the link to {target} in {name}", is_there)
-        check("commands name no repository", "$ ./" not in "".join((docs / it).read_text() for it in headings))
+        check("commands name no repository", "$ ./" not in "".join((docs / name).read_text() for name in headings))
         readme = (docs / "README.md").read_text()
         check("its README is short", 15 <= readme.count("\n") <= 35, readme.count("\n"))
         # the place of /usr in PATH; a folder that is no clone, with the firmware of the board
@@ -297,21 +311,23 @@ def package_is_installed_and_removed():
     """dpkg installs the package under a folder. It runs there, and dpkg removes all of it."""
     with tempfile.TemporaryDirectory() as folder:
         root = Path(folder, "root")
-        for it in ["updates", "info", "triggers"]:
-            (root / "var/lib/dpkg" / it).mkdir(parents=True)
+        for name in ["updates", "info", "triggers"]:
+            (root / "var/lib/dpkg" / name).mkdir(parents=True)
         (root / "var/lib/dpkg/status").write_text("")
         # (its dependencies are not installed under that folder)
         dpkg = ["dpkg", f"--root={root}", "--force-not-root", "--force-depends", "--log=/dev/null"]
         how = {"capture_output": True, "text": True}
-        ran = subprocess.run([*dpkg, "-i", *(package(it) for it in ["avrstk", f"libavr-records{NUMBER}"])], **how)
-        check_equal("the status of dpkg -i", ran.returncode, 0) or print(ran.stderr)
+        ran = subprocess.run([*dpkg, "-i", *(package(name) for name in ["avrstk", f"libavr-records{NUMBER}"])], **how)
+        if not check_equal("the status of dpkg -i", ran.returncode, 0):
+            print(ran.stderr)
         listed = subprocess.run(
             ["dpkg-query", f"--admindir={root}/var/lib/dpkg", "-W", "-f", "${Status} ", "avrstk"], **how
         )
         check_equal("dpkg has it", listed.stdout, "install ok installed ")
         runs(root / "usr", folder)
         ran = subprocess.run([*dpkg, "-P", "avrstk", f"libavr-records{NUMBER}"], **how)
-        check_equal("the status of dpkg -P", ran.returncode, 0) or print(ran.stderr)
+        if not check_equal("the status of dpkg -P", ran.returncode, 0):
+            print(ran.stderr)
         check_equal("what is left", files(root / "usr") if (root / "usr").exists() else [], [])
 
 
@@ -338,13 +354,13 @@ def refusals():
     """tools/package.sh refuses a program that isn't there, and an option that it doesn't know."""
     clone = made()[1]
     nothing = f"{clone.folder}/nothing"
-    told = f"package.sh: error: {nothing} is not there\n"
-    check_equal("a program that is not there", ended(clone.start(AVRSTK=nothing)), (1, told))
-    told = "package.sh: error: usage: tools/package.sh [--with-c] FOLDER\n"
-    check_equal("an option that is not known", ended(clone.start("--other")), (1, told))
+    message = f"package.sh: error: {nothing} is not there\n"
+    check_equal("a program that is not there", ended(clone.start(AVRSTK=nothing)), (1, message))
+    message = "package.sh: error: usage: tools/package.sh [--with-c] FOLDER\n"
+    check_equal("an option that is not known", ended(clone.start("--other")), (1, message))
     (clone.top / "out/unproved/avrstk").unlink()
-    status, told = ended(clone.start())
-    check_equal("no program", (status, "avrstk: error: not built yet" in told), (1, True))
+    status, message = ended(clone.start())
+    check_equal("no program", (status, "avrstk: error: not built yet" in message), (1, True))
 
 
 FROM_BOTH = [
@@ -359,7 +375,7 @@ CASES = named(*FROM_BOTH, *RUN, a_proved_program_is_not_marked, refusals)
 
 
 def main():
-    lacking = [it for it in NEEDED if not shutil.which(it)]
+    lacking = [tool for tool in NEEDED if not shutil.which(tool)]
     if lacking or not (TOP / ".git").exists():
         leave_out("the packages", f"{', '.join(lacking)} not installed" if lacking else "this is no clone")
         CASES.clear()

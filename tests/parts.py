@@ -63,7 +63,7 @@ def configured():
             parts.setdefault(cells[0], {"": {}})[""][cells[1]] = cells[2].strip().strip('"')
         elif kind in (".ptop", ".ptmm", ".ptmmop") and len(cells) >= 4:
             parts[cells[0]].setdefault(cells[1], {})[cells[2]] = cells[3]
-    return {name: it for name, it in parts.items() if "PM_ISP" in it[""].get("prog_modes", "")}
+    return {name: part for name, part in parts.items() if "PM_ISP" in part[""].get("prog_modes", "")}
 
 
 def bits(text):
@@ -75,7 +75,7 @@ def fits(text, sent):
     """Returns whether these first bytes match the operation, except for the bits that it leaves open."""
     wanted = "".join(f"{byte:08b}" for byte in sent)
     letters = bits(text)
-    return len(letters) == 32 and all(it in (bit, "x", "a", "i", "o") for it, bit in zip(letters, wanted))
+    return len(letters) == 32 and all(letter in (bit, "x", "a", "i", "o") for letter, bit in zip(letters, wanted))
 
 
 def number(part, memory, name):
@@ -108,7 +108,7 @@ def lacking(part):
 
 def by_avrdude(part):
     """Returns a part's fields from the configuration, except the EESAVE bit, which isn't in it."""
-    signature = "".join(f"{int(it, 0):02X}" for it in part[""]["signature"].split())
+    signature = "".join(f"{int(byte, 0):02X}" for byte in part[""]["signature"].split())
     sizes = [number(part, memory, name) for memory in ("flash", "eeprom") for name in ("size", "page_size")]
     return dict(zip(FIELDS, [signature, *sizes]))
 
@@ -134,7 +134,7 @@ def eesave_fuse(name):
         low = row.lower()
         if "/*" in low and "fuse" in low and not low.lstrip().startswith("#"):
             marks = [("efuse", ("extended", "efuse")), ("hfuse", ("high", "hfuse")), ("lfuse", ("low", "lfuse"))]
-            fuse = next((it for it, words in marks if any(word in low for word in words)), fuse)
+            fuse = next((found for found, words in marks if any(word in low for word in words)), fuse)
         if re.match(r"#\s*define\s+FUSE_EESAVE\b", row):
             return fuse
     return None
@@ -153,7 +153,7 @@ def by_headers(name):
         return int(re.sub(r"[()UuLl]", "", defined[name].split("/*")[0]).strip(), 0)
 
     included = re.findall(r'^# \d+ "[^"]*/avr/(io[^"/]+\.h)"', ran.stdout, re.M)
-    device = next((it for it in included if it != "io.h"), None)
+    device = next((header for header in included if header != "io.h"), None)
     try:
         signature = "".join(f"{value(f'SIGNATURE_{at}'):02X}" for at in range(3))
         sizes = [value("FLASHEND") + 1, value("SPM_PAGESIZE"), value("E2END") + 1, value("E2PAGESIZE")]
@@ -175,7 +175,7 @@ def sources():
             here, there = by_avrdude(part), by_headers(name.split()[0])
             if there is None:
                 why = "EESAVE not known of two sources"
-            elif here != {it: there[it] for it in here}:
+            elif here != {field: there[field] for field in here}:
                 why = "two sources differ"
             else:
                 parts[short] = (name.split()[0].lower(), there, part)
@@ -186,27 +186,29 @@ def sources():
 
 def row(name, fields):
     """Returns a part's line in the file."""
-    told = ", ".join(f'{it} = "{fields[it]}"' if it == "signature" else f"{it} = {fields[it]}" for it in FIELDS)
-    return f"{name} = {{ {told} }}\n"
+    described = ", ".join(
+        f'{field} = "{fields[field]}"' if field == "signature" else f"{field} = {fields[field]}" for field in FIELDS
+    )
+    return f"{name} = {{ {described} }}\n"
 
 
 def made(parts):
     """Returns the file's text."""
     names = sorted((name, fields) for short, (long, fields, _) in parts.items() for name in (short, long))
-    return HEAD + "".join(row(*it) for it in names)
+    return HEAD + "".join(row(*pair) for pair in names)
 
 
 def mask(memory):
     """Returns the bits of a fuse or lock that a write gives, in hexadecimal digits; a dash if another is read as 0."""
-    given, read = (bits(memory[it])[24:] for it in ("write", "read"))
-    return "-" if "0" in read else f"{sum(1 << (7 - at) for at, it in enumerate(given) if it == 'i'):02X}"
+    given, read = (bits(memory[operation])[24:] for operation in ("write", "read"))
+    return "-" if "0" in read else f"{sum(1 << (7 - at) for at, letter in enumerate(given) if letter == 'i'):02X}"
 
 
 def made_bits(parts):
     """Returns the text of bits.txt."""
     rows = {}
-    for long, _, part in sorted(parts.values(), key=lambda it: it[0]):
-        masks = " ".join(mask(part[it]) for it in ("lfuse", "hfuse", "efuse", "lock"))
+    for long, _, part in sorted(parts.values(), key=lambda entry: entry[0]):
+        masks = " ".join(mask(part[memory]) for memory in ("lfuse", "hfuse", "efuse", "lock"))
         rows.setdefault(masks, []).append(long)
     return HEAD_OF_BITS + "".join(f"{' '.join(names)}: {masks}\n" for masks, names in sorted(rows.items()))
 
@@ -226,9 +228,9 @@ def files_of_parts():
     check_equal("classic.toml", CLASSIC.read_text(), made(parts))
     check_equal("bits.txt", BITS.read_text(), made_bits(parts))
     listed, others = PAGE.read_text().split("## The others")
-    names = [it[2][""]["desc"].split()[0] for it in parts.values()]
+    names = [entry[2][""]["desc"].split()[0] for entry in parts.values()]
     check_equal("docs/PARTS has the parts", set(re.findall(r"\bAT\w+\d\w*", listed)), set(names))
-    for name in [it.split()[0] for names in without.values() for it in names]:
+    for name in [entry.split()[0] for names in without.values() for entry in names]:
         check(f"docs/PARTS gives the reason why {name} is not in", re.search(rf"\b{name}\b", others))
 
 
@@ -237,16 +239,16 @@ def loaded():
     checks its whole part file, so only two names get the whole file, and the others their own line."""
     room = Room()
     file = tomllib.loads(CLASSIC.read_text())["parts"]
-    for name, it in sampled("names of parts", 40, file.items()):
+    for name, fields in sampled("names of parts", 40, file.items()):
         room.clear()
-        room.put("one.toml", ("[parts]\n" + row(name, it)).encode())
+        room.put("one.toml", ("[parts]\n" + row(name, fields)).encode())
         given = str(CLASSIC) if name in ("atmega328p", "t88") else "one.toml"
         words = ["--parts", given, "-p", name, "-P", "emu:chip.bin", "-q", "-U", "signature:r:-:h"]
-        status, output, told = room.run(words)
+        status, output, messages = room.run(words)
         read = bytes(int(text, 0) for text in re.split(rb"[\s,]+", output.strip())).hex().upper() if output else ""
-        check(f"{name} is loaded", (status, read) == (0, it["signature"]), (status, output, told))
+        check(f"{name} is loaded", (status, read) == (0, fields["signature"]), (status, output, messages))
         length = len(room.read("chip.bin") or b"")
-        check(f"{name}: the chip", length == it["flash_size"] + it["eeprom_size"] + 4, length)
+        check(f"{name}: the chip", length == fields["flash_size"] + fields["eeprom_size"] + 4, length)
 
 
 def values_of(part, drawn, eesave_bit):
@@ -255,7 +257,7 @@ def values_of(part, drawn, eesave_bit):
     found = {}
     for name in ("lfuse", "hfuse", "efuse"):
         letters = bits(part[name]["write"])[24:]
-        mask, fixed = (sum(1 << (7 - at) for at, it in enumerate(letters) if it == mark) for mark in "i1")
+        mask, fixed = (sum(1 << (7 - at) for at, letter in enumerate(letters) if letter == mark) for mark in "i1")
         found[name] = drawn.randrange(256) & mask | fixed | (1 << eesave_bit if name == "hfuse" else 0)
     return found
 
@@ -276,7 +278,7 @@ def sessions():
         _, fields, part = parts[short]
         fuses = values_of(part, random.Random(short), fields["eesave_bit"])
         beside = Beside(short, Sizes(fields["flash_size"], fields["eeprom_size"], fuses), CLASSIC)
-        fuses = [f"{it}:w:0x{value:02x}:m" for it, value in beside.part.fuses.items()]
+        fuses = [f"{fuse}:w:0x{value:02x}:m" for fuse, value in beside.part.fuses.items()]
         beside.request("all", updates("flash:w:flash.bin:r", "eeprom:w:eeprom.bin:r", *fuses))
 
 

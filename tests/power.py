@@ -156,16 +156,16 @@ def recorded_runs(folder, image):
 
 def put_cut(image, made, chance):
     """Writes to an image what a power cut may leave after these entries."""
-    flushed = max((at for at, it in enumerate(made) if it.kind == "F"), default=0)
+    flushed = max((at for at, entry in enumerate(made) if entry.kind == "F"), default=0)
     how = chance.choice(["all", "some", "none", "torn"])
     with open(image, "r+b") as disk:
-        for at, it in enumerate(made):
-            length = len(it.content)
+        for at, entry in enumerate(made):
+            length = len(entry.content)
             if at > flushed and how != "all" and (how == "none" or chance.random() < 0.5):
                 length = chance.randrange(length // 512 + 1) * 512 if how == "torn" else 0
-            if it.kind == "W" and length:
-                disk.seek(it.place)
-                disk.write(it.content[:length])
+            if entry.kind == "W" and length:
+                disk.seek(entry.place)
+                disk.write(entry.content[:length])
     return how
 
 
@@ -173,7 +173,7 @@ def is_kept(what, disk, marks, following):
     """Checks the chips of a disk: each that was saved has the value of its last run with status 0, or a later one. If
     there is a `following` value, the next run writes it."""
     done, tried = {}, {}
-    for kind, name, value in (it.split() for it in marks):
+    for kind, name, value in (mark.split() for mark in marks):
         (done if kind == "done" else tried)[name] = int(value)
     for name, value in done.items():
         found = value_in(disk / name)
@@ -204,16 +204,16 @@ def recorded(system):
             check_equal("a first run", save(disk, "chip.bin", 0), True)
         command("cp", "--sparse=always", base, image)
         made = recorded_runs(folder, image)
-        first = next(at for at, it in enumerate(made) if it.content == b"begun")
+        first = next(at for at, entry in enumerate(made) if entry.content == b"begun")
         tried = 0
         for tried in until(ends):
             cut = made[: chance.randrange(first, len(made)) + 1]
             command("cp", "--sparse=always", base, image)
             how = put_cut(image, cut, chance)
-            marks = [it.content.decode() for it in cut if it.kind == "M"]
+            marks = [entry.content.decode() for entry in cut if entry.kind == "M"]
             with mounted(image, folder) as disk:
                 what = f"{system}, cut {tried} after {len(cut)} entries, {how}"
-                is_kept(what, disk, [it for it in marks if " " in it], None if tried % NEXT else RUNS + 1)
+                is_kept(what, disk, [mark for mark in marks if " " in mark], None if tried % NEXT else RUNS + 1)
         print(f"{system}: {tried + 1} power cuts over {len(made)} entries", flush=True)
 
 
@@ -248,8 +248,8 @@ def shut_down(system):
             with mounted(image, folder) as disk:
                 value += 1
                 is_kept(f"{system}, shut down {tried}", disk, marks, value)
-                for it in disk.glob("new*"):
-                    it.unlink()
+                for file in disk.glob("new*"):
+                    file.unlink()
             marks = [f"tried chip.bin {value}", f"done chip.bin {value}"]
     print(f"{system}: shut down {tried + 1} times, {value} runs over one chip", flush=True)
 

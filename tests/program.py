@@ -35,7 +35,7 @@ def program():
 PROGRAM = program()
 # the program of avrstk-serve and of plans: beside it, or in a folder of its own
 FOLDERS = [PROGRAM.parent, PROGRAM.parent.parent.parent / "avrstk_session/out"]
-SESSION = next((it / "avrstk_session" for it in FOLDERS if (it / "avrstk_session").exists()), None)
+SESSION = next((folder / "avrstk_session" for folder in FOLDERS if (folder / "avrstk_session").exists()), None)
 
 # the replies of a session that does nothing, and the number of bytes up to the end of each
 REPLIES = (TOP / "crates/avrstk/stdin").read_bytes()
@@ -81,7 +81,7 @@ class Room:
         self.put("whole.bin", bytes(place % 256 for place in range(1024)))
         for name in ["blink.hex", "blink.srec", "parts.toml"]:
             self.put(name, (TOP / "examples" / name).read_bytes())
-        self.given = {it.name for it in self.folder.iterdir()}
+        self.given = {file.name for file in self.folder.iterdir()}
 
     def put(self, name, content):
         (self.folder / name).write_bytes(content)
@@ -147,7 +147,7 @@ def tracing(*words):
 
 def frame(number, *body):
     """Returns the frame of a sequence number, modulo 256, and a body, given as bytes and lists of bytes."""
-    body = b"".join(bytes([it]) if isinstance(it, int) else it for it in body)
+    body = b"".join(bytes([part]) if isinstance(part, int) else part for part in body)
     whole = bytes([0x1B, number % 256]) + len(body).to_bytes(2, "big") + b"\x0e" + body
     return whole + bytes([xor(whole)])
 

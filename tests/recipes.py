@@ -41,8 +41,8 @@ class Clone:
         self.folder = Path(folder)
         self.top = self.folder / "avrstk"
         self.noted = self.folder / "noted"
-        for it in ["home", "bin"]:
-            (self.folder / it).mkdir()
+        for subfolder in ["home", "bin"]:
+            (self.folder / subfolder).mkdir()
         # (git accepts a repository with any owner)
         (self.folder / "home/.gitconfig").write_text("[safe]\n\tdirectory = *\n")
         self.git("clone", "-q", TOP, self.top)
@@ -82,7 +82,7 @@ class Clone:
         port = port_of(kept)
         path = f"{self.folder}/bin:{self.folder}/home/.local/bin:{os.environ['PATH']}"
         environment = own_environment(PATH=path, HOME=str(self.folder / "home"), NOTED=str(self.noted))
-        typed = [f"{it} || echo 'FAILED here'" for it in commands]
+        typed = [f"{command} || echo 'FAILED here'" for command in commands]
         text = ENDS + "\n".join(typed).replace("5000", str(port))
         how = {"stdin": subprocess.DEVNULL, "stdout": subprocess.PIPE, "stderr": subprocess.STDOUT, "text": True}
         with kept:
@@ -91,20 +91,24 @@ class Clone:
     def tries(self, commands):
         """Types the commands of one block, if they can run here."""
         for tool, is_here in [("avrdude", has_avrdude()), ("srec_cmp", shutil.which("srec_cmp"))]:
-            if not is_here and any(it.startswith(f"{tool} ") for it in commands):
+            if not is_here and any(command.startswith(f"{tool} ") for command in commands):
                 leave_out(f"calls of {tool}", "it is not installed")
-                commands = [it for it in commands if not it.startswith(f"{tool} ")]
-        commands = [it.replace("firmware.hex", "examples/blink.hex") for it in commands if not it.startswith(NOT_HERE)]
-        device = next((it for it in re.findall(r"/dev/tty\w+", " ".join(commands))), None)
+                commands = [command for command in commands if not command.startswith(f"{tool} ")]
+        commands = [
+            command.replace("firmware.hex", "examples/blink.hex")
+            for command in commands
+            if not command.startswith(NOT_HERE)
+        ]
+        device = next((found for found in re.findall(r"/dev/tty\w+", " ".join(commands))), None)
         if device:
-            words = next(shlex.split(it) for it in commands if device in it)
+            words = next(shlex.split(command) for command in commands if device in command)
             board = Board(part="m2560" if "2560" in words[words.index("-p") + 1] else "m328p")
-            commands = [it.replace(device, board.device) for it in commands]
+            commands = [command.replace(device, board.device) for command in commands]
         printed = self.types(commands)
         if device:
             board.end()
-        for it in commands:
-            check(f"is right: {it}", "FAILED here" not in printed, printed)
+        for command in commands:
+            check(f"is right: {command}", "FAILED here" not in printed, printed)
         check("nothing is built", not self.noted.exists(), self.noted.exists() and self.noted.read_text())
 
 
@@ -131,7 +135,7 @@ def in_a_clone(case):
 def readme(clone):
     """Runs the commands of README, without those that test or prove."""
     found = blocks("README.md")
-    first = next(it for commands in found for it in commands if it.startswith("./"))
+    first = next(command for commands in found for command in commands if command.startswith("./"))
     check("the first command in a clone needs no proof", first.startswith("./avrstk --unproved "), first)
     clone.types(["./install.sh ~/.local"])
     for commands in found:
@@ -149,12 +153,12 @@ def usage(clone):
 def examples(clone):
     """Runs the commands of examples/README with avrstk, and the tests with a double, where nothing is installed."""
     found = re.findall(r"\| `(\./avrstk .*?|[^`]*\bpytest .*?)`", (TOP / "examples/README.md").read_text())
-    check("examples/README has commands", len(found) > 4 and any("pytest" in it for it in found), found)
-    for it in found:
-        if "pytest" in it and not shutil.which("pytest"):
-            leave_out(it, "pytest is not installed")
+    check("examples/README has commands", len(found) > 4 and any("pytest" in command for command in found), found)
+    for command in found:
+        if "pytest" in command and not shutil.which("pytest"):
+            leave_out(command, "pytest is not installed")
         else:
-            clone.tries([it])
+            clone.tries([command])
 
 
 # the Arduino IDE's own rules for AVR boards: names and values, of which platform.local.txt replaces some
@@ -163,8 +167,10 @@ PLATFORM = Path("/usr/share/arduino/hardware/arduino/avr/platform.txt")
 
 def uploads(local):
     """Returns the upload command of the Arduino IDE, with the text of a platform.local.txt."""
-    rules = dict(it.split("=", 1) for it in f"{PLATFORM.read_text()}\n{local}".splitlines() if re.match(r"[\w.]+=", it))
-    tool = {name[len("tools.avrdude.") :]: it for name, it in rules.items() if name.startswith("tools.avrdude.")}
+    rules = dict(
+        rule.split("=", 1) for rule in f"{PLATFORM.read_text()}\n{local}".splitlines() if re.match(r"[\w.]+=", rule)
+    )
+    tool = {name[len("tools.avrdude.") :]: value for name, value in rules.items() if name.startswith("tools.avrdude.")}
     given = {
         "build.mcu": "atmega2560",
         "upload.protocol": "wiring",
@@ -182,7 +188,7 @@ def in_place_of_avrdude(clone):
     """docs/USAGE's recipes for the Arduino IDE, PlatformIO and a link named avrdude upload to an emulated board."""
     text = (TOP / "docs/USAGE.md").read_text().split("## In place of AVRDUDE")[1].split("\n## ")[0]
     local, project, link = [
-        "\n".join(it.strip() for it in found.splitlines()) for found in re.findall(r"(?:^    .*\n)+", text, re.M)
+        "\n".join(line.strip() for line in found.splitlines()) for found in re.findall(r"(?:^    .*\n)+", text, re.M)
     ]
     clone.types(["./install.sh ~/.local"])
 
@@ -191,19 +197,21 @@ def in_place_of_avrdude(clone):
 
     settings = dict(re.findall(r"^(\w+) = (.*)$", project, re.M))
     variables = {"$UPLOAD_PORT": settings["upload_port"], "$SOURCE": "examples/blink.hex"}
-    commands = [re.sub(r"\$\w+", lambda it: variables[it[0]], settings["upload_command"])]
+    commands = [re.sub(r"\$\w+", lambda match: variables[match[0]], settings["upload_command"])]
     upload = "~/avrdude -patmega2560 -cwiring -P/dev/ttyACM0 -D -Uflash:w:examples/blink.hex:i"
     commands.append(f"cd ~ && {installed(link)} && cd - && {upload}")
     if PLATFORM.exists():
         commands.append(uploads(installed(local)))
     else:
         leave_out("the Arduino IDE's recipe", "arduino-core-avr is not installed")
-    for it in commands:
+    for command in commands:
         board = Board(part="m2560")
-        printed = clone.types([it.replace("/dev/ttyACM0", board.device)])
+        printed = clone.types([command.replace("/dev/ttyACM0", board.device)])
         chip = board.end()
         check(
-            f"is right: {it}", "FAILED here" not in printed and "avrstk: flash: 228 bytes verified" in printed, printed
+            f"is right: {command}",
+            "FAILED here" not in printed and "avrstk: flash: 228 bytes verified" in printed,
+            printed,
         )
         check_equal("the chip", chip[:4].hex(), "0c943400")
 
@@ -213,7 +221,7 @@ def jobs(clone):
     clone.types(["./install.sh ~/.local"])
     text = (TOP / "docs/EMULATOR.md").read_text().split("### Recipes for jobs")[1]
     gitlab, github, fixture = [
-        textwrap.dedent(it) for it in re.findall(r"(?:^(?:    (?!\$ ).*)?\n)+", text, re.M) if it.strip()
+        textwrap.dedent(recipe) for recipe in re.findall(r"(?:^(?:    (?!\$ ).*)?\n)+", text, re.M) if recipe.strip()
     ]
     steps = re.findall("^ +- (avrstk.*)", gitlab, re.M), re.findall("^ +(avrstk.*)", github, re.M)
     shutil.copy(clone.top / "examples/blink.hex", clone.folder / "firmware.hex")

@@ -14,7 +14,7 @@ def hex_of(runs, most=16):
             rows.append(bytes([2, 0, 0, 4, *high.to_bytes(2, "big")]))
         rows.append(bytes([len(held), *(at & 0xFFFF).to_bytes(2, "big"), 0]) + held)
     rows.append(bytes([0, 0, 0, 1]))
-    return "".join(f":{(it + bytes([-sum(it) & 0xFF])).hex().upper()}\n" for it in rows).encode()
+    return "".join(f":{(row + bytes([-sum(row) & 0xFF])).hex().upper()}\n" for row in rows).encode()
 
 
 def image_of(text):

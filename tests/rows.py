@@ -35,7 +35,7 @@ from avrstk_report import Report  # noqa: E402
 from avrstk_words import Words  # noqa: E402
 
 KEPT = ["SIGN_ON", "ENTER", "LEAVE", "damaged frame", "restart"]
-READING = [f"reads {it}" for it in ("signature", "calibration", "fuses", "lock", "flash", "EEPROM")]
+READING = [f"reads {memory}" for memory in ("signature", "calibration", "fuses", "lock", "flash", "EEPROM")]
 WRITING = ["erases", "writes flash", "writes fuses", "writes lock"]
 SAFE, ALL = ["--try-rows"], ["--try-rows=all", "--yes"]
 BY_A_GOOD_LINE = " while the line changes no byte (version 1 has no checksums)"
@@ -43,7 +43,7 @@ FIRMWARE, COMPARED = "the promise of README", "each image that a run compared af
 TINY, FLASH, EEPROM = ["--parts", "tiny.toml", "-p", "tiny"], 2_048, 64
 room.keep("tiny.toml", boards.TINY.encode())
 # (the same sizes in hexadecimal)
-room.keep("hexadecimal.toml", re.sub(r"(?<== )\d+", lambda it: hex(int(it[0])), boards.TINY).encode())
+room.keep("hexadecimal.toml", re.sub(r"(?<== )\d+", lambda match: hex(int(match[0])), boards.TINY).encode())
 # (flash and EEPROM with content of their own, fuses, and an open lock)
 CHIP = (
     random.Random(4).randbytes(FLASH - 640) + b"\xff" * 640 + random.Random(5).randbytes(EEPROM) + b"\x62\xd9\xfd\xff"
@@ -134,10 +134,10 @@ class Wrong:
 
         with caller, outer:
             with contextlib.suppress(OSError):
-                for it in frames_of(caller):
-                    is_bad = xor(it) and not self.obeys_all
-                    reply = b"\xb0\xc1" if is_bad else self.act(it[5:-1], ask)
-                    caller.sendall(frame(it[1], reply) if reply else b"")
+                for request in frames_of(caller):
+                    is_bad = xor(request) and not self.obeys_all
+                    reply = b"\xb0\xc1" if is_bad else self.act(request[5:-1], ask)
+                    caller.sendall(frame(request[1], reply) if reply else b"")
             outer.shutdown(1)
             run.wait(PATIENCE)
 
@@ -145,9 +145,9 @@ class Wrong:
 def rows_of(output):
     """Returns what was printed of each row: how it ended, and the rest."""
     found = {}
-    for it in output.decode().splitlines():
-        check(f"{it}: is a row", it[:4] == "row " and it[24:33].strip() in ("meets", "FAILS", "not tried"), it)
-        found[it[4:24].strip()] = it[24:33].strip(), it[34:]
+    for line in output.decode().splitlines():
+        check(f"{line}: is a row", line[:4] == "row " and line[24:33].strip() in ("meets", "FAILS", "not tried"), line)
+        found[line[4:24].strip()] = line[24:33].strip(), line[34:]
     return found
 
 
@@ -162,7 +162,9 @@ def tried(what, words, failing=(), left=(), promise=None, status=None):
 def seen(what, found, own, found_status, failing, left, promise, status=None):
     """Checks what was printed."""
     for how, wanted in ("FAILS", failing), ("not tried", left):
-        check_equal(f"{what}: rows with {how}", {name for name, (it, _) in found.items() if it == how}, set(wanted))
+        check_equal(
+            f"{what}: rows with {how}", {name for name, (outcome, _) in found.items() if outcome == how}, set(wanted)
+        )
     check_equal(f"{what}: its status", found_status, int(bool(failing)) if status is None else status)
     if promise:
         check(f"{what}: the promise", f"promised of such a programmer: {promise}" in own, str(own))
@@ -177,10 +179,10 @@ def served(words, options=(), chip=CHIP, part=TINY, failing=(), **more):
         server.stdout.readline()
         found = tried(f"{words} {options}", [*part, "-P", "link", *words], failing, **more)
         server.terminate()
-        _, told = server.communicate(timeout=PATIENCE)
+        _, messages = server.communicate(timeout=PATIENCE)
     if "--locked" not in options:
         check_equal(f"{words} {options}: the chip", room.read("chip.bin"), chip)
-    return *found, told.decode()
+    return *found, messages.decode()
 
 
 def emulated():
@@ -188,15 +190,15 @@ def emulated():
     found, own, _ = served(SAFE, left=WRITING, promise=COMPARED)
     check_equal("the rows", list(found), [*READING[:-1], *KEPT[:4], READING[-1], "writes EEPROM", "restart", *WRITING])
     folder = room.folder / own[0].rpartition(" ")[2]
-    files = {it.name: it.read_text() for it in folder.iterdir()}
+    files = {file.name: file.read_text() for file in folder.iterdir()}
     check_equal("what was saved", serial.image_of(files["flash.hex"].encode()), dict(enumerate(CHIP[:FLASH])))
     check_equal(
         "the fuses",
-        [files[f"{it}.txt"] for it in ("lfuse", "hfuse", "efuse", "lock")],
+        [files[f"{name}.txt"] for name in ("lfuse", "hfuse", "efuse", "lock")],
         ["0x62\n", "0xd9\n", "0xfd\n", "0xff\n"],
     )
     found, own, _ = served(ALL, promise=FIRMWARE)
-    check("all rows", not {it for it in found if it not in (*READING, *KEPT, *WRITING, "writes EEPROM")}, str(found))
+    check("all rows", not {row for row in found if row not in (*READING, *KEPT, *WRITING, "writes EEPROM")}, str(found))
     # (the erase keeps this EEPROM)
     served(ALL, chip=CHIP[:-3] + b"\xd1\xfd\xff", promise=FIRMWARE)
     served(SAFE, part=["-p", "m328p"], chip=serial.os.urandom(33_792) + b"\x62\xd9\xfd\xff", left=WRITING)
@@ -216,9 +218,9 @@ LINE += ["--drop READ_LOCK#2 --late READ_FLASH#4:1.2"]
 def faults_of_the_line():
     """With each fault of a frame all rows are met, and commands were repeated."""
     for options in LINE:
-        _, own, told = served(SAFE, options.split(), left=WRITING, promise=COMPARED)
-        check(f"{options}: a command was repeated", not any("; 0 commands" in it for it in own), str(own))
-        check(f"{options}: it struck", "never struck" not in told, told)
+        _, own, messages = served(SAFE, options.split(), left=WRITING, promise=COMPARED)
+        check(f"{options}: a command was repeated", not any("; 0 commands" in line for line in own), str(own))
+        check(f"{options}: it struck", "never struck" not in messages, messages)
 
 
 def faults_of_a_chip():
@@ -352,7 +354,7 @@ def babbles():
     status, output, _, own = serial.run([*TINY, "-P", plug.device, *SAFE])
     plug.end()
     check_equal("a board that prints without end: status and rows", (status, output), (1, b""))
-    check("a board that prints without end: why", any("no answer to 01" in it for it in own), str(own))
+    check("a board that prints without end: why", any("no answer to 01" in line for line in own), str(own))
 
 
 def ends_early():
@@ -380,7 +382,9 @@ def ends_early():
             return reply
 
         plug = Plug(Wrong(act).call)
-        status, _, _, own = serial.run([*TINY, "-P", plug.device, *words], begun=lambda it: pids.append(it.pid))
+        status, _, _, own = serial.run(
+            [*TINY, "-P", plug.device, *words], begun=lambda started: pids.append(started.pid)
+        )
         check_equal(f"{what} at {row}: the status", status, 1)
         plug.end()
         if what == "Ctrl-C":
@@ -430,7 +434,7 @@ eesave_bit = 3
 
 def mega_2560():
     """The bootloader of a Mega 2560 fails the rows that docs/BOARDS names; what it refuses is met."""
-    missing = [str(it) for it in (mega.HEX, mega.HEADER) if not it.exists()]
+    missing = [str(path) for path in (mega.HEX, mega.HEADER) if not path.exists()]
     if missing or not shutil.which("cc"):
         return leave_out("a Mega 2560", f"{' and '.join(missing) or 'cc'} is not installed")
     size = mega.FLASH if os.environ.get("FULL") == "1" else 4_096
@@ -463,7 +467,10 @@ def over_version1(kind, programmer, words):
 
         def restart(self):
             translator.is_in_step = False
-            board.reset() if not board.is_sketch else board.pause(0.5)
+            if board.is_sketch:
+                board.pause(0.5)
+            else:
+                board.reset()
 
     rows, own = [], []
     avrstk_rows.Programmer, avrstk_rows.show, avrstk_rows.say = Direct, rows.append, own.append
@@ -482,7 +489,7 @@ def version1():
     if missing:
         return leave_out("boards of version 1", f"{missing} is not installed")
     left = ["damaged frame", "writes EEPROM", "erases", "writes fuses", "writes lock"]
-    cases = [(it, "arduino", ALL, ["writes flash"], left) for it in ("optiboot-fast", "ATmegaBOOT")]
+    cases = [(kind, "arduino", ALL, ["writes flash"], left) for kind in ("optiboot-fast", "ATmegaBOOT")]
     if boards.SKETCH:
         cases.append(("ArduinoISP-fast", "arduino_as_isp", ALL, [], ["damaged frame"]))
     else:

@@ -12,6 +12,7 @@ Not proved: Proofs are about the sources, not about the compiled program or the 
 import shlex
 import sys
 from collections import namedtuple
+from functools import partial
 
 from cases import bytes_of, check, check_equal, named, run_cases, table
 from line import BadLine
@@ -24,7 +25,7 @@ PLACES = {"flash": 0, "eeprom": 32_768, "lfuse": 33_792, "hfuse": 33_793, "efuse
 READ_FLASH = " ".join(f"06{128 * block:08X} 14010020" for block in range(128))
 
 # a run: the cells of tests/tables/runs.txt, whose head says how they are written
-Run = namedtuple("Run", "words said written before after frames")
+Run = namedtuple("Run", "words messages written before after frames")
 
 room = Room()
 room.keep("few.bin", b"\x0c\x94\x34\x00\xff\x12")
@@ -37,7 +38,7 @@ room.keep("gaps.hex", b":0100000011EE\n:0100020033CA\n:00000001FF\n")
 def chip_of(cell):
     """Returns a chip file of FF except for these bytes."""
     chip = bytearray(b"\xff" * CHIP_FILE)
-    for place, digits in (it.split("=") for it in cell.split()):
+    for place, digits in (item.split("=") for item in cell.split()):
         name, _, offset = place.partition("+")
         at, content = PLACES[name] + int(offset or "0", 16), bytes_of(digits)
         chip[at : at + len(content)] = content
@@ -47,7 +48,7 @@ def chip_of(cell):
 def sent_by(run):
     """Returns the frames of a run, numbered from 1 and with LEAVE at the end."""
     bodies = [*run.frames.replace("READ-FLASH", READ_FLASH).split(), "110101"]
-    return [*FRAMES[:5], *(frame(number, bytes_of(it)) for number, it in enumerate(bodies, 6))]
+    return [*FRAMES[:5], *(frame(number, bytes_of(body)) for number, body in enumerate(bodies, 6))]
 
 
 def prepare(run, chip_file):
@@ -58,10 +59,10 @@ def prepare(run, chip_file):
 
 def look(label, run, found, chip_file):
     """Checks the outcome of a run, its chip and its files."""
-    files = {name: bytes_of(content) for name, content in (it.split("=") for it in run.written.split())}
-    status = int("error: " in run.said)
-    told = [SIGNATURE, *filter(None, run.said.split("; ")), *["done"] * (not status)]
-    check_equal(label, found, (status, files.pop("-", b""), lines(*(told if run.said != "-" else []))))
+    files = {name: bytes_of(content) for name, content in (item.split("=") for item in run.written.split())}
+    status = int("error: " in run.messages)
+    messages = [SIGNATURE, *filter(None, run.messages.split("; ")), *["done"] * (not status)]
+    check_equal(label, found, (status, files.pop("-", b""), lines(*(messages if run.messages != "-" else []))))
     check(
         f"{label}: the chip", room.read(chip_file) == chip_of(run.after), f"{chip_file} is not the chip that is wanted"
     )
@@ -118,20 +119,22 @@ def a_large_flash():
     room.clear()
     peer = BadLine(room, {}, part="m2560")
     words = ["-p", "m2560", "-P", f"net:127.0.0.1:{peer.port}", "-V", "-U", "flash:w:high.hex"]
-    told = ["device signature = 1E 98 01", "chip erased", "flash: 1 bytes written", "done"]
-    check_equal("a large flash", room.run(words), (0, b"", lines(*told)))
+    messages = ["device signature = 1E 98 01", "chip erased", "flash: 1 bytes written", "done"]
+    check_equal("a large flash", room.run(words), (0, b"", lines(*messages)))
     sent = peer.end()
     check_equal("the number of frames", len(sent), 9)
     page = frame(8, bytes.fromhex("130100C10A404C20FFFF 55") + b"\xff" * 255)
     wanted = [bytes.fromhex("1B 07 00 05 0E 06 80 01 00 00 90"), page, bytes.fromhex("1B 09 00 03 0E 11 01 01 0E")]
     check_equal("frames 7 to 9", sent[6:], wanted)
     chip = room.read("served.bin") or b""
-    check_equal("the chip's bytes other than FF", {at: it for at, it in enumerate(chip) if it != 0xFF}, {0x20000: 0x55})
+    check_equal(
+        "the chip's bytes other than FF", {at: byte for at, byte in enumerate(chip) if byte != 0xFF}, {0x20000: 0x55}
+    )
     check_equal("the chip's length", len(chip), 266_244)
 
 
-CASES = {label: lambda it=(label, Run(*cells)): over_both(*it) for label, *cells in table("runs")}
-CASES |= {label: lambda it=(label, run, fates): over_line(*it) for label, (run, fates) in BAD_LINES.items()}
+CASES = {label: partial(over_both, label, Run(*cells)) for label, *cells in table("runs")}
+CASES |= {label: partial(over_line, label, run, fates) for label, (run, fates) in BAD_LINES.items()}
 CASES |= named(a_large_flash)
 
 if __name__ == "__main__":

@@ -38,8 +38,8 @@ room = Room()
 def ran(words, script=SCRIPT, before=None, timeout=PATIENCE, **own):
     """Returns the status, the messages and the output of the script. `own` are variables of its environment."""
     how = {"cwd": room.folder, "env": environment() | own, "preexec_fn": before, "timeout": timeout}
-    it = subprocess.run([script, *words], **how, capture_output=True, text=True)
-    return it.returncode, it.stderr, it.stdout
+    done = subprocess.run([script, *words], **how, capture_output=True, text=True)
+    return done.returncode, done.stderr, done.stdout
 
 
 class Serving:
@@ -52,8 +52,8 @@ class Serving:
             # (a process group of its own, as from a shell)
             how |= {"env": environment(program), "start_new_session": True, "preexec_fn": before}
             self.started = subprocess.Popen([SCRIPT, *([port] if port else []), *chip, *words], **how)
-        self.said = self.started.stdout.readline()
-        self.port = int(self.said.rpartition(b":")[2] or 0) if port and b" at " in self.said else None
+        self.printed = self.started.stdout.readline()
+        self.port = int(self.printed.rpartition(b":")[2] or 0) if port and b" at " in self.printed else None
 
     def call(self):
         return socket.create_connection(("127.0.0.1", self.port), PATIENCE)
@@ -90,11 +90,11 @@ def environment(program=PROGRAM):
 def runs(name=b"avrstk_session"):
     """Returns the numbers of the runs in the room, or of other programs."""
     found = []
-    for it in Path("/proc").glob("[0-9]*"):
+    for process in Path("/proc").glob("[0-9]*"):
         try:
-            folder = (it / "cwd").resolve()
-            if room.folder.resolve() in [folder, *folder.parents] and name in (it / "cmdline").read_bytes():
-                found.append(int(it.name))
+            folder = (process / "cwd").resolve()
+            if room.folder.resolve() in [folder, *folder.parents] and name in (process / "cmdline").read_bytes():
+                found.append(int(process.name))
         except OSError:
             pass
     return found
@@ -106,7 +106,7 @@ def fuse():
     return chip[LFUSE] if chip else None
 
 
-def heard(client, count):
+def received(client, count):
     """Returns `count` bytes from a connection, or fewer at its end."""
     found = b""
     while len(found) < count and (piece := client.recv(count - len(found))):
@@ -117,91 +117,91 @@ def heard(client, count):
 def begins(client):
     """Sends SIGN_ON, and returns whether its reply came."""
     client.sendall(FRAMES[0])
-    return heard(client, ENDS[0]) == REPLIES[: ENDS[0]]
+    return received(client, ENDS[0]) == REPLIES[: ENDS[0]]
 
 
 def listens():
     """The server prints its port: the given one, or any free one. A second server at the port ends with a line."""
-    with Serving() as it:
-        check_equal("its line", it.said, f"serving at 127.0.0.1:{it.port}\n".encode())
+    with Serving() as server:
+        check_equal("its line", server.printed, f"serving at 127.0.0.1:{server.port}\n".encode())
         for value in [0x60, 0x61, 0x62]:
-            check_equal(f"fuse {value}", it.writes_fuse(value), 0)
+            check_equal(f"fuse {value}", server.writes_fuse(value), 0)
             wait_until(lambda: fuse() == value)
-        told = f"avrstk-serve: port {it.port}: Address already in use\n"
-        check_equal("a port that is taken", ran([str(it.port), *M328P]), (1, told, ""))
-        check_equal("it ends", it.end(), (0, ""))
+        taken = f"avrstk-serve: port {server.port}: Address already in use\n"
+        check_equal("a port that is taken", ran([str(server.port), *M328P]), (1, taken, ""))
+        check_equal("it ends", server.end(), (0, ""))
     kept = kept_port()
     port = str(port_of(kept))
     for part in ["m328p", "atmega328p", "ATmega328P"]:
-        with Serving(port=port, chip=["-p", part, "--chip", "chip.bin"]) as it:
-            check_equal("a port that is given", it.said, f"serving at 127.0.0.1:{port}\n".encode())
-            check_equal(f"the part {part}", it.writes_fuse(0x63), 0)
-            check_equal("it ends too", it.end(), (0, ""))
+        with Serving(port=port, chip=["-p", part, "--chip", "chip.bin"]) as server:
+            check_equal("a port that is given", server.printed, f"serving at 127.0.0.1:{port}\n".encode())
+            check_equal(f"the part {part}", server.writes_fuse(0x63), 0)
+            check_equal("it ends too", server.end(), (0, ""))
     kept.close()
 
 
 def clients_that_send_nothing():
     """A client that only connects starts no run and delays no other client, before, while or after that one is served.
     It needs few open files for them: of nine that have sent nothing the oldest is hung up on."""
-    with Serving(before=lambda: resource.setrlimit(resource.RLIMIT_NOFILE, (20, 20))) as it:
+    with Serving(before=lambda: resource.setrlimit(resource.RLIMIT_NOFILE, (20, 20))) as server:
         for _ in range(100):
-            it.call().close()
-        silent = [it.call() for _ in range(100)]
+            server.call().close()
+        silent = [server.call() for _ in range(100)]
         # (a later client is served only after the server has seen these)
-        check_equal("a client after them", it.writes_fuse(0x60), 0)
-        ended = [it for it in silent if select.select([it], [], [], 0)[0]]
+        check_equal("a client after them", server.writes_fuse(0x60), 0)
+        ended = [client for client in silent if select.select([client], [], [], 0)[0]]
         check_equal("those that are hung up on", ended, silent[: len(ended)])
         check("and the others are eight, or seven beside that client", len(silent) - len(ended) in (7, 8), len(ended))
         wait_until(lambda: fuse() == 0x60)
-        with it.call() as client:
+        with server.call() as client:
             check("a session", begins(client))
             for _ in range(10):
-                it.call().close()
-            silent += [it.call() for _ in range(10)]
-        check_equal("the next client", it.writes_fuse(0x61), 0)
+                server.call().close()
+            silent += [server.call() for _ in range(10)]
+        check_equal("the next client", server.writes_fuse(0x61), 0)
         for client in silent:
             client.close()
         wait_until(lambda: fuse() == 0x61)
         before = (room.folder / "chip.bin").stat().st_mtime_ns
         for _ in range(10):
-            it.call().close()
-        check_equal("it ends", it.end(), (0, ""))
+            server.call().close()
+        check_equal("it ends", server.end(), (0, ""))
         check_equal("the chip is not written again", (room.folder / "chip.bin").stat().st_mtime_ns, before)
 
 
 def one_after_another():
     """A client waits until the one before has disconnected, and gets the chip that this one left."""
-    with Serving() as it:
-        first = it.call()
+    with Serving() as server:
+        first = server.call()
         check("the first session", begins(first))
-        second = it.call()
+        second = server.call()
         second.sendall(FRAMES[0])
         check_equal("the second one waits", select.select([second], [], [], 0.3)[0], [])
         first.close()
-        check_equal("and then is served", heard(second, ENDS[0]), REPLIES[: ENDS[0]])
+        check_equal("and then is served", received(second, ENDS[0]), REPLIES[: ENDS[0]])
         second.close()
-        check_equal("the messages", it.end(), (0, ""))
+        check_equal("the messages", server.end(), (0, ""))
 
 
 def half_closed():
     """A client that has closed its sending side gets all replies."""
-    with Serving() as it, it.call() as client:
+    with Serving() as server, server.call() as client:
         client.sendall(b"".join(FRAMES))
         client.shutdown(socket.SHUT_WR)
-        check_equal("the replies", heard(client, 1000), REPLIES)
+        check_equal("the replies", received(client, 1000), REPLIES)
         wait_until(lambda: room.read("chip.bin") is not None)
-        check_equal("the messages", it.end(), (0, ""))
+        check_equal("the messages", server.end(), (0, ""))
 
 
 def clients_that_reset():
     """Each second client resets the connection in the middle of a session, and the others are served."""
-    with Serving() as it:
+    with Serving() as server:
         for value in range(0x60, 0x68):
-            check_equal(f"fuse {value}", it.writes_fuse(value), 0)
-            with it.call() as client:
+            check_equal(f"fuse {value}", server.writes_fuse(value), 0)
+            with server.call() as client:
                 check("a session", begins(client))
                 client.setsockopt(socket.SOL_SOCKET, socket.SO_LINGER, struct.pack("ii", 1, 0))
-        check_equal("it ends", it.end(), (0, ""))
+        check_equal("it ends", server.end(), (0, ""))
         check_equal("the last one's fuse is there", fuse(), 0x67)
 
 
@@ -212,23 +212,23 @@ def failed(how):
 def a_chip_in_use():
     """If another run holds the chip, the client's connection is closed, and the next client is served."""
     os.mkfifo(room.folder / "pipe")
-    with Serving() as it:
+    with Serving() as server:
         holder = room.start(["-p", "m328p", "-P", "emu:chip.bin", "-U", "eeprom:r:pipe:r"])
         holder.stderr.readline()
-        with it.call() as client:
+        with server.call() as client:
             client.sendall(FRAMES[0])
-            check_equal("the connection is closed", heard(client, 1), b"")
+            check_equal("the connection is closed", received(client, 1), b"")
         holder.kill()
         holder.communicate()
-        check_equal("the next client", it.writes_fuse(0x65), 0)
-        told = lines("error: chip.bin: in use by another run").decode() + failed("status 1")
-        check_equal("the messages", it.end(), (1, told))
+        check_equal("the next client", server.writes_fuse(0x65), 0)
+        expected = lines("error: chip.bin: in use by another run").decode() + failed("status 1")
+        check_equal("the messages", server.end(), (1, expected))
 
 
 def idle_clients():
     """With --idle the server disconnects an idle client, and saves the chip."""
-    with Serving("--idle", "1.5") as it:
-        with it.call() as silent, it.call() as client:
+    with Serving("--idle", "1.5") as server:
+        with server.call() as silent, server.call() as client:
             check("a session", begins(client))
             for _ in range(5):
                 time.sleep(0.4)
@@ -236,22 +236,22 @@ def idle_clients():
             check_equal("the connection of an idle one is closed", client.recv(1), b"")
             check_equal("and one that has sent nothing", silent.recv(1), b"")
         check("the chip is saved", len(room.read("chip.bin") or b"") == CHIP_FILE)
-        check_equal("the next client", it.writes_fuse(0x60), 0)
-        check_equal("the messages", it.end(), (0, "avrstk-serve: a client sent nothing for 1.5 seconds: hung up\n"))
-    with Serving() as it, it.call() as client:
+        check_equal("the next client", server.writes_fuse(0x60), 0)
+        check_equal("the messages", server.end(), (0, "avrstk-serve: a client sent nothing for 1.5 seconds: hung up\n"))
+    with Serving() as server, server.call() as client:
         check("a session", begins(client))
         time.sleep(1)
         check("without the option it is served on", begins(client))
         # (its run saves the chip before the next case begins)
-        it.end()
+        server.end()
 
 
-def changes_fuse(it, value):
+def changes_fuse(server, value):
     """Writes the low fuse as AVRDUDE does, and returns the connection, whose session goes on, and the run."""
-    client = it.call()
+    client = server.call()
     for sent in [*FRAMES[:2], frame(3, 0x1D, 4, 4, 0, 0xAC, 0xA0, 0, value)]:
         client.sendall(sent)
-        check("a reply", heard(client, 6)[:1] == b"\x1b")
+        check("a reply", received(client, 6)[:1] == b"\x1b")
         client.recv(100)
     (run,) = runs()
     return client, run
@@ -264,27 +264,27 @@ def ends_at_a_signal():
     for number, group in [(signal.SIGTERM, False), (signal.SIGINT, True), (signal.SIGHUP, False)]:
         name = number.name
         room.clear()
-        with Serving() as it:
-            check_equal(f"{name}: no client is there", it.end(number, group=group), (0, ""))
-        with Serving() as it, it.call():
-            check_equal(f"{name}: a silent client", it.end(number, group=group), (0, ""))
+        with Serving() as server:
+            check_equal(f"{name}: no client is there", server.end(number, group=group), (0, ""))
+        with Serving() as server, server.call():
+            check_equal(f"{name}: a silent client", server.end(number, group=group), (0, ""))
         check_equal(f"{name}: no chip is made", room.read("chip.bin"), None)
-        with Serving() as it:
-            client, _ = changes_fuse(it, 0x63)
-            check_equal(f"{name}: a session", it.end(number, group=group), (0, ""))
+        with Serving() as server:
+            client, _ = changes_fuse(server, 0x63)
+            check_equal(f"{name}: a session", server.end(number, group=group), (0, ""))
             check_equal(f"{name}: its client's connection is closed", client.recv(1), b"")
         check_equal(f"{name}: its chip is saved", fuse(), 0x63)
-        with Serving() as it, it.call() as client:
+        with Serving() as server, server.call() as client:
             client.sendall(FRAMES[0] * 2_000)
-            check_equal(f"{name}: a client that takes no replies", it.end(number, group=group)[0], 0)
+            check_equal(f"{name}: a client that takes no replies", server.end(number, group=group)[0], 0)
     # (a module in place of one that it loads)
     room.put("getopt.py", b"import os, signal, time\nos.kill(os.getpid(), signal.SIGTERM)\ntime.sleep(60)")
     for words, status in [(["0", *M328P], 0), (["0", *M328P, "--", "true"], 143)]:
         check_equal(f"{words}: SIGTERM while it is loaded", ran(words, PYTHONPATH=str(room.folder)), (status, "", ""))
     (room.folder / "getopt.py").unlink()
-    with Serving() as it, it.call() as client:
+    with Serving() as server, server.call() as client:
         check("a session", begins(client))
-        check_equal("three signals at once", it.end(signal.SIGINT, signal.SIGTERM, signal.SIGHUP, group=True)[0], 0)
+        check_equal("three signals at once", server.end(signal.SIGINT, signal.SIGTERM, signal.SIGHUP, group=True)[0], 0)
 
 
 def refused():
@@ -294,7 +294,8 @@ def refused():
     taken.listen()
     port = str(port_of(taken))
     rows = [
-        (shlex.split(words.replace("TAKEN", port)), 1, told.replace("TAKEN", port)) for words, told in table("serve")
+        (shlex.split(words.replace("TAKEN", port)), 1, message.replace("TAKEN", port))
+        for words, message in table("serve")
     ]
     rows += [
         ([], 0, None),
@@ -303,16 +304,16 @@ def refused():
         (["0", *M328P, "--listen", "\udcff" * 100], 1, ""),
         (["\x1b[31m\udcff", *M328P], 1, "avrstk-serve: \\x1b[31m\\xff: not a port from 0 to 65535"),
     ]
-    for words, status, told in rows:
+    for words, status, message in rows:
         found, messages, output = ran(words)
         check_equal(f"{words}: the status", found, status)
-        wanted = "" if told is None else f"{told or messages.partition(chr(10))[0]}\n"
+        wanted = "" if message is None else f"{message or messages.partition(chr(10))[0]}\n"
         check_equal(f"{words}: its messages", messages, wanted)
         check(f"{words}: it doesn't serve", "serving at 127.0.0.1:" not in output, output)
     taken.close()
     # (Python 3.6 gets as far as the line that names the version it needs)
-    for it in [SCRIPT, TOP / "avrstk-serial"]:
-        ast.parse(it.read_text(), feature_version=(3, 6))
+    for script in [SCRIPT, TOP / "avrstk-serial"]:
+        ast.parse(script.read_text(), feature_version=(3, 6))
     # (Python keeps no docstrings then)
     check("--help without docstrings", "avrstk-serve PORT" in ran(["--help"], PYTHONOPTIMIZE="2")[2])
     for closed, status in [(">&-", 1), (">/dev/full", 1), ("<&- 2>&-", 0)]:
@@ -338,34 +339,36 @@ def installed():
         served = ran(["0", "-p", "atmega32u4", "--chip", "chip.bin", "--", "true"], script, AVRSTK="")
         check_equal("it serves", served, (0, "", ""))
         scripts = [SCRIPT, script, script.with_name("avrstk"), TOP / "avrstk"]
-        shown = [ran(["--version"], it, AVRSTK="")[2].splitlines() for it in scripts]
+        shown = [ran(["--version"], script, AVRSTK="")[2].splitlines() for script in scripts]
         stamp = ran(["--stamp-of", PROGRAM], TOP / "avrstk", AVRSTK="")[2].splitlines()
-        rows = [it for it in stamp if not it.startswith(("sources", "program"))] or ["not known whether it is proved"]
+        rows = [row for row in stamp if not row.startswith(("sources", "program"))] or [
+            "not known whether it is proved"
+        ]
         wanted = [f"avrstk {VERSION}", *rows]
         check_equal("--version, installed", shown[1], wanted)
         check_equal("--version, in the clone", NAMED or shown[0], NAMED or wanted)
         check_equal("--version of avrstk", [shown[2], NAMED or shown[3]], [wanted, NAMED or wanted])
         Path(folder, "lib/avrstk/avrstk.stamp").unlink()
-        for it in scripts[1:3]:
-            told = ran(["--version"], it, AVRSTK="")
-            check_equal("without a stamp", told, (0, "", f"avrstk {VERSION}\nnot known whether it is proved\n"))
+        for unstamped in scripts[1:3]:
+            shown_now = ran(["--version"], unstamped, AVRSTK="")
+            check_equal("without a stamp", shown_now, (0, "", f"avrstk {VERSION}\nnot known whether it is proved\n"))
 
 
 def status_of_sessions():
     """Status 0 means that the chip of each session was saved, however the server ended. Otherwise a line reports it."""
-    for name, acts, told in table("ends"):
+    for name, acts, how in table("ends"):
         room.clear()
         check_equal("a chip", room.run(["-p", "m328p", "-P", "emu:chip.bin", "-q", "-U", "lfuse:w:0x11:m"])[0], 0)
-        with Serving() as it:
-            client, run = changes_fuse(it, 0x22)
+        with Serving() as server:
+            client, run = changes_fuse(server, 0x22)
             for whom, number, pause in map(str.split, acts.split(", ")):
-                os.kill(run if whom == "run" else it.started.pid, signal.Signals[f"SIG{number}"])
+                os.kill(run if whom == "run" else server.started.pid, signal.Signals[f"SIG{number}"])
                 time.sleep(float(pause))
             check_equal(f"{name}: its client is hung up on", client.recv(1), b"")
-            check_equal(f"{name}: the status", it.started.wait(timeout=PATIENCE), int(told != ""))
+            check_equal(f"{name}: the status", server.started.wait(timeout=PATIENCE), int(how != ""))
             client.close()
-        check_equal(f"{name}: its messages", it.messages.read_text(), failed(told) if told else "")
-        check_equal(f"{name}: the fuse", fuse(), 0x11 if told else 0x22)
+        check_equal(f"{name}: its messages", server.messages.read_text(), failed(how) if how else "")
+        check_equal(f"{name}: the fuse", fuse(), 0x11 if how else 0x22)
         check_equal(f"{name}: no run is left", runs(), [])
 
 
@@ -384,22 +387,22 @@ def a_command():
         (["sh", "-c", 'rm chip.bin; mkdir chip.bin; "$@"; exit 3', "sh", *client], 3, None),
         (["false"], 1, None),
     ]
-    for words, status, told in rows:
+    for words, status, message in rows:
         found = ran(["0", *M328P, "--", *words])
         check_equal(f"{words}: the status, and no run is left", (found[0], runs()), (status, []))
-        check(f"{words}: its messages", told is None or found[1:] == (told, ""), found)
+        check(f"{words}: its messages", message is None or found[1:] == (message, ""), found)
         shutil.rmtree(room.folder / "chip.bin", ignore_errors=True)
     # (a child, one that has lost its parent, one that ignores the signal)
     rows = [("exec sleep 600", 143, "TERM"), ("sleep 600; true", 143, "INT")]
     rows += [("(sleep 600 & sleep 600 &); sleep 600; true", 143, "HUP")]
     for command, status, name in [*rows, ("trap '' TERM; while :; do sleep 600; done", 137, "TERM")]:
-        with Serving("--", "sh", "-c", f"echo begun; {command}") as it:
-            check_equal(f"{command}: its output", it.said, b"begun\n")
-            check_equal(f"{command}: SIG{name} ends it too", it.end(signal.Signals[f"SIG{name}"]), (status, ""))
+        with Serving("--", "sh", "-c", f"echo begun; {command}") as server:
+            check_equal(f"{command}: its output", server.printed, b"begun\n")
+            check_equal(f"{command}: SIG{name} ends it too", server.end(signal.Signals[f"SIG{name}"]), (status, ""))
             check_equal(f"{command}: and all that it started", runs(b"sleep"), [])
-    told = "avrstk-serve: sh is ended: it went on for 0.5 seconds (--timeout)\n"
+    message = "avrstk-serve: sh is ended: it went on for 0.5 seconds (--timeout)\n"
     check_equal(
-        "--timeout", ran(["0", *M328P, "--timeout", "0.5", "--", "sh", "-c", "sleep 600; true"]), (124, told, "")
+        "--timeout", ran(["0", *M328P, "--timeout", "0.5", "--", "sh", "-c", "sleep 600; true"]), (124, message, "")
     )
     check_equal("all is ended", runs(b"sleep"), [])
 
@@ -416,29 +419,29 @@ def a_job_ends():
     """If a session fails, or the server ends it, a command has ten seconds to end, or to begin a session that ends
     well. Then the command is ended with all that it has started."""
     begun, held = time.monotonic(), {}
-    for options, before, after, status, told in table("jobs"):
+    for options, before, after, status, message in table("jobs"):
         folder = Path(tempfile.mkdtemp(dir=room.folder))
         (folder / "sub").mkdir()
         client = f"{before}; (eval '{GOES_ON}') {after}"
         words = [*options.split(), "-p", "m328p", "--chip", "sub/chip.bin", "--", "bash", "-c", client, "bash", "{}"]
         how = {"cwd": folder, "env": environment(), "stderr": subprocess.PIPE, "text": True}
-        held[options, before] = subprocess.Popen([SCRIPT, *words], **how), int(status), told
+        held[options, before] = subprocess.Popen([SCRIPT, *words], **how), int(status), message
     try:
-        for name, (it, status, told) in held.items():
-            found = it.communicate(timeout=PATIENCE)[1]
-            check_equal(f"{name}: the status", it.returncode, status)
+        for name, (started, status, message) in held.items():
+            found = started.communicate(timeout=PATIENCE)[1]
+            check_equal(f"{name}: the status", started.returncode, status)
             check(
                 f"{name}: its messages",
-                told in found and ("is ended: it went on for 10 seconds after that" in found) == status,
+                message in found and ("is ended: it went on for 10 seconds after that" in found) == status,
                 found,
             )
         check("ten seconds", 10 <= time.monotonic() - begun, time.monotonic() - begun)
         check_equal("nothing is left", runs(b"sleep") + runs(), [])
     finally:
-        for it in runs(b"sleep") + runs(b"avrstk-serve"):
-            os.kill(it, signal.SIGKILL)
-        for it in room.folder.glob("tmp*"):
-            shutil.rmtree(it)
+        for process in runs(b"sleep") + runs(b"avrstk-serve"):
+            os.kill(process, signal.SIGKILL)
+        for made in room.folder.glob("tmp*"):
+            shutil.rmtree(made)
 
 
 def at_a_terminal():
@@ -446,7 +449,7 @@ def at_a_terminal():
     for keys, status in [(b"7\n", 7), (b"\x03", 130)]:
         child, terminal = pty.fork()
         if child == 0:
-            words = [SCRIPT, "0", *M328P, "--", "sh", "-c", 'echo begun; read it </dev/tty; exit "$it"']
+            words = [SCRIPT, "0", *M328P, "--", "sh", "-c", 'echo begun; read status </dev/tty; exit "$status"']
             os.chdir(room.folder)
             os.execve(SCRIPT, list(map(str, words)), environment())
         shown = b""
@@ -460,8 +463,8 @@ def at_a_terminal():
 
 def no_inner_port():
     """A client's run listens at no port, so no other program can connect to it."""
-    with Serving() as it:
-        client, run = changes_fuse(it, 0x60)
+    with Serving() as server:
+        client, run = changes_fuse(server, 0x60)
         rows = "".join(Path(f"/proc/net/{name}").read_text() for name in ["tcp", "tcp6", "udp", "udp6"])
         network = {row.split()[9] for row in rows.splitlines() if row.split()[0] != "sl"}
         held = [os.readlink(file) for file in Path(f"/proc/{run}/fd").iterdir()]
@@ -469,7 +472,7 @@ def no_inner_port():
         check("its client is a socket", sockets)
         check_equal("none is of the network", [name for name in sockets if name[8:-1] in network], [])
         client.close()
-        check_equal("its status", it.end(), (0, ""))
+        check_equal("its status", server.end(), (0, ""))
 
 
 USAGE = "avrstk: error: usage: avrstk_session --serve|--check -p PART [--parts FILE] -P emu:CHIPFILE, or "
@@ -507,19 +510,19 @@ def modes_of_a_session():
 
 def errors_end_one_session():
     """If a run can't be started, the server disconnects the client and serves the next one."""
-    for it in [PROGRAM, SESSION]:
-        shutil.copy(it, room.folder / it.name)
+    for program in [PROGRAM, SESSION]:
+        shutil.copy(program, room.folder / program.name)
     copy = room.folder / "avrstk_session"
-    with Serving(program=room.folder / PROGRAM.name) as it:
-        check_equal("a client", it.writes_fuse(0x60), 0)
+    with Serving(program=room.folder / PROGRAM.name) as server:
+        check_equal("a client", server.writes_fuse(0x60), 0)
         copy.rename(room.folder / "moved")
-        with it.call() as client:
+        with server.call() as client:
             client.sendall(FRAMES[0])
             check_equal("one without a program is hung up on", client.recv(1), b"")
         (room.folder / "moved").rename(copy)
-        check_equal("the next client", it.writes_fuse(0x61), 0)
-        told = "avrstk-serve: a client can't be served: No such file or directory\n"
-        check_equal("it ends", it.end(), (1, told))
+        check_equal("the next client", server.writes_fuse(0x61), 0)
+        expected = "avrstk-serve: a client can't be served: No such file or directory\n"
+        check_equal("it ends", server.end(), (1, expected))
     check_equal("its chip", fuse(), 0x61)
 
 
@@ -527,27 +530,27 @@ def signals_that_are_ignored():
     """Signals that were ignored when the server began don't end it, or change its status."""
     found = ran(["0", "-p", "none", "--chip", "chip.bin"], before=lambda: signal.signal(signal.SIGCHLD, signal.SIG_IGN))
     check_equal("SIGCHLD", found, (1, lines("error: no part none").decode(), ""))
-    with Serving(before=lambda: signal.signal(signal.SIGTERM, signal.SIG_IGN)) as it:
-        it.started.terminate()
-        check_equal("SIGTERM", it.writes_fuse(0x60), 0)
-        check_equal("another signal ends it", it.end(signal.SIGINT), (0, ""))
+    with Serving(before=lambda: signal.signal(signal.SIGTERM, signal.SIG_IGN)) as server:
+        server.started.terminate()
+        check_equal("SIGTERM", server.writes_fuse(0x60), 0)
+        check_equal("another signal ends it", server.end(signal.SIGINT), (0, ""))
 
 
 def other_addresses():
     """With --listen the server serves at the given address of this machine: at 127.0.0.2, not at 127.0.0.1."""
     for address, shown in [("127.0.0.2", "127.0.0.2"), ("0.0.0.0", "0.0.0.0"), ("::1", "[::1]"), ("localhost", None)]:
         room.clear()
-        with Serving("--listen", address) as it:
-            if address == "::1" and not it.said:
+        with Serving("--listen", address) as server:
+            if address == "::1" and not server.printed:
                 leave_out("::1", "this machine has no such address")
                 continue
             if shown:
-                check_equal(f"{address}: its line", it.said, f"serving at {shown}:{it.port}\n".encode())
+                check_equal(f"{address}: its line", server.printed, f"serving at {shown}:{server.port}\n".encode())
             place = shown if shown and shown != "0.0.0.0" else "127.0.0.1"
-            check_equal(f"{address}: a client", it.writes_fuse(0x60, place), 0)
+            check_equal(f"{address}: a client", server.writes_fuse(0x60, place), 0)
             if address == "127.0.0.2":
-                check_equal(f"{address}: nobody listens elsewhere", it.writes_fuse(0x61), 1)
-            check_equal(f"{address}: it ends", it.end(), (0, ""))
+                check_equal(f"{address}: nobody listens elsewhere", server.writes_fuse(0x61), 1)
+            check_equal(f"{address}: it ends", server.end(), (0, ""))
         check_equal(f"{address}: the fuse", fuse(), 0x60)
 
 
@@ -555,8 +558,8 @@ def devices():
     """With --pty a client opens a link to a terminal, and is served as at a port."""
     link = room.folder / "device"
     # (a run under load takes a while until its first reply)
-    with Serving("--pty", "device", "--idle", "3", port=None) as it:
-        check_equal("its line", it.said, b"serving at device\n")
+    with Serving("--pty", "device", "--idle", "3", port=None) as server:
+        check_equal("its line", server.printed, b"serving at device\n")
         os.close(os.open(link, os.O_RDWR | os.O_NOCTTY))
         words = ["-p", "m328p", "-P", link, "--wait", "0", "-q"]
         for name in ["blink.hex:i", "whole.bin:r"]:
@@ -568,10 +571,10 @@ def devices():
         os.write(idle, FRAMES[0])
         check_equal("an idle client is hung up on after its reply", read_whole(idle), REPLIES[: ENDS[0]])
         os.close(idle)
-        told = "avrstk-serve: a client sent nothing for 3 seconds: hung up\n"
-        check_equal("it ends", it.end(), (0, told))
+        expected = "avrstk-serve: a client sent nothing for 3 seconds: hung up\n"
+        check_equal("it ends", server.end(), (0, expected))
         check("its link is removed", not link.is_symlink())
-    with Serving("--pty", "device", port=None) as it:
+    with Serving("--pty", "device", port=None) as server:
         first = os.open(link, os.O_RDWR | os.O_NOCTTY)
         os.write(first, FRAMES[0])
         check_equal("a first client", os.read(first, 100), REPLIES[: ENDS[0]])
@@ -585,11 +588,11 @@ def devices():
         os.kill(run, signal.SIGCONT)
         check_equal("a second client at once", os.read(second, 100), REPLIES[: ENDS[0]])
         os.close(second)
-        check_equal("it ends", it.end(), (0, ""))
-    check_equal("nothing is left", [it.name for it in room.folder.glob("device*")], [])
-    with Serving("--pty", "device", port=None) as it:
+        check_equal("it ends", server.end(), (0, ""))
+    check_equal("nothing is left", [file.name for file in room.folder.glob("device*")], [])
+    with Serving("--pty", "device", port=None) as server:
         client = os.open(link, os.O_RDWR | os.O_NOCTTY)
-        (room.folder / f"device.avrstk-{it.started.pid}").write_text("somebody's")
+        (room.folder / f"device.avrstk-{server.started.pid}").write_text("somebody's")
         os.write(client, FRAMES[0])
         check_equal("a client beside a file with such a name", os.read(client, 100), REPLIES[: ENDS[0]])
         os.close(client)
@@ -600,8 +603,8 @@ def devices():
         os.write(client, FRAMES[0])
         check_equal("one that waits when another link is in its place", os.read(client, 100), REPLIES[: ENDS[0]])
         os.close(client)
-        check_equal("the server ends", it.started.wait(timeout=PATIENCE), 1)
-        check_equal("the messages", it.messages.read_text(), "avrstk-serve: device: File exists\n")
+        check_equal("the server ends", server.started.wait(timeout=PATIENCE), 1)
+        check_equal("the messages", server.messages.read_text(), "avrstk-serve: device: File exists\n")
         check_equal("the other link stays", os.readlink(link), "blink.hex")
     link.unlink()
     words = ["--pty", "device", *M328P, "--", "sh", "-c", 'cd / && [ -e {} ] && [ {} = "$AVRSTK_PORT" ]']
@@ -635,16 +638,16 @@ def logged():
     """With --log each command of a client has a line, with what became of it; noise and bad headers have none."""
     spoiled = bytearray(frame(3, 0x12, 9, 0, 0xAC, 0x80, 0, 0))
     spoiled[-1] ^= 1
-    with Serving("--log", "log") as it:
-        with it.call() as client:
+    with Serving("--log", "log") as server:
+        with server.call() as client:
             # (a bad header whose second byte looks like the start of a frame)
             client.sendall(b"noise" + FRAMES[0] + b"\x1b" + FRAMES[0] + FRAMES[1] + spoiled + frame(4, 0x12))
             replies = REPLIES[: ENDS[1]] + frame(3, 0xB0, 0xC1) + frame(4, 0x12, 0xC0)
-            check_equal("the replies", heard(client, len(replies)), replies)
-        with it.call() as client:
+            check_equal("the replies", received(client, len(replies)), replies)
+        with server.call() as client:
             check("another client", begins(client))
         wait_until(lambda: len(room.read("log").splitlines()) == 5)
-        with it.call() as client:
+        with server.call() as client:
             check("one whose run is killed", begins(client))
             (run,) = runs()
             os.kill(run, signal.SIGSTOP)
@@ -652,7 +655,7 @@ def logged():
             wait_until(lambda: has_read_all_of(client))
             os.kill(run, signal.SIGKILL)
             check_equal("it is hung up on", client.recv(1), b"")
-        it.end()
+        server.end()
     check_equal("its lines", marks(), [row for row, in table("log")])
 
 
@@ -661,10 +664,10 @@ def logs_that_take_no_more():
     reports that once, and a line in the log the lines that are missing."""
     pipe = room.folder / "pipe"
     os.mkfifo(pipe)
-    told = "avrstk-serve: pipe: nobody reads this pipe\n"
-    check_equal("nobody reads it", ran(["0", *M328P, "--log", "pipe"]), (1, told, ""))
+    expected = "avrstk-serve: pipe: nobody reads this pipe\n"
+    check_equal("nobody reads it", ran(["0", *M328P, "--log", "pipe"]), (1, expected, ""))
     reader = os.open(pipe, os.O_RDONLY | os.O_NONBLOCK)
-    with Serving("--log", "pipe") as it, it.call() as client:
+    with Serving("--log", "pipe") as server, server.call() as client:
         client.settimeout(PATIENCE)
         for _ in range(1_500):
             check("a reply", begins(client))
@@ -673,7 +676,7 @@ def logs_that_take_no_more():
         check("a reply", begins(client))
         missing = b"%d lines are missing" % (1_500 - held.count(b"\n"))
         check_equal("what is missing", os.read(reader, 1 << 20).partition(b"\n")[0], missing)
-        check_equal("it ends", it.end(), (0, "avrstk-serve: --log: lines are missing: its reader is too slow\n"))
+        check_equal("it ends", server.end(), (0, "avrstk-serve: --log: lines are missing: its reader is too slow\n"))
     os.close(reader)
     room.put("log", b"x" * 10)
     rows = [
@@ -681,10 +684,10 @@ def logs_that_take_no_more():
         ("log", ["--log-limit", "100"], "it is as long as --log-limit allows"),
     ]
     for name, words, why in rows:
-        with Serving("--log", name, *words) as it, it.call() as client:
+        with Serving("--log", name, *words) as server, server.call() as client:
             for _ in range(10):
                 check("a reply", begins(client))
-            check_equal(f"{name}: it ends", it.end(), (0, f"avrstk-serve: --log: lines are missing: {why}\n"))
+            check_equal(f"{name}: it ends", server.end(), (0, f"avrstk-serve: --log: lines are missing: {why}\n"))
     log = room.read("log")
     check("the log within its limit", log.endswith(b": SIGN_ON 01\n") and len(log) <= 100, log)
 
@@ -702,7 +705,7 @@ def faults():
     clients = [[str(PROGRAM)], ["avrdude", "-c", "stk500v2"] if has_avrdude() else None]
     old = room.read("whole.bin")
     for options, mark, *ends in table("faults"):
-        own = [it for it in options.split() if it != "-D"]
+        own = [option for option in options.split() if option != "-D"]
         for client, wanted in zip(clients, ends):
             if not client or not wanted:
                 continue
@@ -719,15 +722,15 @@ def faults():
                 "-U",
                 "flash:w:blink.hex:i",
             ]
-            status, told, _ = ran(["0", *M328P, "--log", "log", *own, "--", *words])
+            status, messages, _ = ran(["0", *M328P, "--log", "log", *own, "--", *words])
             chip = room.read("chip.bin")
             found = f"{status}, {state_of(chip[:1024], old)}, {state_of(chip[EEPROM:LFUSE], old)}"
             check_equal(f"{options}: {client[0]}: status, flash, EEPROM", found, wanted)
             check(f"{options}: {client[0]}: the log", any(mark in row for row in marks()), marks())
             check(
                 f"{options}: the seed is printed",
-                ("--seed 7 makes the same faults again" in told) == ("%" in options),
-                told,
+                ("--seed 7 makes the same faults again" in messages) == ("%" in options),
+                messages,
             )
     for words, command, status, count in [
         (["--lose", "1000"], "true", 0, 1),
@@ -735,42 +738,46 @@ def faults():
         (["--lose", "1000", "--strict"], "true", 1, 1),
         (["--strict"], "true", 0, 0),
     ]:
-        found, told, _ = ran(["0", *M328P, "--log", "log", *words, "--", command])
+        found, messages, _ = ran(["0", *M328P, "--log", "log", *words, "--", command])
         expected = status, "avrstk-serve: --lose 1000 never struck\n" * count
-        check_equal(f"{words} {command}: it never struck", (found, told), expected)
+        check_equal(f"{words} {command}: it never struck", (found, messages), expected)
     if not clients[1]:
         leave_out("faults with AVRDUDE", "AVRDUDE 7.1 is not installed")
 
 
 def reports():
     """--json writes each session: commands, faults, and whether the chip was saved; also for refused options."""
-    with Serving("--json", "report.json", "--lose-reply", "SIGN_ON#2", "--lose", "CHIP_ERASE") as it:
-        with it.call() as client:
+    with Serving("--json", "report.json", "--lose-reply", "SIGN_ON#2", "--lose", "CHIP_ERASE") as server:
+        with server.call() as client:
             check("a session", begins(client))
             client.sendall(FRAMES[0] + FRAMES[1])
-            check_equal("the reply to its third command", heard(client, ENDS[1] - ENDS[0]), REPLIES[ENDS[0] : ENDS[1]])
-        with it.call() as client:
+            check_equal(
+                "the reply to its third command", received(client, ENDS[1] - ENDS[0]), REPLIES[ENDS[0] : ENDS[1]]
+            )
+        with server.call() as client:
             check("one whose run is killed", begins(client))
             (run,) = runs()
             os.kill(run, signal.SIGKILL)
             check_equal("it is hung up on", client.recv(1), b"")
-        check_equal("its status", it.end()[0], 1)
+        check_equal("its status", server.end()[0], 1)
     held = report()
     faults = [{"fault": "--lose-reply SIGN_ON#2", "struck": 1}, {"fault": "--lose CHIP_ERASE", "struck": 0}]
     check_equal("the faults", (held["status"], held["faults"], held["seed"]), (1, faults, None))
-    sessions = [(it["commands"], len(it["faults"]), it["idle"], it["saved"]) for it in held["sessions"]]
+    sessions = [
+        (session["commands"], len(session["faults"]), session["idle"], session["saved"]) for session in held["sessions"]
+    ]
     check_equal("the sessions", sessions, [(3, 1, False, True), (1, 0, False, False)])
-    with Serving("--json", "report.json", "--lose", "SIGN_ON", "--idle", "1") as it:
-        with it.call() as client:
+    with Serving("--json", "report.json", "--lose", "SIGN_ON", "--idle", "1") as server:
+        with server.call() as client:
             client.sendall(FRAMES[0])
-            check_equal("an idle one ends", heard(client, 1), b"")
-        it.end()
+            check_equal("an idle one ends", received(client, 1), b"")
+        server.end()
     (session,) = report()["sessions"]
     check_equal("it is idle", (session["commands"], session["idle"], session["saved"]), (1, True, True))
     found, *_ = ran(["0", *M328P, "--json", "report.json", "--seed", "7", "--drop", "2%", "--", "sh", "-c", "exit 7"])
     check_equal("a command's status", (found, report()["status"], report()["seed"]), (7, 7, 7))
-    found, told, _ = ran(["0", "-p", "m328p", "--json", "report.json"])
-    check_equal("refused", (found, report()["error"]), (1, told[len("avrstk-serve: ") : -1]))
+    found, messages, _ = ran(["0", "-p", "m328p", "--json", "report.json"])
+    check_equal("refused", (found, report()["error"]), (1, messages[len("avrstk-serve: ") : -1]))
     room.put("chip.bin", b"no chip")
     check_equal("its own chip", ran(["0", *M328P, "--json", "./chip.bin"])[0], 1)
     check_equal("the chip stays", room.read("chip.bin"), b"no chip")
@@ -835,4 +842,8 @@ TIMED = [
 ]
 
 if __name__ == "__main__":
-    sys.exit(run_cases({name: lambda it=it: (room.clear(), it()) for name, it in CASES.items()}, __doc__, timed=TIMED))
+    sys.exit(
+        run_cases(
+            {name: lambda case=case: (room.clear(), case()) for name, case in CASES.items()}, __doc__, timed=TIMED
+        )
+    )

@@ -47,23 +47,23 @@ class Doubles:
     def __init__(self, names, faults=None, prefix=()):
         self.names, faults = list(names), faults or {}
         self.started = {}
-        for it in self.names:
-            words = ["--pty", it, "-p", "m328p", "--chip", f"{it}.bin", *faults.get(it, [])]
-            self.started[it] = subprocess.Popen([*prefix, SERVE, *words], **HOW, cwd=room.folder)
+        for name in self.names:
+            words = ["--pty", name, "-p", "m328p", "--chip", f"{name}.bin", *faults.get(name, [])]
+            self.started[name] = subprocess.Popen([*prefix, SERVE, *words], **HOW, cwd=room.folder)
 
     def __enter__(self):
-        for it in self.started.values():
-            it.stdout.readline()
+        for double in self.started.values():
+            double.stdout.readline()
         return self
 
     def __exit__(self, *_):
-        for it in self.started.values():
-            it.terminate()
-        for it in self.started.values():
-            it.communicate(timeout=PATIENCE)
+        for double in self.started.values():
+            double.terminate()
+        for double in self.started.values():
+            double.communicate(timeout=PATIENCE)
 
     def ports(self):
-        return [word for it in self.names for word in ("-P", it)]
+        return [word for name in self.names for word in ("-P", name)]
 
 
 def run(words, **more):
@@ -94,7 +94,7 @@ def written(number=None):
 def lines_of(name, messages):
     """Returns avrstk's lines of a board."""
     front = f"{name}: avrstk: "
-    return [it[len(front) :] for it in messages if it.startswith(front)]
+    return [line[len(front) :] for line in messages if line.startswith(front)]
 
 
 # doubles with faults: their options, the kind of the failure, and its error
@@ -107,38 +107,40 @@ FAULTY = {
 
 def twenty_doubles():
     """Twenty doubles in one command, three of them with faults: the others are flashed, each with its own number."""
-    names = [f"d{it:02}" for it in range(20)]
-    good = [it for it in names if it not in FAULTY]
-    with Doubles(names, {it: words for it, (words, *_) in FAULTY.items()}) as doubles:
+    names = [f"d{number:02}" for number in range(20)]
+    good = [name for name in names if name not in FAULTY]
+    with Doubles(names, {name: words for name, (words, *_) in FAULTY.items()}) as doubles:
         words = [*FLASH, *doubles.ports(), *EACH, "--counter", "counter", "--from", "100", "--json", "report.json"]
-        status, output, told = run(words)
+        status, output, messages = run(words)
     held = report()
     check_equal("the status", (status, output, held["status"]), (1, "", 1))
-    check_equal("a report of each, in their order", [it["device"] for it in held["runs"]], names)
-    numbers = {it["device"]: it["number"] for it in held["runs"]}
+    check_equal("a report of each, in their order", [board["device"] for board in held["runs"]], names)
+    numbers = {board["device"]: board["number"] for board in held["runs"]}
     check_equal("twenty numbers", sorted(numbers.values()), list(range(100, 120)))
     check_equal("the next one", room.read("counter"), b"120\n")
-    for it in good:
-        check_equal(f"{it}: the lines", lines_of(it, told), [*DONE[:-1], *EEPROM_LINES, "done"])
-        check_equal(f"{it}: the chip", chip_of(it), written(numbers[it]))
-    for it in held["runs"]:
-        _, kind, error = FAULTY.get(it["device"], ([], None, None))
+    for name in good:
+        check_equal(f"{name}: the lines", lines_of(name, messages), [*DONE[:-1], *EEPROM_LINES, "done"])
+        check_equal(f"{name}: the chip", chip_of(name), written(numbers[name]))
+    for board in held["runs"]:
+        _, kind, error = FAULTY.get(board["device"], ([], None, None))
         check_equal(
-            f"{it['device']}: its report", (it["status"], it["kind"], it["error"]), (int(bool(kind)), kind, error)
+            f"{board['device']}: its report",
+            (board["status"], board["kind"], board["error"]),
+            (int(bool(kind)), kind, error),
         )
-    for it in FAULTY:
-        check_equal(f"{it}: the chip", chip_of(it) or b"\xff" * CHIP_FILE, b"\xff" * CHIP_FILE)
-    rows = [it[15:].split(None, 4) for it in told if it.startswith("avrstk-serial: ")][-22:]
+    for name in FAULTY:
+        check_equal(f"{name}: the chip", chip_of(name) or b"\xff" * CHIP_FILE, b"\xff" * CHIP_FILE)
+    rows = [line[15:].split(None, 4) for line in messages if line.startswith("avrstk-serial: ")][-22:]
     check_equal("the table's heads", rows[0], ["board", "number", "time", "result"])
     check_equal(
-        "its devices and numbers", {it[0]: it[1] for it in rows[1:-1]}, {it: str(n) for it, n in numbers.items()}
+        "its devices and numbers", {row[0]: row[1] for row in rows[1:-1]}, {name: str(n) for name, n in numbers.items()}
     )
-    check_equal("its results", [it[4] == "done" for it in rows[1:-1]], [it in good for it in names])
-    for it in rows[1:-1]:
-        _, kind, error = FAULTY.get(it[0], ([], "", ""))
-        check(f"{it[0]}: its row", f"({kind})" in it[4] and error in it[4] or not kind, it)
+    check_equal("its results", [row[4] == "done" for row in rows[1:-1]], [name in good for name in names])
+    for row in rows[1:-1]:
+        _, kind, error = FAULTY.get(row[0], ([], "", ""))
+        check(f"{row[0]}: its row", f"({kind})" in row[4] and error in row[4] or not kind, row)
     check_equal("its end", " ".join(rows[-1]), "20 boards: 17 done, 3 failed")
-    fronts = {it.split(": ")[0] for it in told}
+    fronts = {line.split(": ")[0] for line in messages}
     check_equal("each line has its device in front", fronts, {*names, "avrstk-serial"})
 
 
@@ -153,29 +155,35 @@ def one_command():
         reader, writer = os.pipe()
         os.write(writer, given.read())
         os.close(writer)
-        status, output, told = run([*words, *(word for it in updates for word in ("-U", it))], stdin=reader)
+        status, output, messages = run([*words, *(word for update in updates for word in ("-U", update))], stdin=reader)
         os.close(reader)
     *rows, held = output.splitlines()
-    check_equal("a board that isn't there", (status, [it["status"] for it in json.loads(held)["runs"]]), (1, [0, 0, 1]))
-    check_equal("its kind", [it["kind"] for it in json.loads(held)["runs"]], [None, None, "device"])
+    check_equal(
+        "a board that isn't there", (status, [board["status"] for board in json.loads(held)["runs"]]), (1, [0, 0, 1])
+    )
+    check_equal("its kind", [board["kind"] for board in json.loads(held)["runs"]], [None, None, "device"])
     why = "three: there is no such device (is the cable in?)"
-    check("its line", f"three: avrstk-serial: {why}" in told, told)
+    check("its line", f"three: avrstk-serial: {why}" in messages, messages)
     check_equal("lists go to the output", sorted(rows), ["one: 0xff", "two: 0xff"])
-    for it in ["one", "two"]:
-        check_equal(f"{it}: the chip", chip_of(it), written())
-        check_equal(f"{it}: its file", image_of(room.read(f"{it}.hex")), image_of(room.read("blink.hex")))
-    status, _, told = run(["-p", "m328p", "-P", "emu:a.bin", "-P", "emu:b.bin", "-e", "-q", "-q"])
-    check_equal("-q twice", (status, told), (0, []))
+    for name in ["one", "two"]:
+        check_equal(f"{name}: the chip", chip_of(name), written())
+        check_equal(f"{name}: its file", image_of(room.read(f"{name}.hex")), image_of(room.read("blink.hex")))
+    status, _, messages = run(["-p", "m328p", "-P", "emu:a.bin", "-P", "emu:b.bin", "-e", "-q", "-q"])
+    check_equal("-q twice", (status, messages), (0, []))
     for part in ["-p", "auto"], ["-p", "t85"]:
         with Doubles(["one", "two"]) as doubles:
             found = run([*part, *doubles.ports(), *FLASH[2:], "--json", "report.json"])
-        kinds = {it["kind"] for it in report()["runs"]}
+        kinds = {board["kind"] for board in report()["runs"]}
         check_equal(f"{part}", (found[0], kinds), (0, {None}) if part[1] == "auto" else (1, {"other part"}))
     status, output, _ = run(["-p", "m328p", "-P", "emu:a.bin", "-P", "emu:b.bin", "--backup", "kept-{board}"])
-    restore = [shlex.split(it.partition(": ")[2]) for it in sorted(output.splitlines())]
-    check_equal("backups", (status, [it[-1] for it in restore]), (0, [f"--restore=kept-emu-{it}.bin" for it in "ab"]))
-    for it in "ab":
-        shutil.rmtree(room.folder / f"kept-emu-{it}.bin")
+    restore = [shlex.split(line.partition(": ")[2]) for line in sorted(output.splitlines())]
+    check_equal(
+        "backups",
+        (status, [command[-1] for command in restore]),
+        (0, [f"--restore=kept-emu-{name}.bin" for name in "ab"]),
+    )
+    for name in "ab":
+        shutil.rmtree(room.folder / f"kept-emu-{name}.bin")
 
 
 def refused():
@@ -186,14 +194,14 @@ def refused():
 
     def ran(words):
         line, device = serial.terminal()
-        status, output, told = run(["-p", "m328p", *shlex.split(words.replace("DEVICE", device))])
+        status, output, messages = run(["-p", "m328p", *shlex.split(words.replace("DEVICE", device))])
         opened = serial.is_open(line)
         os.close(line)
-        own = [it.replace(device, "DEVICE") for it in told if not it.startswith("avrstk: ")]
+        own = [line.replace(device, "DEVICE") for line in messages if not line.startswith("avrstk: ")]
         return (status, output, len(own), opened), own
 
     rows = table("station")
-    for (words, wanted), (found, own) in zip(rows, serial.side_by_side(lambda it: ran(it[0]), rows)):
+    for (words, wanted), (found, own) in zip(rows, serial.side_by_side(lambda row: ran(row[0]), rows)):
         check_equal(f"{words}: its status and lines", found, (1, "", 1, False))
         check(f"{words}: the line", own and own[0].startswith(f"avrstk-serial: {wanted}"), own)
     check_equal("no number is taken", room.read("counter"), b"7\n")
@@ -213,11 +221,11 @@ def all_devices():
         with Doubles(["a.tty", "b.tty"]):
             command = [sys.executable, "-c", patch, SCRIPT, *words]
             ran = subprocess.run(command, cwd=room.folder, **HOW_TO_WAIT)
-        told = ran.stderr.decode().splitlines()
-        check_equal(f"{typed}: the list", (ran.returncode, told[0]), (0, "avrstk-serial: 2 boards: a.tty, b.tty"))
-    chips = [chip_of(it) for it in ("a.tty", "b.tty")]
-    check_equal("the rows", sorted(it[EEPROM : EEPROM + 2] for it in chips), [b"\x0a\x0b", b"\x0c\x0d"])
-    firmware = [it[:EEPROM] + b"\xff\xff" + it[EEPROM + 2 :] for it in chips]
+        messages = ran.stderr.decode().splitlines()
+        check_equal(f"{typed}: the list", (ran.returncode, messages[0]), (0, "avrstk-serial: 2 boards: a.tty, b.tty"))
+    chips = [chip_of(name) for name in ("a.tty", "b.tty")]
+    check_equal("the rows", sorted(chip[EEPROM : EEPROM + 2] for chip in chips), [b"\x0a\x0b", b"\x0c\x0d"])
+    firmware = [chip[:EEPROM] + b"\xff\xff" + chip[EEPROM + 2 :] for chip in chips]
     check_equal("the numbers, and the firmware", sorted(firmware), [written(1000), written(1001)])
 
 
@@ -246,19 +254,21 @@ def into_images():
         for at, text in [(0x7F00, "0x{n:04X}00FF"), (2, "{n:04}")]:
             each = ["--each", f"flash@{at}={text}", "--counter", "counter", "--from", "1000"]
             room.put("counter", b"4660\n")
-            status, _, told = run(["-p", "m328p", "-P", "emu:x.bin", "-U", f"flash:w:{name}", *each])
+            status, _, messages = run(["-p", "m328p", "-P", "emu:x.bin", "-U", f"flash:w:{name}", *each])
             wanted = {**image, **dict(enumerate(b"\x12\x34\0\xff" if "x" in text else b"4660", at))}
             chip = room.read("x.bin")
             found = {place: chip[place] for place in range(EEPROM)}
             all_of = {place: wanted.get(place, 0xFF) for place in range(EEPROM)}
             check_equal(f"{name}, {text}", (status, found == all_of), (0, True))
             check(
-                f"{name}: a missing end is reported", (name == "cut.hex") == ("no end record" in " ".join(told)), told
+                f"{name}: a missing end is reported",
+                (name == "cut.hex") == ("no end record" in " ".join(messages)),
+                messages,
             )
         room.clear()
-    status, _, told = run(["-p", "m328p", "-P", "emu:x.bin", "-U", "lock:w:0xFC:m", *COUNTED])
-    memories = [re.match(r"avrstk: (\w+): \d+ bytes written", it) for it in told]
-    check_equal("the lock comes last", (status, [it[1] for it in memories if it]), (0, ["eeprom", "lock"]))
+    status, _, messages = run(["-p", "m328p", "-P", "emu:x.bin", "-U", "lock:w:0xFC:m", *COUNTED])
+    memories = [re.match(r"avrstk: (\w+): \d+ bytes written", line) for line in messages]
+    check_equal("the lock comes last", (status, [match[1] for match in memories if match]), (0, ["eeprom", "lock"]))
     room.put("rows.csv", '\ufeffserial,mac\r\nA1,0102\r\n"Ü,2",0304\r\n'.encode())
     rows = ["--rows", "rows.csv", "--each", "eeprom@0={serial}", "--each", "eeprom@16=0x{mac}", "--json", "report.json"]
     for number, wanted in [(1, b"A1"), (2, "Ü,2".encode())]:
@@ -270,8 +280,8 @@ def into_images():
             (report()["number"], report()["each"][1]["hex"]),
             (number, f"0{2 * number - 1}0{2 * number}"),
         )
-    status, _, told = run(["-p", "m328p", "-P", "emu:3.bin", *rows, "--counter", "rows"])
-    check_equal("no third row", (status, told), (1, ["avrstk-serial: --rows rows.csv: all its 2 rows are given"]))
+    status, _, messages = run(["-p", "m328p", "-P", "emu:3.bin", *rows, "--counter", "rows"])
+    check_equal("no third row", (status, messages), (1, ["avrstk-serial: --rows rows.csv: all its 2 rows are given"]))
 
 
 COUNTED = [*EACH, "--counter", "counter", "--from", "0"]
@@ -281,10 +291,10 @@ def retried():
     """A retry takes a number of its own, since another board may be there by then."""
     lost = iter([b""] * 4)
     first = {"answer": lambda reply: next(lost, reply) if reply[5] == 0x15 else reply}
-    it = serial.Boards(first, {})
-    status, _, told = run(["-p", "m328p", "-P", str(it.device), "--retry", "1", *COUNTED])
-    chip = it.end()
-    numbers = [it[15:] for it in told if "number" in it]
+    boards = serial.Boards(first, {})
+    status, _, messages = run(["-p", "m328p", "-P", str(boards.device), "--retry", "1", *COUNTED])
+    chip = boards.end()
+    numbers = [line[15:] for line in messages if "number" in line]
     check_equal("its numbers", numbers, [f"number {n}: eeprom@0x3F0=00000{n}" for n in (0, 1)])
     check_equal("the chip has the last one", (status, chip[EEPROM + PLACE :][:6]), (0, b"000001"))
 
@@ -308,7 +318,7 @@ def numbers_given_once():
         shutil.copy(SCRIPT, folder)
         (folder / "avrstk_session").symlink_to(SESSION)
         put_program(folder / "stand-in", STAND_IN)
-        ports = [word for it in range(30) for word in ("-P", f"emu:{it}")]
+        ports = [word for number in range(30) for word in ("-P", f"emu:{number}")]
         words = ["-q", "-q", "-p", "m328p", *ports, "--each", "eeprom@0={n:06}", "--counter", "number", "--from", "5"]
         noted = folder / "noted"
         noted.touch()
@@ -331,15 +341,15 @@ def numbers_given_once():
             begun, some = rows(), draw.randrange(60)
             pair = [starts([]), starts(SOMEBODY)]
             stations += 2
-            while rows() < begun + some and any(it.poll() is None for it in pair):
+            while rows() < begun + some and any(station.poll() is None for station in pair):
                 time.sleep(0.001)
-            for it in pair:
-                end_somehow(it, draw)
-                it.wait(PATIENCE)
+            for station in pair:
+                end_somehow(station, draw)
+                station.wait(PATIENCE)
         # (a station's boards may go on after it was killed)
         wait_until(lambda: not running_in(folder), 0.05)
-        found = [image_of(it.encode() + b":00000001FF\n") for it in noted.read_text().split(":00000001FF\n")[:-1]]
-        numbers = [int(bytes(it[at] for at in range(6))) for it in found]
+        found = [image_of(image.encode() + b":00000001FF\n") for image in noted.read_text().split(":00000001FF\n")[:-1]]
+        numbers = [int(bytes(image[at] for at in range(6))) for image in found]
         last = int((folder / "number").read_text())
     check(f"most are used, by {stations} stations", len(numbers) > count / 4, len(numbers))
     check_equal("none is given twice", len(set(numbers)), len(numbers))
@@ -365,9 +375,9 @@ def end_somehow(station, draw):
 def running_in(folder):
     """Returns the processes that run the script of this folder."""
     found = []
-    for it in Path("/proc").glob("[0-9]*/cmdline"):
+    for process in Path("/proc").glob("[0-9]*/cmdline"):
         with contextlib.suppress(OSError):
-            found += [it] if f"{folder}/avrstk-serial".encode() in it.read_bytes() else []
+            found += [process] if f"{folder}/avrstk-serial".encode() in process.read_bytes() else []
     return found
 
 
@@ -375,58 +385,60 @@ def signals():
     """SIGINT and SIGTERM end all boards, each with the state of its chip. If one board's process is killed, the others
     go on."""
     names = ["one", "two", "three"]
-    slow = {it: ["--late", "PROGRAM_FLASH:0.5"] for it in names}
+    slow = {name: ["--late", "PROGRAM_FLASH:0.5"] for name in names}
     for number in (signal.SIGTERM, signal.SIGINT):
         with Doubles(names, slow) as doubles:
-            it = busy([*FLASH, *doubles.ports(), "--json", "report.json"], 3)
-            it.send_signal(number)
-            told = it.communicate(timeout=PATIENCE)[1].decode().splitlines()
-        check_equal(f"{number.name}: the status", it.returncode, 1)
+            station = busy([*FLASH, *doubles.ports(), "--json", "report.json"], 3)
+            station.send_signal(number)
+            messages = station.communicate(timeout=PATIENCE)[1].decode().splitlines()
+        check_equal(f"{number.name}: the status", station.returncode, 1)
         for name in names:
             state = f"ended by {number.name}: the chip is erased or partly written, and may be held in reset"
             check(
-                f"{number.name}: {name}", any(row.startswith(f"{name}: avrstk-serial: {state}") for row in told), told
+                f"{number.name}: {name}",
+                any(row.startswith(f"{name}: avrstk-serial: {state}") for row in messages),
+                messages,
             )
-        check_equal(f"{number.name}: the report", {it["kind"] for it in report()["runs"]}, {"interrupted"})
+        check_equal(f"{number.name}: the report", {board["kind"] for board in report()["runs"]}, {"interrupted"})
     with Doubles(names, slow) as doubles:
-        it = busy([*FLASH, *doubles.ports(), "--json", "report.json"], 3)
-        boards = Path(f"/proc/{it.pid}/task/{it.pid}/children").read_text().split()
+        station = busy([*FLASH, *doubles.ports(), "--json", "report.json"], 3)
+        boards = Path(f"/proc/{station.pid}/task/{station.pid}/children").read_text().split()
         os.kill(int(boards[1]), signal.SIGKILL)
-        it.communicate(timeout=PATIENCE)
-    held = [(it["status"], it["kind"], it["chip"]) for it in report()["runs"]]
+        station.communicate(timeout=PATIENCE)
+    held = [(board["status"], board["kind"], board["chip"]) for board in report()["runs"]]
     killed = (1, "interrupted", "erased or partly written")
     check_equal(
-        "a board's process is killed", (it.returncode, held), (1, [(0, None, "done"), killed, (0, None, "done")])
+        "a board's process is killed", (station.returncode, held), (1, [(0, None, "done"), killed, (0, None, "done")])
     )
 
 
 def busy(words, count):
     """Starts the script, and returns it once so many boards have erased their chips."""
     file = (room.folder / "messages").open("w+b")
-    it = subprocess.Popen([SCRIPT, *words, "-l", "log"], cwd=room.folder, **HOW)
+    station = subprocess.Popen([SCRIPT, *words, "-l", "log"], cwd=room.folder, **HOW)
     file.close()
-    wait_until(lambda: (room.read("log") or b"").count(b"chip erased") == count or it.poll() is not None)
-    return it
+    wait_until(lambda: (room.read("log") or b"").count(b"chip erased") == count or station.poll() is not None)
+    return station
 
 
 def progress():
     """On a terminal each board has a line, which is redrawn below the messages; the messages and the table stay."""
-    with Doubles(["one", "two"], {it: ["--late", "READ_FLASH:0.02"] for it in ["one", "two"]}) as doubles:
+    with Doubles(["one", "two"], {name: ["--late", "READ_FLASH:0.02"] for name in ["one", "two"]}) as doubles:
         with forks:
             mine, theirs = pty.openpty()
         ioctl(theirs, termios.TIOCSWINSZ, struct.pack("4H", 24, 100, 0, 0))
         with forks:
-            it = subprocess.Popen([SCRIPT, *FLASH, *doubles.ports()], cwd=room.folder, **{**HOW, "stderr": theirs})
+            process = subprocess.Popen([SCRIPT, *FLASH, *doubles.ports()], cwd=room.folder, **{**HOW, "stderr": theirs})
         os.close(theirs)
         got = read_whole(mine).decode()
-        status = it.wait(PATIENCE)
+        status = process.wait(PATIENCE)
     stays, drawn = screen(got)
     check_equal("the messages of a board that stay", (status, lines_of("one", stays)), (0, DONE))
     check("the table is last", stays[-1] == "avrstk-serial: 2 boards: 2 done, 0 failed", stays)
-    check("two lines are drawn", all(len(it) == 2 for it in drawn), drawn)
-    check("each with its board", all([row[:4] for row in it] == ["one ", "two "] for it in drawn), drawn)
-    shown = [row for it in drawn for row in it]
-    check("with its progress", any(re.match(r"one reading flash: [\d,]+ bytes, \d+ %", it) for it in shown), shown)
+    check("two lines are drawn", all(len(drawing) == 2 for drawing in drawn), drawn)
+    check("each with its board", all([row[:4] for row in drawing] == ["one ", "two "] for drawing in drawn), drawn)
+    shown = [row for drawing in drawn for row in drawing]
+    check("with its progress", any(re.match(r"one reading flash: [\d,]+ bytes, \d+ %", row) for row in shown), shown)
 
 
 def screen(text):
@@ -446,17 +458,17 @@ def ordinary_user():
     """A user who isn't root has a counter in his folder. Where he may not write, no number is taken."""
     with tempfile.TemporaryDirectory(dir="/tmp") as name:
         folder = Path(name)
-        for it in (folder, folder / "his", folder / "other"):
-            it.mkdir(exist_ok=True)
-            it.chmod(0o755)
+        for path in (folder, folder / "his", folder / "other"):
+            path.mkdir(exist_ok=True)
+            path.chmod(0o755)
         if SOMEBODY:
             os.chown(folder / "his", 65534, 65534)
         else:
             (folder / "other").chmod(0o555)
         shutil.copytree(SHARED, folder / "lib")
         # (the programs may be in a folder of root's)
-        for it in (SCRIPT, PROGRAM, SESSION):
-            shutil.copy(it, folder)
+        for program in (SCRIPT, PROGRAM, SESSION):
+            shutil.copy(program, folder)
         for file, wanted in [("number", 0), ("../other/number", 1)]:
             words = ["-p", "m328p", "-P", "emu:a.bin", "-P", "emu:b.bin", *EACH, "--counter", file, "--from", "3"]
             command = [*SOMEBODY, PYTHON, str(folder / "avrstk-serial"), *words, "-q", "-q"]
@@ -481,4 +493,8 @@ CASES = named(
 TIMED = ["twenty_doubles", "one_command", "retried", "signals", "progress"]
 
 if __name__ == "__main__":
-    sys.exit(run_cases({name: lambda it=it: (room.clear(), it()) for name, it in CASES.items()}, __doc__, timed=TIMED))
+    sys.exit(
+        run_cases(
+            {name: lambda case=case: (room.clear(), case()) for name, case in CASES.items()}, __doc__, timed=TIMED
+        )
+    )

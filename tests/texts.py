@@ -72,7 +72,7 @@ def words_of(meaning, definitions):
 
 def pieces_of(text):
     """Returns the words of a text between what is put into it: arguments and great numbers."""
-    return [it for it in (piece.strip(" :") for piece in re.split(r"\{.*?\}|\d{4,}", text)) if it]
+    return [stripped for stripped in (piece.strip(" :") for piece in re.split(r"\{.*?\}|\d{4,}", text)) if stripped]
 
 
 def is_in(text, words):
@@ -82,7 +82,7 @@ def is_in(text, words):
 
 def lines_of(name, definitions):
     """Returns the words of each message of a variant; if no equation has its name, of all messages."""
-    every = [it for equations in definitions.values() for it in equations]
+    every = [equation for equations in definitions.values() for equation in equations]
     own = [meaning for patterns, meaning in every if re.search(rf"\b{name}\b", patterns)]
     return [words_of(meaning, definitions) for meaning in own or [meaning for _, meaning in every]]
 
@@ -96,7 +96,7 @@ def texts():
     """The text of each fault is in the words of its message line, but for those that the script lists."""
     definitions, found = equations(), list(faults())
     files = TOP.glob("crates/*/src/**/*.rt")
-    written = sum(it.read_text().count('#[error("') for it in files)
+    written = sum(file.read_text().count('#[error("') for file in files)
     check_equal("all texts are found", len(found), written)
     for crate, name, text in found:
         is_listed = text in [*UNPRINTED.get(crate, []), *OTHERWISE.get(crate, [])]

@@ -59,8 +59,8 @@ for crate in rt.rtlib.crates_below(os.getcwd()):
 def lend(copy):
     """Lends to the crates of `copy` what the rt ci at work in this checkout has proved (tests/all.py names it in
     PROVED_BY_CI). Without it, or if the kit has changed, rt proves the copy's crates itself, which takes minutes."""
-    names = [it for it in os.environ.get("PROVED_BY_CI", "").split() if (TOP / f"crates/{it}/out/rlib").is_dir()]
-    names = [it for it in names if (Path(copy) / "crates" / it).is_dir()]
+    names = [name for name in os.environ.get("PROVED_BY_CI", "").split() if (TOP / f"crates/{name}/out/rlib").is_dir()]
+    names = [name for name in names if (Path(copy) / "crates" / name).is_dir()]
     for name in names:
         shutil.copytree(TOP / f"crates/{name}/out/rlib", Path(copy) / f"crates/{name}/out/rlib")
     if not names:
@@ -73,7 +73,7 @@ def lend(copy):
 def line_of(name, top=TOP):
     """Returns the line of a crate in a repository's crates.txt."""
     lines = (top / "crates.txt").read_text().splitlines()
-    return next((it for it in lines if it.split(":")[0] == name), None)
+    return next((line for line in lines if line.split(":")[0] == name), None)
 
 
 @contextmanager
@@ -88,8 +88,8 @@ def repository():
 
 def ran(words, folder=TOP):
     """Runs a command in a folder, and returns its status and output."""
-    it = subprocess.run(words, cwd=folder, stdout=subprocess.PIPE, stderr=subprocess.STDOUT, text=True)
-    return it.returncode, it.stdout
+    done = subprocess.run(words, cwd=folder, stdout=subprocess.PIPE, stderr=subprocess.STDOUT, text=True)
+    return done.returncode, done.stdout
 
 
 def vendor(*words):
@@ -98,15 +98,15 @@ def vendor(*words):
 
 def files(top):
     """Returns each file of a repository, with its bytes."""
-    paths = [it for it in sorted(top.rglob("*")) if it.is_file() and ".git" not in it.parts]
-    return {str(it.relative_to(top)): it.read_bytes() for it in paths}
+    paths = [path for path in sorted(top.rglob("*")) if path.is_file() and ".git" not in path.parts]
+    return {str(path.relative_to(top)): path.read_bytes() for path in paths}
 
 
 def copied(top, *crates):
     """Checks that exactly these crates are there, identical to those here, with their lines."""
-    check_equal("crates", sorted(it.name for it in (top / "crates").iterdir()), sorted(crates))
+    check_equal("crates", sorted(crate.name for crate in (top / "crates").iterdir()), sorted(crates))
     for name in crates:
-        here = {it: text for it, text in files(TOP / "crates" / name).items() if it.split("/")[0] in PARTS}
+        here = {path: text for path, text in files(TOP / "crates" / name).items() if path.split("/")[0] in PARTS}
         check(f"{name} as it is here", files(top / "crates" / name) == here)
         check_equal(f"line of {name}", line_of(name, top), line_of(name))
 
@@ -124,10 +124,10 @@ def all_that_it_stands_on():
 def the_network_is_named():
     """If a copied crate uses the network, the script prints the line that `HANDLES` needs."""
     needs = "HANDLES of {} needs the line 'Handles allowed: Net.'"
-    for crate, told in [("avr_tool", True), ("avr_session", False)]:
+    for crate, is_needed in [("avr_tool", True), ("avr_session", False)]:
         with repository() as top:
             status, text = vendor(crate, top)
-            check(f"{crate}: HANDLES", status == 0 and (needs.format(top) in text) == told, text)
+            check(f"{crate}: HANDLES", status == 0 and (needs.format(top) in text) == is_needed, text)
 
 
 def what_is_there_stays():
@@ -141,7 +141,7 @@ def what_is_there_stays():
         check("the crate below is left", status == 0 and "avr_image: there already\n" in text, text)
         after = files(top)
         before.pop("crates.txt")
-        check_equal("nothing else changed", {it: after[it] for it in before}, before)
+        check_equal("nothing else changed", {path: after[path] for path in before}, before)
         check_equal("the lines", after["crates.txt"].decode(), f"{lines}\n{line_of('avr_records')}\n")
 
 

@@ -41,12 +41,12 @@ def table_is_printed():
     ran = subprocess.run([TOP / "examples/lossy/compare.py"], **how)
     found = rows(ran.stdout)
     if not has_avrdude():
-        for row in (it for it in wanted if "`avrdude" in it):
+        for row in (row for row in wanted if "`avrdude" in row):
             leave_out(f"docs/WHY: {row[:60]}", "AVRDUDE 7.1 is not installed")
-        wanted, found = ([it for it in table if "`avrdude" not in it] for table in (wanted, found))
+        wanted, found = ([row for row in table if "`avrdude" not in row] for table in (wanted, found))
     for row in wanted:
         check(f"is printed: {row}", row in found, "\n".join(found))
-    check_equal("no other row is printed", [it for it in found if it not in wanted], [])
+    check_equal("no other row is printed", [row for row in found if row not in wanted], [])
     check("the status", ran.returncode == 0, f"{ran.returncode}: {ran.stderr[-500:]}")
 
 
@@ -55,17 +55,19 @@ def frames_are_sent():
     picture = re.search(r"^    AVRDUDE 7\.1 +avrstk\n\n((?:    .*\n)+)", (TOP / "docs/WHY.md").read_text(), re.M)[
         1
     ].splitlines()
-    half = max(it.rfind("CHIP_ERASE ──") for it in picture) - 4
+    half = max(row.rfind("CHIP_ERASE ──") for row in picture) - 4
     firmware = ["-p", "m328p", "-U", "flash:w:blink.hex:i"]
     for tool, column, is_right in [
-        (["avrdude", "-c", "stk500v2"], [it[:half] for it in picture], False),
-        ([PROGRAM], [it[half:] for it in picture], True),
+        (["avrdude", "-c", "stk500v2"], [row[:half] for row in picture], False),
+        ([PROGRAM], [row[half:] for row in picture], True),
     ]:
         name = "avrstk" if is_right else "AVRDUDE"
         if not is_right and not has_avrdude():
             leave_out("docs/WHY: the frames of AVRDUDE", "AVRDUDE 7.1 is not installed")
             continue
-        shown = [(int(number), COMMANDS[it]) for number, it in re.findall(r"(\d+) (\w+) ─", "\n".join(column))]
+        shown = [
+            (int(number), COMMANDS[command]) for number, command in re.findall(r"(\d+) (\w+) ─", "\n".join(column))
+        ]
         room.clear()
         old = bytearray(b"\xff" * CHIP_FILE)
         old[8192:8448] = bytes(256)
@@ -81,11 +83,13 @@ def frames_are_sent():
         }
         ran = subprocess.run([*tool, *firmware, "-P", f"net:127.0.0.1:{line.port}"], **how)
         taken = time.monotonic() - begun
-        sent = [(it[1], it[5]) for it in line.end() if it[5] not in MODES]
+        sent = [(request[1], request[5]) for request in line.end() if request[5] not in MODES]
         sent = sent[sent.index(shown[0]) :]
         check_equal(f"{name}: the frames", sent[: len(shown)], shown)
         more = "128 blocks" in "\n".join(column) and 127
-        check_equal(f"{name}: and then", [it for _, it in sent[len(shown) :]], [COMMANDS["READ_FLASH"]] * more)
+        check_equal(
+            f"{name}: and then", [command for _, command in sent[len(shown) :]], [COMMANDS["READ_FLASH"]] * more
+        )
         check(f"{name}: the wait", taken >= int(re.search(r"waits (\d+) s", "\n".join(column))[1]), taken)
         check(f"{name}: verified, status 0", ran.returncode == 0 and "verified" in ran.stderr, ran)
         is_old = room.read("served.bin")[8192:8448] == bytes(256)
@@ -96,7 +100,7 @@ def bad_files():
     """Checks how AVRDUDE 7.1 handles files, as README and docs/USAGE say."""
     if not has_avrdude():
         return leave_out("AVRDUDE's part", "AVRDUDE 7.1 is not installed")
-    hexes, source = ((TOP / f"examples/blink.{it}").read_text() for it in ("hex", "c"))
+    hexes, source = ((TOP / f"examples/blink.{suffix}").read_text() for suffix in ("hex", "c"))
     with_bad_sum = re.sub(r"(?m)^(:.*)(..)$", r"\g<1>00", hexes, count=1)
     for name, content, update, status, is_kept in [
         ("a bad checksum: it has erased the chip", with_bad_sum, "image.hex:i", 1, False),
@@ -147,9 +151,11 @@ def no_answer():
         else:
             leave_out("AVRDUDE's patience", "AVRDUDE 7.1 is not installed")
         # (one of the two that called)
-        heard = [silent.accept()[0].recv(4096) for _ in range(1 + bool(other))]
-        wanted = b"".join([*(frame(it, 0x01) for it in range(1, 5)), *(frame(it, 0x11, 1, 1) for it in range(5, 9))])
-        check("four attempts to sign on, four to leave", wanted in heard, heard)
+        received = [silent.accept()[0].recv(4096) for _ in range(1 + bool(other))]
+        wanted = b"".join(
+            [*(frame(number, 0x01) for number in range(1, 5)), *(frame(number, 0x11, 1, 1) for number in range(5, 9))]
+        )
+        check("four attempts to sign on, four to leave", wanted in received, received)
 
 
 def used_by(process):
@@ -170,23 +176,23 @@ def closed_connection():
     with socket.create_server(("127.0.0.1", 0)) as door:
         port = ["-p", "m328p", "-P", f"net:127.0.0.1:{door.getsockname()[1]}"]
         avrdude = ["avrdude", "-qq", "-c", "stk500v2"]
-        for tool, told in [([PROGRAM], "ended"), ([PROGRAM], "cannot be read"), (avrdude, "")]:
-            if not told and not has_avrdude():
+        for tool, error in [([PROGRAM], "ended"), ([PROGRAM], "cannot be read"), (avrdude, "")]:
+            if not error and not has_avrdude():
                 leave_out("AVRDUDE at a closed connection", "AVRDUDE 7.1 is not installed")
                 continue
             started = subprocess.Popen([*tool, *port], **quiet)
             client = door.accept()[0]
             client.recv(100)
             # the reply and the end arrive together, or a command that isn't read makes the close a reset
-            client.setsockopt(socket.IPPROTO_TCP, socket.TCP_CORK, told != "cannot be read")
+            client.setsockopt(socket.IPPROTO_TCP, socket.TCP_CORK, error != "cannot be read")
             client.sendall(REPLIES[: ENDS[0]])
-            if told == "cannot be read":
+            if error == "cannot be read":
                 client.recv(1, socket.MSG_PEEK)
             client.close()
             begun = pauses.awake()
-            if told:
+            if error:
                 messages = started.communicate(timeout=PATIENCE)[1]
-                check_equal(f"`link {told}`", (started.returncode, messages), (1, lines(f"error: link {told}")))
+                check_equal(f"`link {error}`", (started.returncode, messages), (1, lines(f"error: link {error}")))
                 check("at once", pauses.awake() - begun < 2, pauses.awake() - begun)
                 continue
             time.sleep(5)

@@ -49,14 +49,14 @@ def items(source, place):
             if kind in ("trait", "impl")
             else []
         )
-        ghosts = [row for it in inner if it.kind == "ghost" for row in ["", *it.shown]][1:]
-        calls = [it for it in inner if it.kind in ("fn", "const")]
+        ghosts = [row for member in inner if member.kind == "ghost" for row in ["", *member.shown]][1:]
+        calls = [member for member in inner if member.kind in ("fn", "const")]
         if kind == "fn":
             first = next(
-                (at for at, it in enumerate(rows) if re.match(r"\s+(?:requires|ensures|//)|\{", it)), len(rows)
+                (at for at, row in enumerate(rows) if re.match(r"\s+(?:requires|ensures|//)|\{", row)), len(rows)
             )
-            shown = [re.sub(r" \{\}?$", "", it) for it in rows[:first]]
-            clauses = [it[4:] for it in rows[first:] if it not in ("{", "{}")]
+            shown = [re.sub(r" \{\}?$", "", row) for row in rows[:first]]
+            clauses = [row[4:] for row in rows[first:] if row not in ("{", "{}")]
             yield Item("law" if rows[-1] == "{}" else kind, name, doc, shown, clauses, [], place)
         elif kind == "struct":
             fields = re.sub(r"(?:^    ///.*\n)*^    (?:pub\(|pub ghost |(?!pub )\w).*\n", "\0", whole, flags=re.M)
@@ -70,7 +70,7 @@ def items(source, place):
                 place,
             )
         elif kind == "trait":
-            types = [f"    {row}" for it in inner if it.kind == "type" for row in it.shown]
+            types = [f"    {row}" for member in inner if member.kind == "type" for row in member.shown]
             yield Item(
                 kind, name, doc, [rows[0], *types, "}"] if types else [rows[0].rstrip(" {")], ghosts, calls, place
             )
@@ -80,7 +80,7 @@ def items(source, place):
             yield Item(kind, name, doc, head, [], calls, place)
         else:
             yield Item(
-                kind, name, doc, [*(f"/// {it}" for it in doc if kind == "ghost"), *derived, *rows], [], [], place
+                kind, name, doc, [*(f"/// {line}" for line in doc if kind == "ghost"), *derived, *rows], [], [], place
             )
 
 
@@ -100,11 +100,11 @@ def exports(crate):
         if module in CRATES:
             others.setdefault(module, []).extend(names)
         else:
-            known = {it.name: it for it in files.get(module) or exports(module)[0] if it.kind != "impl"}
-            own += [known[it] for it in names]
+            known = {item.name: item for item in files.get(module) or exports(module)[0] if item.kind != "impl"}
+            own += [known[name] for name in names]
     for module in re.findall(r"^pub mod (\w+);", root, re.M):
-        own += [it for it in files[module] if it.kind == "law"]
-        numbers = [row for it in files[module] if it.kind == "const" and it not in own for row in it.shown]
+        own += [item for item in files[module] if item.kind == "law"]
+        numbers = [row for item in files[module] if item.kind == "const" and item not in own for row in item.shown]
         own += (
             [
                 Item(
@@ -120,10 +120,12 @@ def exports(crate):
             if numbers
             else []
         )
-    for it in [it for file in files.values() for it in file if it.kind == "impl" and not HIDDEN.match(it.shown[0])]:
-        of = re.search(r"(\w+)(?:<.*>)? for ", it.shown[0])
-        if owner := next((x for name in (it.name, of and of[1]) for x in own if x.name == name), None):
-            owner.inner.extend([it] if of else [x for x in it.inner if x.shown[0].startswith("pub ")])
+    for impl in [
+        item for file in files.values() for item in file if item.kind == "impl" and not HIDDEN.match(item.shown[0])
+    ]:
+        of = re.search(r"(\w+)(?:<.*>)? for ", impl.shown[0])
+        if owner := next((x for name in (impl.name, of and of[1]) for x in own if x.name == name), None):
+            owner.inner.extend([impl] if of else [x for x in impl.inner if x.shown[0].startswith("pub ")])
     return own, others
 
 
@@ -141,7 +143,7 @@ def text(doc, crate):
     """Returns a comment as a page has it: `# Errors` begins a paragraph, a name in brackets is a link if a page has
     it."""
     joined = re.sub(r"^# (\w+)\n+", r"**\1:** ", "\n".join(doc), flags=re.M).replace("```text", "```rust")
-    return LINK.sub(lambda it: link(it[1].removeprefix("crate::"), crate), joined)
+    return LINK.sub(lambda match: link(match[1].removeprefix("crate::"), crate), joined)
 
 
 def block(kind, rows):
@@ -154,9 +156,9 @@ def anchor(file, name):
     return f"{file}.{name}".strip("◌").lower()
 
 
-def cited(it):
+def cited(item):
     """Yields the rows on the definitions that a contract names."""
-    places = sorted({place for place in named_in(*it.place, "\n".join(it.contract)) if place})
+    places = sorted({place for place in named_in(*item.place, "\n".join(item.contract)) if place})
     if places:
         links = (
             f'<a href="../definitions/{crate}.html#{anchor(file, name)}">{name}</a>' for crate, file, name in places
@@ -167,34 +169,34 @@ def cited(it):
         yield from block("text", rows) if len(rows) <= SHORT else []
 
 
-def shown(it, crate, mark="##", of=""):
+def shown(item, crate, mark="##", of=""):
     """Yields the rows of an item: its heading, signature, comment and contract, and then what is in it."""
     yield from [
         "",
-        f"{mark} {of}{it.name}",
-        *block("rust", [] if it.kind == "law" else it.shown),
+        f"{mark} {of}{item.name}",
+        *block("rust", [] if item.kind == "law" else item.shown),
         "",
-        text(it.doc, crate),
+        text(item.doc, crate),
     ]
-    if it.contract:
+    if item.contract:
         yield from [
             "",
-            f"<details><summary>{FOLDED.get(it.kind, 'Contract')}</summary>",
-            *block("text", it.contract),
-            *cited(it),
+            f"<details><summary>{FOLDED.get(item.kind, 'Contract')}</summary>",
+            *block("text", item.contract),
+            *cited(item),
             "",
             "</details>",
         ]
-    for inner in (x for x in it.inner if x.kind != "impl"):
-        yield from shown(inner, crate, "###", f"{it.name}::")
-    made = [row for x in it.inner if x.kind == "impl" for row in x.shown]
+    for inner in (x for x in item.inner if x.kind != "impl"):
+        yield from shown(inner, crate, "###", f"{item.name}::")
+    made = [row for x in item.inner if x.kind == "impl" for row in x.shown]
     yield from ["", "Implemented:", *block("rust", made)] if made else []
 
 
 def page(crate):
     """Returns the page of a crate."""
     own, others = exports(crate)
-    calls, laws = ([it for it in own if (it.kind == "law") == is_law] for is_law in (False, True))
+    calls, laws = ([item for item in own if (item.kind == "law") == is_law] for is_law in (False, True))
     root = (TOP / "crates" / crate / "src/lib.rt").read_text()
     rows = [
         f"# {crate}",
@@ -205,23 +207,24 @@ def page(crate):
     ]
     rows += [
         f"It sees all names of this page{', and those of these lines:' if MORE[crate] else '.'}",
-        *block("rust", [f"use {it};" for it in MORE[crate]]),
+        *block("rust", [f"use {path};" for path in MORE[crate]]),
     ]
     rows += ["", "| Name | What it is |", "| --- | --- |"]
     rows += [
-        f"| {link(it.name, crate)} | {re.split(r'(?<=[.]) ', text([' '.join(it.doc)], crate))[0]} |" for it in calls
+        f"| {link(item.name, crate)} | {re.split(r'(?<=[.]) ', text([' '.join(item.doc)], crate))[0]} |"
+        for item in calls
     ]
     rows += [
-        f"| of [{name}]({name}.md) | {', '.join(link(f'{name}::{it}', crate) for it in names)} |"
+        f"| of [{name}]({name}.md) | {', '.join(link(f'{name}::{export}', crate) for export in names)} |"
         for name, names in others.items()
     ]
-    rows += [row for it in calls for row in shown(it, crate)]
+    rows += [row for item in calls for row in shown(item, crate)]
     rows += ["", "## Laws", "", "What a law ensures is proved once. A proof cites it by a call."] if laws else []
-    return "\n".join([*rows, *(row for it in laws for row in shown(it, crate, "###"))]) + "\n"
+    return "\n".join([*rows, *(row for law in laws for row in shown(law, crate, "###"))]) + "\n"
 
 
 # the anchors of each page
 HEADINGS = {
-    crate: {f"{it.name}{name}".lower() for it in exports(crate)[0] for name in ["", *(x.name for x in it.inner)]}
+    crate: {f"{item.name}{name}".lower() for item in exports(crate)[0] for name in ["", *(x.name for x in item.inner)]}
     for crate in CRATES
 }

@@ -29,13 +29,13 @@ CODE = ("docs/api/", "docs/definitions/", "crates/")
 # the width of the page's contents, the smallest letters of its pictures, the brightness of its ground and text, and how
 # many copy buttons cover code
 MEASURED = """
-const bright = it => { const [r, g, b] = it.match(/[\\d.]+/g).map(Number); return (r + g + b) / 3 }
+const bright = colour => { const [r, g, b] = colour.match(/[\\d.]+/g).map(Number); return (r + g + b) / 3 }
 const style = getComputedStyle(document.body)
 const letters = [...document.querySelectorAll("svg.picture")].map(
-    it => 16 * it.getBoundingClientRect().width / it.viewBox.baseVal.width)
+    picture => 16 * picture.getBoundingClientRect().width / picture.viewBox.baseVal.width)
 const wide = document.documentElement.scrollWidth
-const buttons = [...document.querySelectorAll("button.copybtn")].filter(it =>
-    it.getBoundingClientRect().left < it.parentElement.querySelector("pre").getBoundingClientRect().right)
+const buttons = [...document.querySelectorAll("button.copybtn")].filter(button =>
+    button.getBoundingClientRect().left < button.parentElement.querySelector("pre").getBoundingClientRect().right)
 return [wide, Math.min(99, ...letters), bright(style.backgroundColor), bright(style.color), buttons.length]
 """
 FIRST = "return document.querySelector('#search-results li a')?.href"
@@ -78,7 +78,7 @@ class Browser:
         return self.ask("/execute/sync", {"script": script, "args": []})
 
     def errors(self):
-        return [it["message"] for it in self.ask("/se/log", {"type": "browser"}) if it["level"] == "SEVERE"]
+        return [entry["message"] for entry in self.ask("/se/log", {"type": "browser"}) if entry["level"] == "SEVERE"]
 
     def shape(self, width, theme):
         """Gives the browser this width, and its user this preference."""
@@ -108,7 +108,7 @@ def faults_of(browser, page, name):
             yield f"{name}: the letters of a picture have {letters:.1f} pixels at {width}"
         if (ground < 80) != (theme == "dark") or abs(ground - text) < 100:
             yield f"{name}: in {theme} the ground has brightness {ground:.0f}, the text {text:.0f}"
-    yield from (f"{name}: {it}" for it in browser.errors())
+    yield from (f"{name}: {error}" for error in browser.errors())
 
 
 def found_first(browser, folder, sought):

@@ -67,9 +67,9 @@ def theorem():
     law = (LAWS / "src/program.rt").read_text()
     clause = re.search(r"^    ensures plan \{.*?\}$", law, re.M | re.S)[0].splitlines()
     text = (LAWS / "specs/KeptByPort.antt").read_text()
-    rows = [it.removeprefix("    ") for it in clause] + equations(text, "KeepsCommandLine")
+    rows = [line.removeprefix("    ") for line in clause] + equations(text, "KeepsCommandLine")
     rows += equations(text, "KeepsPlanAt")
-    return "\n".join([BEGUN, *(f"    {it}" for it in rows), "", KEY, "", ENDED])
+    return "\n".join([BEGUN, *(f"    {row}" for row in rows), "", KEY, "", ENDED])
 
 
 def with_theorem(text):
@@ -80,22 +80,22 @@ def with_theorem(text):
 def below(name, crates):
     """Returns the crates that a crate stands on, the lowest first."""
     found = []
-    for it in crates.get(name, []):
-        found += [x for x in (*below(it, crates), it) if x not in found]
+    for dependency in crates.get(name, []):
+        found += [x for x in (*below(dependency, crates), dependency) if x not in found]
     return found
 
 
 def axioms():
     """Returns the C functions whose contracts the program's check takes as written, by crate. It checks the program
     once more, over the libraries that the gate has built."""
-    lines = [re.sub("#.*", "", it).split() for it in (TOP / "crates.txt").read_text().splitlines()]
-    crates = {it[0].rstrip(":"): it[1:] for it in lines if it}
+    lines = [re.sub("#.*", "", line).split() for line in (TOP / "crates.txt").read_text().splitlines()]
+    crates = {row[0].rstrip(":"): row[1:] for row in lines if row}
     kit = Path(os.path.realpath(shutil.which("rattle"))).parent.parent
     names = below(PROGRAM, crates)
-    built = {it: f"crates/{it}/out/rlib/{it}.rlib" for it in names if it in crates}
-    if not all((TOP / it).exists() for it in built.values()):
+    built = {crate: f"crates/{crate}/out/rlib/{crate}.rlib" for crate in names if crate in crates}
+    if not all((TOP / path).exists() for path in built.values()):
         return {}
-    built |= {it: kit / f"rlibs/{it}.rlib" for it in [*names, "std", "core"] if it not in crates}
+    built |= {crate: kit / f"rlibs/{crate}.rlib" for crate in [*names, "std", "core"] if crate not in crates}
     words = ["rattle", "check", "--crate-name", PROGRAM, "src/main.rt", "--list-axioms"]
     for name, place in built.items():
         words += ["--extern", f"{name}={TOP / place}"]
@@ -104,8 +104,8 @@ def axioms():
     how = {"stdout": subprocess.PIPE, "stderr": subprocess.STDOUT, "text": True}
     ran = subprocess.run(words, cwd=TOP / "crates" / PROGRAM, **how)
     found = defaultdict(list)
-    for it in filter(None, map(REACHED.match, ran.stdout.splitlines())):
-        found[it[2]].append(it[1])
+    for match in filter(None, map(REACHED.match, ran.stdout.splitlines())):
+        found[match[2]].append(match[1])
     return found
 
 
@@ -129,7 +129,7 @@ class Crate:
 def read(log):
     """Returns what the log says of each crate, its refused mutants, its first line with the kit, and its summary."""
     crates, mutants, crate = {}, [], None
-    lines = [MINUTES.sub("", it) for it in log.read_text(errors="replace").splitlines()]
+    lines = [MINUTES.sub("", line) for line in log.read_text(errors="replace").splitlines()]
     for line in lines:
         if (found := CRATE.match(line)) and (TOP / "crates" / found[1]).is_dir():
             crate = crates.setdefault(found[1], Crate())
@@ -140,7 +140,7 @@ def read(log):
         elif crate:
             crate.see(line)
     summary = lines[lines.index("== summary") + 1 :] if "== summary" in lines else []
-    return crates, sorted(set(mutants)), next((it for it in lines if " GB free; " in it), ""), summary
+    return crates, sorted(set(mutants)), next((line for line in lines if " GB free; " in line), ""), summary
 
 
 def about(log, machine):
@@ -158,19 +158,19 @@ def about(log, machine):
 
 def verdicts(crates):
     yield from ["| Crate | Verdict | Functions | Axioms | Empty contracts |", "| --- | --- | ---: | ---: | --- |"]
-    for name, it in crates.items():
-        empty = f"{it.empty[0]} found, {it.empty[1]} of {it.empty[2]} functions tried" if it.empty else ""
-        verdict = f"`logic={it.verdict['verdict']}`" if it.verdict else "none"
-        functions, axioms = (it.verdict["functions"], it.verdict["axioms"] or 0) if it.verdict else ("", "")
+    for name, crate in crates.items():
+        empty = f"{crate.empty[0]} found, {crate.empty[1]} of {crate.empty[2]} functions tried" if crate.empty else ""
+        verdict = f"`logic={crate.verdict['verdict']}`" if crate.verdict else "none"
+        functions, axioms = (crate.verdict["functions"], crate.verdict["axioms"] or 0) if crate.verdict else ("", "")
         yield f"| {name} | {verdict} | {functions} | {axioms} | {empty} |"
 
 
 def refusals(mutants):
     yield from ["| Mutant | Refused at | What the prover said |", "| --- | --- | --- |"]
-    for crate, name, said in mutants:
-        only = LESS.match(said)
-        found = PLACE.match(only[2] if only else said)
-        place, words = (f"`{found[1]}`", found[2]) if found else ("", said)
+    for crate, name, reason in mutants:
+        only = LESS.match(reason)
+        found = PLACE.match(only[2] if only else reason)
+        place, words = (f"`{found[1]}`", found[2]) if found else ("", reason)
         words = "; ".join(filter(None, [only and only[1], words.replace("|", "\\|")]))
         yield f"| {crate}: {name.replace('_', ' ')} | {place} | {words} |"
 
@@ -230,7 +230,7 @@ Mutants are wrong edits of the code, which the prover has to refuse. [CHECK](CHE
 
 def as_code(rows, absent):
     """Returns lines as a block of code, or what to say if there are none."""
-    return "\n".join(f"    {it}"[:120].rstrip() for it in rows) if rows else absent
+    return "\n".join(f"    {row}"[:120].rstrip() for row in rows) if rows else absent
 
 
 def page(log):
@@ -251,7 +251,7 @@ def page(log):
         verdicts="\n".join(verdicts(crates)),
         line=program.verdict.string if program.verdict else "",
         axioms="\n".join(taken),
-        trusted=", ".join(f"`{it}`" for it in program.trusted if not (TOP / "crates" / it).is_dir()),
+        trusted=", ".join(f"`{crate}`" for crate in program.trusted if not (TOP / "crates" / crate).is_dir()),
         mutants="\n".join(refusals(mutants)) if mutants else "This log tried no mutants.",
         sums=as_code(stamp.read_text().splitlines() if stamp.exists() else [], "The program of this log has no stamp."),
         summary=as_code(summary, "This log has no summary."),
@@ -264,8 +264,8 @@ def trusted():
     text = PAGE.read_text()
     listed = re.search(r"^## Trusted statements\n\n.*\n\n(.*)\.$", text, re.M)[1]
     found = re.findall(r"^- \*(\w+)\*, (\d+) of", text, re.M)
-    each = [it for of, number in found if number != "0" for it in (number, of)]
-    return set(re.findall(r"`(\w+)`", listed)), (str(sum(int(it) for it in each[::2])), *each)
+    each = [cell for of, number in found if number != "0" for cell in (number, of)]
+    return set(re.findall(r"`(\w+)`", listed)), (str(sum(int(number) for number in each[::2])), *each)
 
 
 if __name__ == "__main__":

@@ -13,6 +13,6 @@ def kept(made, wrong=()):
         for file, text in made.items():
             file.write_text(text)
     old = [file.name for file, text in made.items() if not file.exists() or file.read_text() != text]
-    told = [*(f"{it} is out of date: tools/{Path(sys.argv[0]).name} --write" for it in old), *wrong]
-    print(*told, f"{len(made) - len(old)} passed, {len(told)} failed", sep="\n")
-    return int(bool(told))
+    problems = [*(f"{name} is out of date: tools/{Path(sys.argv[0]).name} --write" for name in old), *wrong]
+    print(*problems, f"{len(made) - len(old)} passed, {len(problems)} failed", sep="\n")
+    return int(bool(problems))

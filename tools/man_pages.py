@@ -13,7 +13,7 @@ from textwrap import wrap
 
 from kept import TOP, kept
 
-MANUAL = [TOP / f"docs/{it}.md" for it in ["USAGE", "EMULATOR", "TROUBLESHOOTING", "BOARDS"]]
+MANUAL = [TOP / f"docs/{name}.md" for name in ["USAGE", "EMULATOR", "TROUBLESHOOTING", "BOARDS"]]
 SECTIONS = {"avrstk": 1, "avrstk-serial": 1, "avrstk-serve": 1, "avrstk-emulator": 7}
 PAGES = {name: TOP / f"docs/{name}.{section}" for name, section in SECTIONS.items()}
 
@@ -62,12 +62,12 @@ def line(text):
 def filled(text):
     """Yields a text in lines; each sentence begins a new line."""
     for sentence in re.split(r"(?<=[.?!]) (?=[A-Z\\(])", text):
-        for it in wrap(sentence, WIDTH - 2, break_long_words=False, break_on_hyphens=False):
-            yield line(it)
+        for piece in wrap(sentence, WIDTH - 2, break_long_words=False, break_on_hyphens=False):
+            yield line(piece)
 
 
 def cells(row):
-    return [it.strip() for it in row.strip().strip("|").split(" | ")]
+    return [cell.strip() for cell in row.strip().strip("|").split(" | ")]
 
 
 def table(rows):
@@ -75,10 +75,10 @@ def table(rows):
     heads = cells(rows[0])
     for row in rows[2:]:
         tag, *rest = cells(row)
-        more = [ended(it, head) for head, it in zip(heads[2:], rest[1:])]
-        said = [ended(rest[0]), *more] if more else rest
+        more = [ended(cell, head) for head, cell in zip(heads[2:], rest[1:])]
+        parts = [ended(rest[0]), *more] if more else rest
         yield from tagged(tag)
-        yield from list(filled(inline(" ".join(it for it in said if it)))) or ["\\&"]
+        yield from list(filled(inline(" ".join(part for part in parts if part)))) or ["\\&"]
 
 
 def tagged(tag):
@@ -91,8 +91,8 @@ def tagged(tag):
             lines.append(word)
         else:
             lines[-1] = longer
-    for macro, it in zip([".TP"] + [".TQ"] * len(lines), lines):
-        yield from [macro, line(inline(it))]
+    for macro, text in zip([".TP"] + [".TQ"] * len(lines), lines):
+        yield from [macro, line(inline(text))]
 
 
 def ended(text, head=""):
@@ -103,7 +103,7 @@ def ended(text, head=""):
 
 
 def code(rows):
-    yield from [".RS 4", ".nf", *(line(escaped(it)) for it in rows), ".fi", ".RE"]
+    yield from [".RS 4", ".nf", *(line(escaped(row)) for row in rows), ".fi", ".RE"]
 
 
 def item(rows, shown):
@@ -111,14 +111,14 @@ def item(rows, shown):
     mark, first = re.match(r"(-|\d+\.) +(.*)", rows[0]).groups()
     yield ".IP \\(bu 2" if mark == "-" else f".IP {mark} 4"
     texts, blocks = [first], []
-    for it in rows[1:]:
-        if it.startswith("      "):
-            blocks.append(it[6:])
+    for row in rows[1:]:
+        if row.startswith("      "):
+            blocks.append(row[6:])
             continue
-        if blocks and it.strip():
+        if blocks and row.strip():
             yield from [*filled(inline(shown(" ".join(texts)))), *code(blocks), '.IP "" 2']
             texts, blocks = [], []
-        texts += [it.strip()] if it.strip() else []
+        texts += [row.strip()] if row.strip() else []
     yield from filled(inline(shown(" ".join(texts))))
     yield from code(blocks) if blocks else []
 
@@ -144,7 +144,7 @@ def blocks_of(text):
 def sections():
     """Returns the blocks of each section of the manual, by its heading."""
     found, blocks = {}, []
-    for kind, rows in blocks_of("".join(it.read_text() for it in MANUAL)):
+    for kind, rows in blocks_of("".join(file.read_text() for file in MANUAL)):
         if kind == "head":
             blocks = found.setdefault(rows[0].lstrip("# "), [])
         else:
@@ -185,7 +185,7 @@ def made(page, section, only, places):
 
     def shown(text):
         sentences = re.split(r"(?<=[.?:]) (?=[A-Z`*(])", text)
-        return for_page(" ".join(it for it in sentences if not HERE_ALONE.search(it)), page, places)
+        return for_page(" ".join(sentence for sentence in sentences if not HERE_ALONE.search(sentence)), page, places)
 
     is_first = True
     for kind, rows in sections()[section]:
@@ -194,12 +194,12 @@ def made(page, section, only, places):
         if kind in ("table", "item"):
             while not rows[-1].strip():
                 rows.pop()
-            kept = [for_page(it, page, places) for it in rows if not HERE_ALONE.search(it)]
+            kept = [for_page(row, page, places) for row in rows if not HERE_ALONE.search(row)]
             yield from table(kept) if kind == "table" else item(rows, shown)
         elif kind == "code":
-            yield from [*([] if is_first else [".PP"]), *code([it[4:] for it in rows])]
+            yield from [*([] if is_first else [".PP"]), *code([row[4:] for row in rows])]
         else:
-            text = shown(" ".join(it.strip() for it in rows))
+            text = shown(" ".join(row.strip() for row in rows))
             yield from [*([] if is_first else [".PP"]), *filled(inline(text))]
         is_first = False
 

@@ -131,9 +131,9 @@ def types():
 
 def below_programs():
     """Returns the programs' crates and all that they stand on."""
-    lines = [re.sub("#.*", "", it).split() for it in (TOP / "crates.txt").read_text().splitlines()]
-    below = {it[0].rstrip(":"): it[1:] for it in lines if it}
-    found, todo = set(), [it for it in below if it.startswith("avrstk")]
+    lines = [re.sub("#.*", "", line).split() for line in (TOP / "crates.txt").read_text().splitlines()]
+    below = {row[0].rstrip(":"): row[1:] for row in lines if row}
+    found, todo = set(), [crate for crate in below if crate.startswith("avrstk")]
     while todo:
         name = todo.pop()
         found.add(name)
@@ -174,11 +174,12 @@ def with_sums(readme, page):
     """Returns README with the sums of code and proofs of this page's table, rounded to hundreds, and the count of
     mutants."""
     code, proofs = (
-        round(int(it), -2) for it in re.search(r"^\| in all \| (\d+) \| \d+ \| \d+ \| (\d+) ", page, re.M).groups()
+        round(int(count), -2)
+        for count in re.search(r"^\| in all \| (\d+) \| \d+ \| \d+ \| (\d+) ", page, re.M).groups()
     )
     mutants = len(list(TOP.glob("crates/*/must-fail/*.edit")))
-    told = f"About {code:,} lines of code, with {proofs:,} of proofs; {mutants} mutants"
-    return re.sub(r"About [\d,]+ lines of code, with [\d,]+ of proofs; \d+ mutants", told, readme)
+    sums = f"About {code:,} lines of code, with {proofs:,} of proofs; {mutants} mutants"
+    return re.sub(r"About [\d,]+ lines of code, with [\d,]+ of proofs; \d+ mutants", sums, readme)
 
 
 def documents():
@@ -190,10 +191,10 @@ def documents():
 def long_sentences(name):
     """Returns the sentences of a document with more than 30 words, in paragraphs and in the cells of tables."""
     text = (TOP / name).read_text()
-    cells = [it for row in text.splitlines() if row.startswith("|") for it in row.strip("| ").split(" | ")]
+    cells = [cell for row in text.splitlines() if row.startswith("|") for cell in row.strip("| ").split(" | ")]
     paragraphs = PARAGRAPH.split(NO_PROSE.sub("\n\n", text)) + cells
-    sentences = [it for paragraph in paragraphs for it in SENTENCE.split(" ".join(paragraph.split()))]
-    return [it for it in sentences if len(it.split()) > LONG]
+    sentences = [sentence for paragraph in paragraphs for sentence in SENTENCE.split(" ".join(paragraph.split()))]
+    return [sentence for sentence in sentences if len(sentence.split()) > LONG]
 
 
 def words_of(name, anchor=None):
@@ -201,10 +202,10 @@ def words_of(name, anchor=None):
     text = re.sub(r"^```.*?^```|^    .*?$", "", (TOP / name).read_text(), flags=re.M | re.S)
     if anchor is None:
         return len(text.split())
-    titles = [(it[1], it[2], it.start()) for it in re.finditer(r"^(#+) (.*)$", text, re.M)]
-    slugs = [re.sub(r"[^\w\- ]", "", it[1].lower()).replace(" ", "-") for it in titles]
+    titles = [(heading[1], heading[2], heading.start()) for heading in re.finditer(r"^(#+) (.*)$", text, re.M)]
+    slugs = [re.sub(r"[^\w\- ]", "", title[1].lower()).replace(" ", "-") for title in titles]
     at = slugs.index(anchor)
-    ends = (it[2] for it in titles[at + 1 :] if len(it[0]) <= len(titles[at][0]))
+    ends = (title[2] for title in titles[at + 1 :] if len(title[0]) <= len(titles[at][0]))
     return len(text[titles[at][2] : next(ends, None)].split())
 
 
@@ -214,7 +215,7 @@ def too_long():
     for row in table.splitlines()[2:]:
         who, pages, minutes = row.strip("| ").split(" | ")
         links = re.findall(r"\(([\w./]+)#([\w-]+)\)", pages)
-        count = words_of("README.md") + sum(words_of(*it) for it in links)
+        count = words_of("README.md") + sum(words_of(*link) for link in links)
         if count > WORDS_A_MINUTE * int(minutes):
             yield f"README: who {who}s reads {count} words in {minutes} minutes, not {WORDS_A_MINUTE * int(minutes)}"
 
@@ -222,8 +223,8 @@ def too_long():
 def main():
     if sys.argv[1:] in (["--check"], ["--write"]):
         page = with_figures(PAGE.read_text())
-        long = ((name, it) for name in documents() for it in long_sentences(name))
-        wrong = [f"{name} has a sentence over {LONG} words: {it}" for name, it in long]
+        long = ((name, sentence) for name in documents() for sentence in long_sentences(name))
+        wrong = [f"{name} has a sentence over {LONG} words: {sentence}" for name, sentence in long]
         wrong += [*too_long(), *above_bound(page)]
         sys.exit(kept({PAGE: page, README: with_sums(README.read_text(), page)}, wrong))
     print("\n\n".join(figures()))

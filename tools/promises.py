@@ -41,15 +41,15 @@ def begun(doc):
 
 def exported():
     """Yields the laws with their crates: those of avr_laws, then those of the crates below."""
-    yield from ((crate, it) for crate in CRATES for it in sorted(exports(crate)[0]))
+    yield from ((crate, item) for crate in CRATES for item in sorted(exports(crate)[0]))
 
 
 def law_rows():
     """Yields the rows of the laws that have no code."""
     yield from ["| Law | What it states |", "| --- | --- |"]
-    for crate, it in exported():
-        if it.kind == "law":
-            yield f"| `{it.name}`{'' if crate == 'avr_laws' else f' of {crate}'} | {begun(it.doc)} |"
+    for crate, item in exported():
+        if item.kind == "law":
+            yield f"| `{item.name}`{'' if crate == 'avr_laws' else f' of {crate}'} | {begun(item.doc)} |"
 
 
 def sentence_rows():
@@ -63,7 +63,7 @@ def wrong():
     """Yields the words of SENTENCES that README lacks, and its laws that no crate has."""
     readme = " ".join(README.read_text().split())
     yield from (f"README lacks: {words}" for words in SENTENCES if words not in readme)
-    known = {it.name for _, it in exported()}
+    known = {item.name for _, item in exported()}
     yield from (f"no law is {law}" for laws in SENTENCES.values() for law in laws if law not in known)
 
 

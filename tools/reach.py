@@ -146,8 +146,8 @@ def reached(roots, skipped=()):
 def definition(name):
     """Returns the definition for a name of two or three parts."""
     *crate, file, name = name.split(".")
-    places = [found(*it, name) for it in FILES if it[1] == file and crate in ([], [it[0]])]
-    known = [it for it in places if it]
+    places = [found(*place, name) for place in FILES if place[1] == file and crate in ([], [place[0]])]
+    known = [place for place in places if place]
     if len(known) != 1:
         sys.exit(f"{'.'.join([*crate, file, name])}: {len(known)} definitions of this name\n\n{__doc__}")
     return known[0]
@@ -161,7 +161,7 @@ def roots_of(name):
         head = re.search(rf"^pub fn {name}\b.*?^\{{", path.read_text(), re.M | re.S)
         if head:
             FILES["law", name] = File(path)
-            return [it for it in named_in("law", name, head[0][head[0].index(" ensures") :]) if it]
+            return [place for place in named_in("law", name, head[0][head[0].index(" ensures") :]) if place]
     return sys.exit(f"{name}: no law or function of this name\n\n{__doc__}")
 
 
@@ -177,7 +177,8 @@ def with_figures(page):
     for row in rows.splitlines()[2:]:
         sentence, named, *_ = row.strip("| ").split(" | ")
         seen = [
-            reached(root for name in re.findall("`([^`]*)`", it) for root in roots_of(name)) for it in named.split(";")
+            reached(root for name in re.findall("`([^`]*)`", group) for root in roots_of(name))
+            for group in named.split(";")
         ]
         counts = ["; ".join(f"{count:,}" for count in counts) for counts in (map(len, seen), map(lines_of, seen))]
         made.append(f"| {sentence} | {named} | {counts[0]} | {counts[1]} |")
@@ -192,10 +193,10 @@ def uses_of(words):
         parser.add_argument(option, default="")
     parser.add_argument("-U", action="append", default=[])
     line = parser.parse_known_args(words)[0]
-    updates = [it if ":" in it else f"flash:w:{it}:a" for it in line.U]
-    reads = [it for it in updates if it.split(":")[1] == "r"]
-    files = [it.split(":", 2)[2] for it in updates if it not in reads]
-    letters = {it[-1] if it[-2:-1] == ":" else "a" for it in files}
+    updates = [update if ":" in update else f"flash:w:{update}:a" for update in line.U]
+    reads = [update for update in updates if update.split(":")[1] == "r"]
+    files = [update.split(":", 2)[2] for update in updates if update not in reads]
+    letters = {file[-1] if file[-2:-1] == ":" else "a" for file in files}
     port = line.P.split(":")[0]
     uses = {f"`-P {port}:`", *(f"`{name}`" for name in ("--serve", "--parts") if getattr(line, name[2:]))}
     uses |= {"`-P stdio:` or `-P net:`"} if port in ("stdio", "net") else set()
@@ -238,8 +239,8 @@ def lacking():
     """Returns the definitions and laws that documents name and that aren't there: `File.name`; a name of several words
     with capital letters, which may also be a type of Rust (docs/LIBRARY has std's, too); and a name of four words or
     more, which is a law."""
-    sources = "\n".join(it.read_text() for it in TOP.glob("crates/*/src/**/*.rt"))
-    functions = set(re.findall(r"\bfn (\w+)", sources)) | {it.stem for it in TOP.glob("crates/*/must-fail/*.edit")}
+    sources = "\n".join(path.read_text() for path in TOP.glob("crates/*/src/**/*.rt"))
+    functions = set(re.findall(r"\bfn (\w+)", sources)) | {path.stem for path in TOP.glob("crates/*/must-fail/*.edit")}
     types = set(re.findall(r"\b(?:struct|enum|trait|type) (\w+)", sources)) | {file for _, file in FILES}
     defined = {f"{file}.{name}" for (_, file), here in FILES.items() for name in here.definitions} | {"File.name"}
     alone = {name for here in FILES.values() for name in here.owner} | types
@@ -247,10 +248,10 @@ def lacking():
     for name in NAMING:
         path = TOP / f"docs/{name}.md"
         given = set(re.findall(r"`([^`\n]*)`", path.read_text()))
-        lost = {it for it in given if re.fullmatch(r"[a-z\d]+(_[a-z\d]+){3,}", it)} - functions
-        lost |= {it for it in given if re.fullmatch(r"[A-Z]\w*\.(?!(?:antt|md)$)\w+", it)} - defined
-        lost |= {it for it in given if re.fullmatch(r"([A-Z][a-z]+){2,}", it) and name != "LIBRARY"} - alone
-        wrong += [f"{path.name} names {it}, which is nowhere" for it in sorted(lost)]
+        lost = {word for word in given if re.fullmatch(r"[a-z\d]+(_[a-z\d]+){3,}", word)} - functions
+        lost |= {word for word in given if re.fullmatch(r"[A-Z]\w*\.(?!(?:antt|md)$)\w+", word)} - defined
+        lost |= {word for word in given if re.fullmatch(r"([A-Z][a-z]+){2,}", word) and name != "LIBRARY"} - alone
+        wrong += [f"{path.name} names {word}, which is nowhere" for word in sorted(lost)]
     return wrong
 
 
@@ -258,7 +259,7 @@ def statements():
     """Returns the statements of lemmas by file and name, of the files in proofs/Rows of avr_laws."""
     head = re.compile(r"^(?:pub )?(\w+) :\s(.*?)\n(?=unfolding |\1 )", re.M | re.S)
     files = TOP.glob("crates/avr_laws/proofs/Rows/*.antt")
-    return {f"Rows.{it.stem}": dict(head.findall(it.read_text())) for it in files}
+    return {f"Rows.{path.stem}": dict(head.findall(path.read_text())) for path in files}
 
 
 def hex_statement(lines, size, image):
@@ -329,7 +330,7 @@ def main(words):
     if words[:1] == ["--for"]:
         seen = needed_for(words[1:])
     else:
-        seen = reached([root for it in words if it != "-v" for root in roots_of(it)] or sys.exit(__doc__))
+        seen = reached([root for word in words if word != "-v" for root in roots_of(word)] or sys.exit(__doc__))
     files = sorted({(crate, file) for crate, file, _ in seen})
     print(f"{len(seen)} definitions, {lines_of(seen)} lines, in {len(files)} files")
     for crate, file in files if "-v" in words else []:

@@ -23,7 +23,9 @@ PART = r"[\w'◌]"
 
 def known_files(*patterns):
     command = ["git", "-C", TOP, "ls-files", *patterns]
-    return [TOP / it for it in subprocess.run(command, capture_output=True, text=True, check=True).stdout.splitlines()]
+    return [
+        TOP / name for name in subprocess.run(command, capture_output=True, text=True, check=True).stdout.splitlines()
+    ]
 
 
 def word(name):
@@ -44,7 +46,7 @@ class Renaming:
         """Returns the names under which a file has the definition: its own, or qualified by the whole module's name."""
         found = set()
         for listed in re.findall(rf"{re.escape(self.module)}\.\{{([^}}]*)\}}", text):
-            if self.old in [it.split(" as ")[0].strip() for it in listed.split(",")]:
+            if self.old in [item.split(" as ")[0].strip() for item in listed.split(",")]:
                 found.add(self.old)
         for alias in re.findall(rf"{re.escape(self.module)} as (\w+)", text):
             if word(f"{alias}.{self.old}").search(text):
@@ -55,7 +57,8 @@ class Renaming:
         """Whether a file imports the same name from another module, or defines it."""
         others = re.findall(r"Rattle\.([\w.]+)\.\{([^}]*)\}", text)
         elsewhere = any(
-            self.old in [it.split(" as ")[-1].strip() for it in listed.split(",")] and f"Rattle.{module}" != self.module
+            self.old in [item.split(" as ")[-1].strip() for item in listed.split(",")]
+            and f"Rattle.{module}" != self.module
             for module, listed in others
         )
         return elsewhere or re.search(rf"^(?:\w+ )*(?:pub )?{re.escape(self.old)} :", text, re.M) is not None
@@ -78,20 +81,22 @@ class Renaming:
         return line
 
 
-def changes(it):
+def changes(renaming):
     """Returns the new text of each changed file, by its path, and what is refused."""
     new, refused = {}, []
     for file in known_files("crates/*.antt", "crates/*.rt"):
         text = file.read_text()
-        names = {it.old} if file == it.home else it.names_in(text)
-        if it.old in names and file != it.home and it.has_another(text):
-            refused.append(f"{file}: has {it.old} from elsewhere too")
+        names = {renaming.old} if file == renaming.home else renaming.names_in(text)
+        if renaming.old in names and file != renaming.home and renaming.has_another(text):
+            refused.append(f"{file}: has {renaming.old} from elsewhere too")
         if names:
-            new[file] = it.renamed(text, names)
+            new[file] = renaming.renamed(text, names)
     for file in known_files("crates/*.edit"):
         source = file.parent.parent / file.read_text().split("\n", 1)[0].removeprefix("file: ").strip()
         if source in new:
-            text = it.renamed(file.read_text(), {it.old} if source == it.home else it.names_in(source.read_text()))
+            text = renaming.renamed(
+                file.read_text(), {renaming.old} if source == renaming.home else renaming.names_in(source.read_text())
+            )
             if text != file.read_text():
                 new[file] = text
     return new, refused
@@ -100,18 +105,18 @@ def changes(it):
 def main():
     if len(sys.argv) != 5:
         sys.exit(__doc__.strip())
-    it = Renaming(*sys.argv[1:])
-    new, refused = changes(it)
-    if refused or it.home not in new:
-        sys.exit("\n".join(refused) or f"no such file: {it.home}")
-    if not word(it.old).search(it.home.read_text()):
-        sys.exit(f"{it.home}: has no {it.old}")
+    renaming = Renaming(*sys.argv[1:])
+    new, refused = changes(renaming)
+    if refused or renaming.home not in new:
+        sys.exit("\n".join(refused) or f"no such file: {renaming.home}")
+    if not word(renaming.old).search(renaming.home.read_text()):
+        sys.exit(f"{renaming.home}: has no {renaming.old}")
     for file, text in new.items():
         file.write_text(text)
         print(f"changed: {file.relative_to(TOP)}")
     for file in known_files("*.md"):
         for number, line in enumerate(file.read_text().splitlines(), 1):
-            if word(it.old).search(line):
+            if word(renaming.old).search(line):
                 print(f"check: {file.relative_to(TOP)}:{number}")
 
 

@@ -48,21 +48,21 @@ HREF = re.compile(r'(?<=href=")(?!\w+:)([^"#?]*)(?:\?[^"#]*)?((?:#[^"]*)?)(?=")'
 
 def sources():
     """Returns the Markdown of each page, by its name without an ending."""
-    paths = [path for it in PAGES for path in sorted(TOP.glob(it)) if path.name != "PACKAGE.md"]
+    paths = [path for pattern in PAGES for path in sorted(TOP.glob(pattern)) if path.name != "PACKAGE.md"]
     pages = {str(path.relative_to(TOP).with_suffix("")): path.read_text() for path in paths}
     crates = sorted(name.split("/")[1] for name in pages if name.startswith("crates/"))
-    pages |= {f"docs/api/{it}": with_variants(page(it)) for it in CRATES}
+    pages |= {f"docs/api/{crate}": with_variants(page(crate)) for crate in CRATES}
     defined = sorted({crate for crate, file in FILES if not file.startswith("src/")})
-    pages |= {f"docs/definitions/{it}": definitions(it) for it in defined}
-    for name in (it for it in list(pages) if f"crates/{Path(it).name}/README" in pages):
+    pages |= {f"docs/definitions/{crate}": definitions(crate) for crate in defined}
+    for name in (key for key in list(pages) if f"crates/{Path(key).name}/README" in pages):
         kind = "Its calls" if "/api/" in name else "Its definitions"
         pages[f"crates/{Path(name).name}/README"] += f"\n[{kind}](../../{name}.md)\n"
-    pages |= {f"man/{it}": manual(it) for it in MANUALS}
+    pages |= {f"man/{name}": manual(name) for name in MANUALS}
     for name, picture in PICTURES.items():
         pages[name] = pages[name].replace(drawing(pages[name]), raw((SITE / f"{picture}.svg").read_text()))
     pages["docs/api/README"] = listing("The calls of each crate", CRATES)
     pages["docs/definitions/README"] = listing("The definitions of each crate", defined)
-    pages["crates/README"] = listing("The crates", [f"{it}/README" for it in crates])
+    pages["crates/README"] = listing("The crates", [f"{crate}/README" for crate in crates])
     return pages
 
 
@@ -83,7 +83,7 @@ def with_variants(text):
 
     def entries(enum):
         names = re.findall(r"^    ([A-Z]\w*)", enum[0], re.M)
-        return "".join(f"```{{index}} {enum[1]}::{it}\n```\n\n" for it in names) + enum[0]
+        return "".join(f"```{{index}} {enum[1]}::{variant}\n```\n\n" for variant in names) + enum[0]
 
     return ENUM.sub(entries, text)
 
@@ -101,11 +101,17 @@ def definitions(crate):
 def blocks(path, named):
     """Yields the blocks of a file of definitions, without its `use` lines, each in a fence below the name of what
     it defines."""
-    text = "\n".join(it for it in path.read_text().splitlines() if not it.startswith("use "))
+    text = "\n".join(line for line in path.read_text().splitlines() if not line.startswith("use "))
     for block in filter(None, re.split(r"\n{2,}", text.strip())):
         names = re.findall(r"^(?:(?:abbrev|unfoldable) pub|pub (?:record|data)) (\S+)", block, re.M)
-        for it in (it for it in names if it in named):
-            yield from [f"```{{index}} {it}", "```", "", f'<p class="name" id="{anchor(path.stem, it)}">{it}</p>', ""]
+        for name in (found for found in names if found in named):
+            yield from [
+                f"```{{index}} {name}",
+                "```",
+                "",
+                f'<p class="name" id="{anchor(path.stem, name)}">{name}</p>',
+                "",
+            ]
         yield from ["```text", block, "```", ""]
 
 
@@ -129,7 +135,9 @@ def manual(name):
 
 def drawing(text):
     """Returns the only drawing of a page, a block of code with arrows."""
-    (found,) = [it[0] for it in re.finditer(r"^(?: {4}.*\n(?:\n(?= {4}))?)+", text, re.M) if re.search("[╳▶▲├]", it[0])]
+    (found,) = [
+        block[0] for block in re.finditer(r"^(?: {4}.*\n(?:\n(?= {4}))?)+", text, re.M) if re.search("[╳▶▲├]", block[0])
+    ]
     return found
 
 
@@ -141,15 +149,15 @@ def linked(name, text, pages):
     """Returns a page whose links lead to pages of the site, and the files of the repository that it links to."""
     copied = set()
 
-    def address(it):
-        shown, target, at = it[1], it[2], it[3] or ""
+    def address(match):
+        shown, target, at = match[1], match[2], match[3] or ""
         path = os.path.normpath(Path(name).parent / target)
         if not target or ":" in target:
-            return it[0]
+            return match[0]
         if path == "README.md":
             return f"[{shown}]({os.path.relpath('index.md', Path(name).parent)}{at})"
         if path.removesuffix(".md") in pages:
-            return it[0]
+            return match[0]
         if not (TOP / path).is_file():
             return shown
         copied.add(path)
@@ -157,17 +165,17 @@ def linked(name, text, pages):
 
     # (a link in code is none)
     parts = re.split(r"(^ {0,3}```.*?^ {0,3}```|^(?: {4}).*?$|`[^`]*`)", text, flags=re.M | re.S)
-    return "".join(it if i % 2 else LINK.sub(address, it) for i, it in enumerate(parts)), copied
+    return "".join(part if i % 2 else LINK.sub(address, part) for i, part in enumerate(parts)), copied
 
 
 def write_sources(folder):
     """Writes what Sphinx reads, and returns the files of the repository that it links to."""
     pages, copied = sources(), set()
     pages["index"] = pages.pop("README")
-    named = {it for listed in GROUPS.values() for _, it in titled(listed)}
-    others = [it for it in pages if it not in named and it != "index" and not it.startswith(LISTED)]
+    named = {name for listed in GROUPS.values() for _, name in titled(listed)}
+    others = [name for name in pages if name not in named and name != "index" and not name.startswith(LISTED)]
     for caption, listed in GROUPS.items():
-        names = [f"{title} <{it}>" if title else it for title, it in titled(listed) if it in pages]
+        names = [f"{title} <{name}>" if title else name for title, name in titled(listed) if name in pages]
         # (a page that no group names comes last)
         names += others if caption == list(GROUPS)[-1] else []
         pages["index"] += "\n" + contents(names, f":caption: {caption}", ":hidden:")
@@ -192,8 +200,8 @@ def write(folder):
         copied = write_sources(Path(made, "pages"))
         words = ["sphinx-build", "-q", "-b", "html", "-c", SITE, "-d", f"{made}/trees", f"{made}/pages"]
         ran = subprocess.run([*words, folder], stderr=subprocess.PIPE, text=True)
-    for it in (".buildinfo", "objects.inv"):
-        Path(folder, it).unlink(missing_ok=True)
+    for file in (".buildinfo", "objects.inv"):
+        Path(folder, file).unlink(missing_ok=True)
     for name in copied:
         place = Path(folder, f"{name}.txt")
         place.parent.mkdir(parents=True, exist_ok=True)
@@ -203,12 +211,12 @@ def write(folder):
 
 def lacking():
     """Returns the names of what making the site needs and is not installed."""
-    tools = [it for it in ("sphinx-build", "mandoc") if not shutil.which(it)]
+    tools = [tool for tool in ("sphinx-build", "mandoc") if not shutil.which(tool)]
     if tools:
         return tools
     # (another Python than this script's may run Sphinx)
     python = Path(shutil.which("sphinx-build")).read_text().splitlines()[0].removeprefix("#!").split()
-    looks = "import importlib.util, sys; print(*[it for it in sys.argv[1:] if not importlib.util.find_spec(it)])"
+    looks = "import importlib.util, sys; print(*[name for name in sys.argv[1:] if not importlib.util.find_spec(name)])"
     return subprocess.run([*python, "-c", looks, *MODULES], capture_output=True, text=True).stdout.split()
 
 
@@ -232,9 +240,9 @@ def wrong_in(folder):
         if words_of(drawing(drawn)) != words_of(texts):
             yield f"docs/site/{picture}.svg hasn't the words of the drawing in {name}.md"
     library = (TOP / "docs/LIBRARY.md").read_text()
-    for it in CRATES:
-        if f"(../crates/{it}/README.md)" not in library:
-            yield f"docs/LIBRARY.md has no link to the README of {it}"
+    for crate in CRATES:
+        if f"(../crates/{crate}/README.md)" not in library:
+            yield f"docs/LIBRARY.md has no link to the README of {crate}"
 
 
 def check():

@@ -38,10 +38,10 @@ def sentence(text):
 
 def cases(tree):
     """Returns the functions that a script lists as its cases, or that make them, with their texts."""
-    texts = {it.name: ast.get_docstring(it) for it in tree.body if isinstance(it, ast.FunctionDef)}
-    lists = [it for it in tree.body if isinstance(it, (ast.Assign, ast.AugAssign, ast.If))]
-    named = [it.id for part in lists for it in ast.walk(part) if isinstance(it, ast.Name) and it.id in texts]
-    return {it: texts[it] for it in dict.fromkeys(named) if not it.startswith(("main", "named", "in_a"))}
+    texts = {node.name: ast.get_docstring(node) for node in tree.body if isinstance(node, ast.FunctionDef)}
+    lists = [node for node in tree.body if isinstance(node, (ast.Assign, ast.AugAssign, ast.If))]
+    named = [node.id for part in lists for node in ast.walk(part) if isinstance(node, ast.Name) and node.id in texts]
+    return {name: texts[name] for name in dict.fromkeys(named) if not name.startswith(("main", "named", "in_a"))}
 
 
 def page():
@@ -54,8 +54,8 @@ def page():
         head = ast.get_docstring(tree)
         why = re.search(r"Not proved: (.*?)(?:\n\n|$)", head, re.S)[1]
         rows.append(f"| [{file.stem}]({file.name}) | {sentence(head)} | {' '.join(why.split())} |")
-        said = [f"- `{name}`: {sentence(text)}" if text else f"- `{name}`" for name, text in cases(tree).items()]
-        parts += ["", f"## {file.stem}", "", *said] if said else []
+        listed = [f"- `{name}`: {sentence(text)}" if text else f"- `{name}`" for name, text in cases(tree).items()]
+        parts += ["", f"## {file.stem}", "", *listed] if listed else []
     return HEAD + "\n".join(rows + parts) + "\n"
 
 

@@ -51,9 +51,9 @@ def tools():
 
 def free_ports(count):
     held = [socket.create_server(("127.0.0.1", 0)) for _ in range(count)]
-    ports = [it.getsockname()[1] for it in held]
-    for it in held:
-        it.close()
+    ports = [listener.getsockname()[1] for listener in held]
+    for listener in held:
+        listener.close()
     return ports
 
 
@@ -93,7 +93,7 @@ def wanted(folder):
     return file.read_bytes()[:FLASH]
 
 
-def told(flash, right):
+def verdict(flash, right):
     """Describes the chip's flash."""
     if flash == right:
         return "right"
@@ -113,8 +113,8 @@ def main():
         for what, lost, nth in LOST:
             for tool, command in tools():
                 status, messages, flash = flashed(command, lost, nth, folder)
-                said = "yes" if "bytes verified" in messages or "bytes of flash verified" in messages else "no"
-                print(f"| {what} | `{tool}` | {said} | {status} | {told(flash, right)} |", flush=True)
+                verified = "yes" if "bytes verified" in messages or "bytes of flash verified" in messages else "no"
+                print(f"| {what} | `{tool}` | {verified} | {status} | {verdict(flash, right)} |", flush=True)
                 is_kept = is_kept and not (tool.startswith("avrstk") and status == 0 and flash != right)
     sys.exit(not is_kept)
 

@@ -50,8 +50,8 @@ def main():
     with socket.create_server(("127.0.0.1", port)) as listener:
         caller, _ = listener.accept()
     with caller, socket.create_connection(("127.0.0.1", to)) as programmer:
-        for it in (caller, programmer):
-            it.setsockopt(socket.IPPROTO_TCP, socket.TCP_NODELAY, 1)
+        for side in (caller, programmer):
+            side.setsockopt(socket.IPPROTO_TCP, socket.TCP_NODELAY, 1)
         back = threading.Thread(target=pass_back, args=(programmer, caller))
         back.start()
         pass_on(caller, programmer, command, nth)
