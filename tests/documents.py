@@ -11,6 +11,8 @@ import re
 import shutil
 import subprocess
 import sys
+import tempfile
+from pathlib import Path
 
 from cases import TOP, check, check_equal, leave_out, named, run_cases
 
@@ -181,6 +183,15 @@ def what_is_trusted():
     )
 
 
+def no_option_is_a_folder():
+    """The tools that write into a named folder make none that is named like an option."""
+    for tool in ("tools/site.py", "tools/package.sh", "tools/vendor.sh", "install.sh"):
+        with tempfile.TemporaryDirectory() as folder:
+            ran = subprocess.run([TOP / tool, "--help"], cwd=folder, capture_output=True, text=True)
+            check(f"{tool} --help explains itself", ran.stdout + ran.stderr)
+            check_equal(f"{tool} --help writes nothing", list(Path(folder).iterdir()), [])
+
+
 def python():
     """black would lay out no file of Python differently, and flake8 and mypy find no fault. (Their settings are in
     pyproject.toml and .flake8: mypy checks what is installed.)"""
@@ -201,6 +212,7 @@ CASES = named(
     files_of_recipes,
     the_logic,
     worked_rows,
+    no_option_is_a_folder,
     python,
 )
 

@@ -259,10 +259,10 @@ def check():
 
 
 if __name__ == "__main__":
-    if len(sys.argv) != 2:
-        sys.exit(__doc__)
-    if sys.argv[1] == "--check":
+    if sys.argv[1:] == ["--check"]:
         sys.exit(check())
+    if len(sys.argv) != 2 or sys.argv[1].startswith("-"):
+        sys.exit(__doc__)
     if names := lacking():
         sys.exit(f"not installed: {', '.join(names)}")
     sys.exit("\n".join(write(Path(sys.argv[1]))) or None)
