@@ -68,7 +68,7 @@ complete -c avrstk -l chip -r -F -d 'chip file'
 complete -c avrstk-serial -s c -x -a 'stk500v2 wiring avrispv2 stk500 arduino arduino_as_isp stk500v1 avrisp' -d programmer
 complete -c avrstk-serial -s P -x -a '(__avrstk_ports all (path filter -- /dev/ttyACM* /dev/ttyUSB* /dev/serial/by-id/*))' -d port
 complete -c avrstk-serial -l wait -x -d 'time for a reset'
-complete -c avrstk-serial -l retry -x -d 'runs after a failure that another run heals'
+complete -c avrstk-serial -l retry -x -d 'times to run it again'
 complete -c avrstk-serial -l version -d 'print the version'
 complete -c avrstk-serial -s C -r -F -d ignored
 complete -c avrstk-serial -s l -r -F -d 'file of messages'

@@ -39,7 +39,8 @@ READING = [f"reads {memory}" for memory in ("signature", "calibration", "fuses",
 WRITING = ["erases", "writes flash", "writes fuses", "writes lock"]
 SAFE, ALL = ["--try-rows"], ["--try-rows=all", "--yes"]
 BY_A_GOOD_LINE = " while the line changes no byte (version 1 has no checksums)"
-FIRMWARE, COMPARED = "the promise of README", "each image that a run compared after its last write is in the chip"
+FIRMWARE = "after a verified run with status 0 the chip holds the images (README has the conditions)"
+COMPARED = "each image that a run compared after its last write is in the chip"
 TINY, FLASH, EEPROM = ["--parts", "tiny.toml", "-p", "tiny"], 2_048, 64
 room.keep("tiny.toml", boards.TINY.encode())
 # (the same sizes in hexadecimal)

@@ -447,7 +447,7 @@ def no_firmware():
     """A text without records, an archive, a page and an image without a byte are refused, also from a pipe; a text as
     raw bytes (:r) is not."""
     why = {
-        **dict.fromkeys(TEXTS, "is text without records: give it as raw bytes only if its characters are meant"),
+        **dict.fromkeys(TEXTS, "is text without records: give it as raw bytes (:r) only if its characters are meant"),
         **dict.fromkeys(EMPTY, "is empty (did its build fail?)"),
     }
     why.update({name: f"is {what}, not firmware" for name, (_, what) in PACKED.items()})
@@ -481,7 +481,7 @@ def no_firmware():
                 1,
                 b"",
                 b"",
-                [f"- is text without records: give it as raw bytes only if its characters are meant: {UNOPENED}"],
+                [f"- is text without records: give it as raw bytes (:r) only if its characters are meant: {UNOPENED}"],
             ),
         )
     found = piped([*NO_CHIP, "-U", "eeprom:w:-"], raw)
@@ -1145,9 +1145,9 @@ def hints():
     check_equal("a closed output", (status, b"-: cannot be written" in told, own), (1, True, wanted))
 
 
-def without(words, left_out):
+def without(words, *left_out):
     """Leaves an option out of a command."""
-    return [it for it in words if it != left_out]
+    return [it for it in words if it not in left_out]
 
 
 def other_part(words, part, made):
@@ -1410,8 +1410,10 @@ FOLLOWED = [
     (r"lacks read 0, not 1: is -p right\?", lambda *_: None),
     (r"is -p right\?", lambda words, case, _: other_part(words, case["part"], "blink.hex")),
     (
-        r"the right board\? .*; if that is so, -p (\w+), with",
-        lambda words, case, found: other_part(words, found[1], case["made"]),
+        r"the right board\? .*; if that is so, -p (\w+)( without --parts)?, with",
+        lambda words, case, found: other_part(
+            without(words, "--parts", "mine.toml") if found[2] else words, found[1], case["made"]
+        ),
     ),
     (r": give (\S+:[ise]);", lambda words, _, found: renamed(words, found[1])),
     (r"the memories are flash, eeprom, lfuse", changed("^fuse", "lfuse")),
@@ -1438,6 +1440,8 @@ FOLLOWED = [
         r"-p takes the chip's name, not the board's: (m328p) for Uno|^-p '\?' lists the parts",
         changed("^(uno|nano|m9)$", "m328p"),
     ),
+    (r"; without --parts \w+ is known;", lambda words, *_: without(words, "--parts", "mine.toml")),
+    (r"^with --parts, -p takes a part as that file names it, or (m328p)", changed("^m9$", r"\1")),
     (r"only bits that the part doesn't have differ: give (\S+)", lambda words, _, found: valued(words, found[1])),
     (r"bits ([\d, ]+) stay 1. If the part has none of them, give (\S+)\. If it has any of them, (.*)", stays),
     (r"only an erase \(-e\) removes (a|the) lock, and clears all of", lambda words, *_: [*words, "-e"]),
@@ -1592,6 +1596,7 @@ def kind_of(name):
         "loader": loads,
         "mega": lambda: loads(takes_lock=True),
         "another": lambda: {"has": "m2560", "part": "m2560", "made": "mega.hex"},
+        "not built in": lambda: {"has": "m32u4", "part": "m32u4", "made": "mega.hex", "board": {"words": CLASSIC}},
         "no erase": lambda: {"chip": OLD + b"\xfa\xff", "board": board_of("reply 12 12C0")},
         "worn": lambda: {
             "board": {"answer": lambda it: frame(it[1], it[5:7] + b"\x80" + it[8:-1]) if it[5] in (0x14, 0x16) else it}

@@ -85,7 +85,8 @@ class Counter:
             if self.least is None:
                 raise Fault(f"--counter {self.given} is not there: --from N makes it, which begins with N")
             return self.least
-        if not re.fullmatch("[0-9]{1,15}\n", text):
+        # (after the greatest number the file has one more)
+        if not re.fullmatch("[0-9]{1,16}\n", text):
             raise Fault(f"--counter {self.given} has no number in its first line")
         return max(int(text), self.least or 0)
 
@@ -162,7 +163,7 @@ class Each:
     def last(self) -> tuple[int, str]:
         """Returns the greatest number, and what is wrong with a later one."""
         if self.rows is None:
-            return MOST, f"--counter {self.counter.given}: all numbers are given"
+            return MOST, f"--counter {self.counter.given}: all numbers up to {MOST} are given"
         return len(self.rows), f"--rows {self.file}: all its {len(self.rows)} rows are given"
 
     def judge(self, words: Words) -> None:

@@ -57,8 +57,8 @@ def seconds(option: str, given: str) -> float:
     number = given.partition(":")[2] if option == "--late" else given
     if option == "--late" and ":" not in given:
         raise Fault(f"{option} {given}: give WHICH:SECONDS")
-    if not re.fullmatch(r"[0-9]{1,9}(\.[0-9]+)?", number) or not float(number):
-        raise Fault(f"{option} {given}: not a number of seconds above 0")
+    if not re.fullmatch(r"(?=\.?[0-9])[0-9]{0,9}(\.[0-9]*)?", number) or not float(number):
+        raise Fault(f"{option} {given}: give seconds above 0 and below {10**9}, such as 30 or 0.5")
     return float(number)
 
 

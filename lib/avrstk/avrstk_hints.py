@@ -2,7 +2,7 @@
 
 from __future__ import annotations
 
-from avrstk_common import parts
+from avrstk_common import BUILT_IN, parts
 from avrstk_words import FORMATS, FUSES, MEMORIES, RECORD, UNOPENED, Update, Words, long_name, parts_of, rows_of
 
 import os
@@ -136,7 +136,10 @@ def matched(table: Table, error: str, words: Words, **fields: str) -> str:
 def no_part(words: Words, _: Match[str] | None) -> str:
     """Returns why a part isn't there, if it is known."""
     name = long_name(words.part)
-    for names, reason in rows_of("unsupported.txt") if words.parts_file is None else []:
+    if words.parts_file is not None:
+        known = f"; without --parts {words.part} is known" if (words.part or "").lower() in parts() else ""
+        return f"with --parts, -p takes a part as that file names it, or m328p, t85 or m2560{known}"
+    for names, reason in rows_of("unsupported.txt"):
         if {name, f"at{name}"} & {*names.lower().split()}:
             return f"{name} is not supported: {reason.partition('. ')[0]}. Use avrdude"
     package = re.sub(r"-\w+$", "", name)
@@ -222,7 +225,9 @@ def another_part(words: Words, found: Match[str]) -> str:
     if not names:
         return f"the chip is another part ({found[1]}), which is not known here; nothing was written"
     which = f"is {words.device} the right board? Its chip is {' or '.join(names[:4])} ({found[1]})"
-    cure = f"if that is so, -p {names[0]}, with firmware and fuses that are made for it"
+    # (the part file of one's own may not have it)
+    alone = "" if words.parts_file is None or names[0] in BUILT_IN else " without --parts"
+    cure = f"if that is so, -p {names[0]}{alone}, with firmware and fuses that are made for it"
     return f"{which}; {cure}; nothing was written"
 
 

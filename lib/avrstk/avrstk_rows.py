@@ -450,7 +450,7 @@ class Rows:
         if not self.chip or any(it in failed for it in KEPT) or len(unread) == len(READING):
             return "none"
         if not failed and None not in self.results.values() and not self.words.is_version1:
-            return "the promise of README"
+            return "after a verified run with status 0 the chip holds the images (README has the conditions)"
         limit = " while the line changes no byte (version 1 has no checksums)" * self.words.is_version1
         limit += f" (not {', '.join(unread)})" if unread else ""
         return f"each image that a run compared after its last write is in the chip{limit}"

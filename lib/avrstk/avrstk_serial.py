@@ -550,8 +550,8 @@ def judge_options(words: Words) -> None:
             raise Fault(REFUSED[option])
     if not words.speeds:
         raise Fault(f"-b {words.last.get('-b')}: not a speed")
-    if not re.fullmatch(r"[0-9]+(\.[0-9]+)?", words.wait) or float(words.wait) > 3:
-        raise Fault(f"--wait {words.wait}: not a number of seconds from 0 to 3")
+    if not re.fullmatch(r"(?=\.?[0-9])[0-9]*(\.[0-9]*)?", words.wait) or float(words.wait) > 3:
+        raise Fault(f"--wait {words.wait}: give seconds from 0 to 3, such as 0.5")
     if words.is_version1 and words.has_port:
         raise Fault(f"-c {words.programmer} is for a serial device, not -P {words.device}")
 

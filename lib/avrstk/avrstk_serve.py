@@ -476,7 +476,8 @@ def judge(options: Mapping[str, str], client: list[str]) -> str:
     if re.search(r"[\udc80-\udcff]", chip):
         raise Fault(f"--chip {chip}: the name is not UTF-8")
     if parts is not None and not os.path.isfile(parts):
-        raise Fault(f"--parts {parts}: not a file that each client can read")
+        why = "not a file that each client can read" if os.path.lexists(parts) else "there is no such file"
+        raise Fault(f"--parts {parts}: {why}")
     if "--timeout" in options and not client:
         raise Fault("--timeout: no command after --")
     others = [option for option in REFUSED if option in options]

@@ -380,7 +380,7 @@ class Update:
             return "is not ELF, as its name says"
         if RECORD.match(front) or not (is_text(front, 20) or self.memory == "flash" and is_text(front.strip(b"\0"), 2)):
             return None
-        cure = "give it as raw bytes only if its characters are meant"
+        cure = "give it as raw bytes (:r) only if its characters are meant"
         if self.memory in FUSES:
             cure = f"give its value, as {self.memory}:w:0xNN:m"
         return f"is text without records: {cure}"
