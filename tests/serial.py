@@ -1462,7 +1462,7 @@ FOLLOWED = [
     (r"run the same command again$", lambda words, *_: words),
     (
         r"holds something else than [^;]*$|: use a programmer(, whose erase also clears the bootloader)?$"
-        r"|: power-cycle the board$|is worn$|is worn, or a lock|damaged$",
+        r"|: power-cycle the board$|may be worn$|may be worn, or a lock|damaged$",
         lambda *_: None,
     ),
     (r"use another (one|programmer)$|which is not known here|is not supported: .* Use avrdude", lambda *_: None),

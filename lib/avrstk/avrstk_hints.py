@@ -254,7 +254,7 @@ def differs(words: Words, found: Match[str]) -> str:
     always = f"{again(words)}; if it always fails at the same address, "
     if compared:
         return f"{always}{memory} holds something else than {compared}"
-    worn = "a page is worn" if is_erased else f"a page is worn, or {LOCKED}"
+    worn = "a page may be worn" if is_erased else f"a page may be worn, or {LOCKED}"
     if len(writes) > 1:
         return f"{always}two images overlap (give one of them), or {worn}"
     is_far = memory == "eeprom" and address > 0xFF
@@ -298,7 +298,7 @@ def remains(words: Words) -> str:
     """Returns the hint after flash that kept zeros of before, since nothing erased it."""
     # (a bootloader of version 1 erases each page that it writes)
     is_erased = words.is_version1 or words.is_whole()
-    bootloader = "a page is worn" if is_erased else f"{ONE_IMAGE}, since it erases pages from 0 on"
+    bootloader = "a page may be worn" if is_erased else f"{ONE_IMAGE}, since it erases pages from 0 on"
     programmer = f"With a programmer leave out -D: the erase clears all of {TAKES}"
     return f"old bytes remain without an erase. {programmer}; with a bootloader {bootloader}"
 

@@ -154,7 +154,7 @@ def judge_device(device: str | None) -> str:
 def no_device(device: str) -> str:
     """Returns why there may be no device with this name."""
     if re.fullmatch(r"COM\d+", device, re.I):
-        return "Linux calls it /dev/ttyACM0 or /dev/ttyUSB0; -P '?' lists what is here"
+        return "Linux calls it /dev/ttyACM0, /dev/ttyUSB0 or /dev/ttyS0; -P '?' lists those of USB"
     if re.fullmatch(r"[^/]+:\d+", device):
         return f"a port of a network is -P net:{device}"
     if os.path.exists(f"/dev/{device}"):
