@@ -13,6 +13,7 @@ made too. The simulation writes a page as given: it doesn't model that writing a
 does it model locks, fuses or wires.
 """
 
+import itertools
 import os
 import random
 import shutil
@@ -21,6 +22,7 @@ import subprocess
 import sys
 from pathlib import Path
 
+import serial
 from avrdude import drawn, updates
 from cases import PATIENCE, check, check_equal, leave_out, named, run_cases
 from line import Link, frames_of
@@ -59,6 +61,11 @@ class Board:
             _, messages = started.communicate(timeout=PATIENCE)
         self.started.stdout.readline()
         return started.returncode, messages
+
+    def stop(self):
+        """(It is no server of a single session, as serial.Board has one.)"""
+
+    end = stop
 
     def call(self):
         return socket.create_connection(("127.0.0.1", self.port))
@@ -201,6 +208,47 @@ def refused():
             board.holds(what, image)
 
 
+def asked_first():
+    """Without -c wiring avrstk-serial asks this bootloader first, and refuses what it would do otherwise: flash that
+    isn't written once from 0 on without gaps, and EEPROM above 255. The chip stays. Other runs are made at once."""
+    old, image = drawn("old", 0x2000), drawn("small", 1_024)
+    files = {"a.hex": [(0, image)], "late.hex": [(0x1000, image)], "gap.hex": [(0, b"x"), (512, b"x")]}
+    for name, runs in files.items():
+        serial.room.put(name, hex_of(runs))
+    serial.room.put("long.bin", drawn("long", 600))
+    front, end = "the device refuses command 1C, as a bootloader does: ", "; nothing was written"
+    order = (
+        "a bootloader erases pages from 0 on, so one command writes flash once, from 0 on without gaps. Type srec_cat "
+    )
+    far = "-U {}: a bootloader reads other addresses above 255: use a programmer"
+    asked = {f"flash:w:{it}.hex:i": order for it in ("late", "gap")}
+    asked.update({it: far.format(it) for it in ("eeprom:w:long.bin:r", "eeprom:r:back.bin:r", "eeprom:v:long.bin:r")})
+    cases = [(["-D", "-V", "-U", it], why) for it, why in asked.items()]
+    cases.append((["-q", "-q", "-D", *updates("flash:w:a.hex:i", "flash:w:late.hex:i")], order))
+    with Board(old) as board:
+
+        def ran(words, way):
+            plug = serial.Board(server=board) if way == "a device" else None
+            port = plug.device if plug else f"net:127.0.0.1:{board.port}"
+            found = serial.run(["-p", "m2560", "-P", port, *words])
+            if plug:
+                plug.end()
+            board.started.stdout.readline()
+            return found
+
+        for (words, why), way in itertools.product(cases, ["net:", "a device"]):
+            status, output, told, own = ran(words, way)
+            what = f"{way} {words}"
+            check_equal(what, (status, output, told, len(own)), (1, b"", b"", 1))
+            check(f"{what}: why", own[0].startswith(front + why) and own[0].endswith(end), own)
+            board.holds(what, old)
+        check("nothing was read", not (serial.room.folder / "back.bin").exists())
+        status, _, told, own = ran(["-D", "-V", *updates("flash:w:a.hex:i")], "a device")
+        texts = [SIGNATURE, "flash: 1024 bytes written", "done"]
+        check_equal("from 0 on", (status, told, own), (0, lines(*texts), []))
+        board.holds("from 0 on", image + old[1_024:])
+
+
 def lock():
     """This bootloader replies OK to a write of the lock, and doesn't do it."""
     with Board() as board:
@@ -298,7 +346,7 @@ def board_chip(flash):
 
 CASES = named(
     *(written_and_read, another_image, lost_bytes, reset_by_the_connection),
-    *(erased_from_the_front, eeprom, refused, lock, the_double),
+    *(erased_from_the_front, eeprom, refused, asked_first, lock, the_double),
 )
 
 

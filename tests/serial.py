@@ -952,8 +952,7 @@ def backups():
 
 
 def warnings():
-    """Tests warnings of fuses that can make a chip unreachable, and of an image that leaves out a bootloader's
-    pages."""
+    """Tests warnings of fuses that can make a chip unreachable, and of flash that is erased or hidden."""
     fields = "flash_size = 32768, flash_page = 128, eeprom_size = 1024, eeprom_page = 4, eesave_bit = 3"
     mine = [
         f'{it} = {{ {fields}, signature = "{digits}" }}\n' for it, digits in [("m328p", "1e950F"), ("b-chip", "1E9500")]
@@ -970,22 +969,78 @@ def warnings():
         own = run(["-p", part, "-P", "emu:no.bin", *words.split()])[3]
         room.clear()
         check(f"{part} {words}", bool(own) == bool(wanted) and all(it.startswith(wanted) for it in own), own)
-    room.put("late.hex", hex_of([(0x4000, b"late")]))
-    room.put("long.bin", bytes(257))
-    order, far = "a bootloader erases pages from 0 on", "a bootloader reads other addresses above 255"
-    for words, wanted in [
-        *(("-D -U flash:w:late.hex:i", order), ("-q -q -D -U flash:w:blink.hex:i -U flash:w:late.hex:i", order)),
-        *(("-U eeprom:r:long.out:i", far), ("-U eeprom:w:long.bin:r", far), ("-D -U flash:w:blink.hex:i", None)),
-        *(("-U flash:w:late.hex:i", None), ("-D -n -U flash:w:late.hex:i", None)),
-    ]:
-        # (a new programmer for each command)
-        found = over(["-p", "m2560", *words.split()], {"part": "m2560", "words": CLASSIC})
-        told = [f"warning: if this is a Mega's own bootloader, give -c wiring: {wanted}"] if wanted else []
-        is_right = len(found[3]) == len(told) and all(it.startswith(told[0]) for it in found[3])
-        check(f"m2560 {words}", found[0] == 0 and is_right, found[:4])
     hides = "flash is erased, or the lock hides it: -U lock:r:-:h prints the lock, whose bit 1 is 0 then"
     for words, told in ("", [hides]), ("-A", []), ("-q -q", []):
         check_equal(f"erased {words}", over(["-p", "m328p", *words.split(), "-U", "flash:r:none.hex:i"])[3], told)
+
+
+def asked(words, *each):
+    """Runs these options over an ATmega2560, with one of these boards for each time that the device is opened. Returns
+    status, avrstk's lines, the script's own, the chip, the commands that were done, and the report."""
+    done, name = [], f"report{next(boards)}.json"
+
+    def noting(board):
+        change = board.get("answer", lambda reply: reply)
+        return {"part": "m2560", **board, "answer": lambda reply: done.append(reply[5]) or change(reply)}
+
+    it = Boards(*map(noting, each))
+    status, _, told, own = run(["-p", "m2560", "-P", str(it.device), *words, "--json", name])
+    return status, told, [row.replace(str(it.device), "DEVICE") for row in own], it.end(), done, report_of(name)
+
+
+def asked_first():
+    """Before a run at an ATmega2560 that a Mega's bootloader would do otherwise, the script asks the device whether it
+    is a bootloader. Then it refuses the run, or makes it without a warning. Before other runs it doesn't ask."""
+    room.keep("late.hex", hex_of([(0x4000, b"late")]))
+    room.keep("long.bin", bytes(257))
+    room.put("counter", b"7\n")
+    cases = [
+        ([board_of(it.strip()) for it in each.split(",")], shlex.split(it), *more) for each, it, *more in table("asked")
+    ]
+    for (each, words, kind, wanted), found in zip(
+        cases, side_by_side(unpaused(lambda it: asked(it[1], *it[0])), cases)
+    ):
+        status, told, own, chip, done, report = found
+        check(f"{words}: {wanted}", own[-1].startswith(wanted), (told, own))
+        check_equal(f"{words}: its kind", (status, report["kind"] or "-"), (int(kind != "-"), kind))
+        changed = {0x12, 0x13, 0x15, 0x17, 0x19} & set(done)
+        check_equal(
+            f"{words}: what was changed", (bool(changed), set(chip or b"\xff") == {0xFF}), (kind == "-", kind != "-")
+        )
+        is_left = kind in ("-", "refused") and done[-1] == 0x11
+        check(f"{words}: the chip is left", is_left or kind not in ("-", "refused"), done)
+    check_equal(
+        "no number was taken, and no file was made", (room.read("counter"), room.read("long.out")), (b"7\n", None)
+    )
+    # (a verification reads all of flash)
+    words = {"-D -V -U flash:w:late.hex:i": 2, "-q -q -D -V -U flash:w:blink.hex:i -U flash:w:late.hex:i": 2}
+    words.update({"-U eeprom:w:long.bin:r": 2, "-n -U eeprom:r:long.out:r": 2, "-V -U flash:w:late.hex:i": 1})
+    words.update({"-D -V -U flash:w:blink.hex:i": 1, "-D -n -V -U flash:w:late.hex:i": 1, "-V -U lock:w:0xFC:m": 1})
+    words.update({"-c wiring -D -V -U flash:w:blink.hex:i": 1})
+    wanted = [emulated(*without(without(it.split(), "-c"), "wiring"), part="m2560") for it in words]
+    found = side_by_side(unpaused(lambda it: asked(it[0].split(), *[{}] * it[1])), words.items())
+    for (it, count), chip, (status, told, own, held, done, report) in zip(words.items(), wanted, found):
+        check_equal(f"{it}: asked or not", (status, own, done.count(0x11), 0x1C in done), (0, [], count, count > 1))
+        check(f"{it}: the run's own lines alone", b"calibration" not in told, told)
+        check_equal(f"{it}: the chip, and retries", (held == chip, report["retries"]), (True, 0))
+    status, told, own, _, done, report = asked(
+        ["-U", "eeprom:r:back.bin:r", "-U", "calibration:r:byte.txt:h"], {}, silent(0x16)
+    )
+    counts = [it["read"] for it in report["updates"]]
+    check_equal("what was asked is no update", (status, counts, done.count(0x1C)), (1, [None, None], 1))
+    how = {"cwd": room.folder, "env": os.environ | {"AVRSTK": str(PROGRAM)}, "stdout": subprocess.PIPE}
+    for more, status, wanted in [
+        ([], 0, []),
+        (["--mega"], 1, ["the device refuses command 1C, as a bootloader does: "]),
+    ]:
+        command = [TOP / "avrstk-serve", "0", "-p", "m2560", "--chip", "net.bin", *more]
+        with subprocess.Popen(command, **how) as served:
+            port = int(served.stdout.readline().rpartition(b":")[2])
+            found = run(["-p", "m2560", "-P", f"net:127.0.0.1:{port}", "-D", "-V", "-U", "flash:w:late.hex:i"])
+            served.terminate()
+        check(f"net: {more}", found[0] == status and [it[:49] for it in found[3]] == [it[:49] for it in wanted], found)
+        check(f"net: {more}: the chip", (room.read("net.bin")[0x4000:0x4004] == b"late") == (status == 0))
+        (room.folder / "net.bin").unlink()
 
 
 def images_that_are_read_once():
@@ -2182,7 +2237,16 @@ CASES = named(
         each_hint,
         hints_over_each_memory,
     ),
-    *(hints_that_are_followed, progress, few_lines, backups, warnings, images_that_are_read_once, over_a_bootloader),
+    *(
+        hints_that_are_followed,
+        progress,
+        few_lines,
+        backups,
+        warnings,
+        asked_first,
+        images_that_are_read_once,
+        over_a_bootloader,
+    ),
     *(files_of_one_command, reports, places_of_reports, signals, cut_lines, closed_streams),
     *(messages_that_nobody_reads, one_run_at_a_time, settings_that_are_kept, devices_that_go, strangers),
     *(names_and_interrupts, recipe_of_the_script, recipe_of_a_plain_bridge, recipe_of_ser2net),
@@ -2195,6 +2259,7 @@ TIMED = [
     "hints",
     "retries",
     "the_part_of_the_chip",
+    "asked_first",
     "each_hint",
     "hints_over_each_memory",
     "hints_that_are_followed",

@@ -81,7 +81,11 @@ def restored(words: Words, folder: str) -> list[Update]:
     return [Update(text) for text in [f"flash:w:{flash}", f"eeprom:w:{folder}/eeprom.hex:i", *values]]
 
 
-def asking(folder: str) -> list[Update]:
-    """Returns what only a programmer can read, and the comparison with the chip's signature, which write nothing."""
-    signature = ",".join(f"0x{byte:02X}" for byte in bytes_of(folder, "signature"))
-    return [Update("calibration:r:/dev/null:h"), Update(f"signature:v:{signature}:m")]
+def asking(folder: str | None) -> list[Update]:
+    """Returns what only a programmer can read, and for a backup the comparison with the chip's signature. Neither
+    writes anything."""
+    updates = [Update("calibration:r:/dev/null:h")]
+    if folder is not None:
+        signature = ",".join(f"0x{byte:02X}" for byte in bytes_of(folder, "signature"))
+        updates.append(Update(f"signature:v:{signature}:m"))
+    return updates

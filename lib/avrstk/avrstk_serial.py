@@ -515,9 +515,9 @@ def judge(words: Words) -> None:
     if words.each:
         words.each.judge(words)
         check(words)
-    for update in words.updates:
-        if words.is_wiring and is_far(words, update):
-            raise Fault(f"-U {update.given}: {FAR}: use a programmer: {UNOPENED}")
+    far = why_far(words) if words.is_wiring else None
+    if far:
+        raise Fault(f"{far}: {UNOPENED}")
     words.report.stage = "device"
     if not words.has_port and not words.is_station:
         judge_device(words.device)
@@ -652,8 +652,23 @@ def judge_bootloader(words: Words) -> None:
         if update.memory not in ("flash", "signature"):
             why = f"{is_for}, which has flash alone: use a programmer"
             raise Fault(f"-U {update.given}: {why}; {UNOPENED}")
-    if len(writes) > 1 and words.is_wiring:
-        raise Fault(f"{ONE_WRITE}. {joined(writes, words.flash_pages() or [])}; {UNOPENED}")
+    if words.is_wiring:
+        judge_pieces(words, UNOPENED)
+
+
+def judge_pieces(words: Words, end: str) -> None:
+    """Refuses flash that isn't written once, from address 0 on without gaps."""
+    why = why_pieces(words)
+    if why:
+        raise Fault(f"{why}; {end}")
+
+
+def why_pieces(words: Words) -> str | None:
+    """Returns why a bootloader can't write flash as the command does; None if it can, as far as is known."""
+    writes = [update for update in words.updates if update.writes_flash()]
+    if len(writes) > 1 or writes and words.is_whole() is False:
+        return f"{ONE_WRITE}. {joined(writes, words.flash_pages() or [])}"
+    return None
 
 
 def joined(writes: list[Update], pages: list[tuple[int, int]]) -> str:
@@ -685,10 +700,10 @@ def judge_part(words: Words, end: str) -> None:
         if "-F" not in words.flags:
             raise Fault(f"{why}: give -p for that chip, or -F if it fits both (-F takes any chip); {end}")
         words.note(f"warning: {why}")
-    writes = [update for update in words.updates if update.writes_flash()] if words.is_wiring else []
+    writes = words.is_wiring and any(update.writes_flash() for update in words.updates)
     # (without that program it isn't known which pages are written)
-    if writes and session_program(subprocess.DEVNULL) and words.is_whole() is False:
-        raise Fault(f"{ONE_WRITE}. {joined(writes, words.flash_pages() or [])}; {end}")
+    if writes and session_program(subprocess.DEVNULL):
+        judge_pieces(words, end)
 
 
 def is_far(words: Words, update: Update) -> bool:
@@ -697,26 +712,26 @@ def is_far(words: Words, update: Update) -> bool:
     return update.memory == "eeprom" and (size is None or size > 256)
 
 
+def why_far(words: Words) -> str | None:
+    """Returns why a bootloader can't read EEPROM as the command does; None if it can."""
+    far = next((update for update in words.updates if is_far(words, update)), None)
+    return f"-U {far.given}: {FAR}: use a programmer" if far else None
+
+
 def risk_of_loader(words: Words) -> str | None:
     """Returns what would go wrong at a Mega's own bootloader if -c wiring isn't given; None if nothing would, or if it
     can't be one. (It refuses an erase, and so a restore; and the calibration, and so a backup.)"""
     is_other = words.is_wiring or words.is_version1 or re.match("emu:|stdio:", words.device or "")
     if words.chip() != "atmega2560" or is_other or words.restore is not None or words.backup is not None:
         return None
-    writes = [update for update in words.updates if update.writes_flash()]
     is_sent = "-D" in words.flags and not {"-e", "-n"} & set(words.flags)
-    if writes and is_sent and (len(writes) > 1 or words.is_whole() is False):
-        return ONE_WRITE
-    return FAR if any(is_far(words, update) for update in words.updates) else None
+    return (why_pieces(words) if is_sent else None) or why_far(words)
 
 
 def warn(words: Words) -> None:
     """Warns of fuses that can make the chip unreachable, even if -q is given twice, and of what isn't proved."""
     if words.is_version1:
         words.note("version 1 has no checksums: this run is tested, not proved")
-    risk = risk_of_loader(words)
-    if risk:
-        say(f"warning: if this is a Mega's own bootloader, give -c wiring: {risk}")
     name = words.chip()
     writes = [update for update in words.updates if update.operation == "w" and update.memory in FUSES]
     values = [(update, update.value()) for update in writes]
@@ -764,14 +779,24 @@ def wait_for(device: str | None) -> None:
         time.sleep(0.1)
 
 
-def ask(words: Words, flags: list[str], updates: list[Update], part: str | None = None) -> tuple[Outcome, str]:
+def ask(
+    words: Words, flags: list[str], updates: list[Update], part: str | None = None, risk: str | None = None
+) -> tuple[Outcome, str]:
     """Runs a session before the run. It writes nothing, and prints nothing if all goes well. Returns its outcome and
-    its lines."""
-    session = copy.copy(words)
+    its lines. `risk` is the error if the device refuses the calibration, as a bootloader does."""
+    session, report = copy.copy(words), words.report
     session.flags, session.updates, session.part, session.each = flags, updates, part or words.part, None
     lines: list[bytes] = []
+    before, stage, report.stage = len(report.lines), report.stage, "device"
     outcome = ran(session, lines.append)
-    words.speeds = session.speeds
+    words.speeds, report.stage = session.speeds, stage
+    is_loader = risk is not None and outcome.error.startswith("command 1C refused")
+    if is_loader or not outcome.status:
+        # (what this session read or compared is no update of the run)
+        report.lines[before:] = [line for line in report.lines[before:] if line.startswith("device signature")]
+    if is_loader:
+        report.stage = "refused"
+        raise Fault(f"the device refuses command 1C, as a bootloader does: {risk}; nothing was written")
     if outcome.status:
         messages.put(b"".join(lines))
         if not words.has_port:
@@ -863,6 +888,9 @@ def live(words: Words) -> int:
     words.report.stage = "device"
     if not words.has_port:
         judge_device(words.device)
+    if words.each:
+        # (what is judged later has a number's text)
+        words.each.judge(words)
     return perform(words)
 
 
@@ -872,8 +900,13 @@ def execute(words: Words) -> int:
     if words.part == "auto":
         sent |= detect(words)
         judge_part(words, "nothing was written")
-    if words.restore is not None:
-        outcome, _ = ask(words, [], asking(words.restore))
+    risk = risk_of_loader(words)
+    if risk and not sent:
+        # (what avrstk refuses opens no device)
+        check(words)
+    if risk or words.restore is not None:
+        flags = [flag for flag in words.flags if flag in ("-F", "-q")]
+        outcome, _ = ask(words, flags, asking(words.restore), risk=risk)
         sent |= outcome.commands
         if outcome.status:
             return outcome.status
