@@ -24,7 +24,6 @@ mod chip_file;
 mod crashes;
 mod program;
 mod runs;
-mod two_processes;
 
 pub use again::{
     a_second_run_repairs_the_first, the_same_run_again_repairs,
@@ -48,8 +47,7 @@ pub use chip_file::{
 };
 pub use conversations::{
     a_conversation_in_turn_is_never_idle, a_link_that_forges_no_frame_is_authentic,
-    a_wire_is_an_authentic_link, few_bad_fates_bring_all_data,
-    over_a_wire_a_conversation_follows_its_exchanges,
+    a_wire_is_an_authentic_link, over_a_wire_a_conversation_follows_its_exchanges,
     over_any_tape_a_conversation_follows_its_exchanges,
 };
 pub use crashes::{
@@ -71,15 +69,12 @@ pub use program::{
     whatever_the_status_first_write_operations_were_made_on_an_emulated_chip,
 };
 pub use runs::{
-    a_forged_frame_voids_the_promise, a_further_run_repairs, a_run_in_memory_has_one_outcome,
-    a_run_in_memory_is_a_function_of_its_files, a_run_over_a_bad_link_meets_all_premises,
-    a_sound_run_is_its_expected_run, a_worked_run_has_one_outcome, a_wrong_outcome_is_refused,
+    a_forged_frame_voids_the_promise, a_further_run_repairs,
+    a_run_over_a_bad_link_meets_all_premises, a_sound_run_is_its_expected_run,
+    a_worked_run_has_one_outcome, a_wrong_outcome_is_refused,
     an_ended_run_and_one_with_status_0_are_as_one,
     an_ended_run_and_one_with_status_0_are_as_one_on_an_emulated_chip, status_0_means_the_images,
     status_0_means_the_images_on_an_emulated_chip,
-};
-pub use two_processes::{
-    a_server_sends_the_replies_to_what_it_received, what_a_host_receives_of_a_server_is_authentic,
 };
 pub use written::{
     a_byte_of_flash_is_made_by_images, a_plan_writes_what_its_tasks_write,

@@ -87,10 +87,6 @@ module _ {P : Type 0} (m : Device P) where
         (leaves : after_exchange one_exchange (m.after bytes p) p m.reset ≡ on_time)
         (goes : ReadAs m (go_on (reading_of_exchange one_exchange (m.reply bytes p))) (next n) left
         (after_exchange one_exchange (m.after bytes p) p m.reset) (later_executions executions) later) where
-      abbrev fs : List (List ℕ)
-      fs = frames_in (played_along m goes.reply_count (go_on (reading_of_exchange one_exchange (m.reply bytes p)))
-          (next n) (after_exchange one_exchange (m.after bytes p) p m.reset) later goes.left).events
-
       by_exchange : ReadAs m (Ask bytes go_on) n tape p executions (one_exchange ∷ later)
       by_exchange = record {
         reply_count = suc goes.reply_count;
