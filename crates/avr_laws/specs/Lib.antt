@@ -12,7 +12,6 @@ pub mod SavedText
 pub mod Kept
 pub mod Damaged
 pub mod FewBadFrames
-pub mod Bound
 -- what a run reports and leaves, over any link
 pub mod WrittenBytes
 pub mod TrueReports

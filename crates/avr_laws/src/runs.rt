@@ -1,15 +1,15 @@
 //! What status 0 means. Laws of few bad frames, of a further run, and of worked outcomes.
 
-ghost use Rattle.std.specs.Prelude.{◌≡◌, ◌<◌, ◌*◌, ◌⊎◌, true, false, List, [], ◌∷◌, All, Some, map, ℕ};
+ghost use Rattle.std.specs.Prelude.{◌≡◌, ◌<◌, ◌*◌, true, false, List, [], ◌∷◌, All, Some, map, ℕ};
 ghost use Rattle.avr_plan.specs.declared.settings.Settings.{Settings};
 ghost use Rattle.avr_desk.specs.Record.{DeskState, ChangesRecord, Record, all_openings};
 ghost use Rattle.avr_laws.specs.Again.{AgreesOnTwoChips, ItemsKeepEeprom};
-ghost use Rattle.avr_tool.specs.OverFaultyLink.{SessionStopped, SessionOverWire, OverExchanges, Weight, total_weight, bodies_in, memories, events_over, wire_and_desk};
+ghost use Rattle.avr_tool.specs.OverFaultyLink.{SessionOverWire, Weight, total_weight, bodies_in, memories, events_over, wire_and_desk};
 ghost use Rattle.avr_laws.specs.AnyLink.{OverAnyWire, WholeSessionOverExchanges};
 ghost use Rattle.avr_session.specs.PlanSteps.{run_steps};
 ghost use Rattle.avr_tool.specs.ExpectedRun.{expected_run};
 ghost use Rattle.avr_tool.specs.Items.{items, asked_items, has_erase};
-ghost use Rattle.avr_tool.specs.Outcome.{IsExpectedRun, IsDone};
+ghost use Rattle.avr_tool.specs.Outcome.{IsExpectedRun};
 ghost use Rattle.avr_tool.specs.Written.{IsWritten, written_to};
 ghost use Rattle.avr_desk.specs.OutputEvents.{OutputEvent, after_events};
 ghost use Rattle.avr_part.specs.Part.{IsPart};
@@ -213,34 +213,6 @@ pub fn a_sound_run_is_its_expected_run()
         → plan.switches.no_verify ≡ false → has_erase (items plan) ≡ true → AgreesOnTwoChips plan
         → OverAnyWire plan w v (keeping d a) (keeping e b) status
         → (status ≡ 0) × IsWritten plan.part (asked_items plan) (memories w) (memories v) }
-{}
-
-/// States that the same run again repairs the chip, however the first ended, if few frames go wrong, under conditions
-/// on plan and chip, unless it stops. At most three of any seven consecutive frames go wrong, and a reset counts as
-/// four. The plan erases, and its comparisons agree on a chip of 00 and on one of FF. Then its status is 0 unless it
-/// stops, and the chip is as one run would have left it.
-///
-/// If the chip keeps EEPROM at an erase, each byte that the plan writes to the high fuse must keep it too. `wire`
-/// states this over a wire, `link` over the exchanges of any link that forges no frame, for a run that doesn't stop.
-// Proof: `further_repairs` (ChipFile/FewBadThenAgain), by `done_again` (SecondRun/Status).
-pub fn a_further_run_repairs()
-    ensures wire { (plan : Plan) (w v x y : WiredState) (d e f g : DeskState) (status further : ℕ)
-        → IsPart plan.part → All (IsFitted plan.part) plan.tasks → FitsPart plan.part (memories w)
-        → has_erase (items plan) ≡ true → AgreesOnTwoChips plan
-        → (erase_keeps_eeprom plan.part (memories w) ≡ true → ItemsKeepEeprom plan.part (items plan))
-        → SessionOverWire plan w v d e status
-        → memories x ≡ memories v → AtMostThreeBadOfSeven (exchanges_of_fates x.wire.fates)
-        → OverAnyWire plan x y f g further
-        → ((further ≡ 0) × IsDone plan (memories w) (memories y)) ⊎ SessionStopped plan x y f g }
-    ensures link { (plan : Plan) (p q x y : Programmer) (exchanges more : List Exchange) (bytes others : List ℕ)
-        (events : List (Event OutputEvent)) (further : ℕ)
-        → IsPart plan.part → All (IsFitted plan.part) plan.tasks → FitsPart plan.part (memories_of p.chip)
-        → has_erase (items plan) ≡ true → AgreesOnTwoChips plan
-        → (erase_keeps_eeprom plan.part (memories_of p.chip) ≡ true → ItemsKeepEeprom plan.part (items plan))
-        → OverExchanges plan p q exchanges bytes
-        → memories_of x.chip ≡ memories_of q.chip → AtMostThreeBadOfSeven more → WholeSessionOverExchanges plan x y more
-        others events further
-        → (further ≡ 0) × IsDone plan (memories_of p.chip) (memories_of y.chip) }
 {}
 
 /// States that no run of `-p m328p` with the replies of the worked example has status 1, other frames or other lines,

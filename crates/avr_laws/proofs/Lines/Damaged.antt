@@ -21,6 +21,7 @@ use Rattle.avr_tool.specs.Authentic.{first_execution, later_executions, on_readi
 use Rattle.avr_laws.specs.AnyTape.{FramesByRestart, adding_received, received_frames, good_frames, ReceivedSentFrames, executions_by_arrival}
 use Rattle.avr_laws.specs.NoForgedFrame.{frame_of_reply, IsAmongFirst, IsNotForged, AreNotForged, ForgesNoFrame}
 use Rattle.avr_laws.specs.Damaged.{DifferInOne, IsDamaged, Arrived, Arrival, FrameArrives, PauseArrives, EndArrives, tape_of_arrivals, frames_before_pause, IsReplyOfFirst, IsSomeRefusal, AreRecentReplies, bytes_up_to_reply, first_reading, IfRead, BringsReplies}
+use Rattle.avr_laws.proofs.Lines.NoForgedFrame.{alone}
 
 -- ---- a damaged frame has its length, and a wrong XOR
 
@@ -106,15 +107,12 @@ bad_dropped piece pieces bad = elim (cases_Bool (is_frame piece)) [
       | inr other ↦ other
     ]
 
-abbrev IsGood : List ℕ → Type 0
+abbrev pub IsGood : List ℕ → Type 0
 IsGood piece = is_good piece ≡ true
 
 came_by : (piece more got : List ℕ) → IsPiece piece → got ≡ piece ++ more → frames got
     ≡ filter is_frame (piece ∷ cut more)
 came_by piece more got whole e = ap frames e ∙ ap (filter is_frame) (cut_first piece more whole)
-
-abbrev alone : List (List ℕ) → FramesByRestart
-alone got = (got, [])
 
 good_arrived : (sent : List (List ℕ)) (through : List Bool) (got : List ℕ) → All IsPiece sent → All IsGood sent
     → Arrived sent through got → received_frames (executions_by_arrival through) sent ≡ alone (good_frames got)

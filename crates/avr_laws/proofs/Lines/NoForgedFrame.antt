@@ -152,7 +152,7 @@ module _ {P : Type 0} (m : Device P) where
 
 -- ---- a programmer that got a prefix of the bytes sent, as over a link that keeps their order
 
-abbrev alone : List (List ℕ) → FramesByRestart
+abbrev pub alone : List (List ℕ) → FramesByRestart
 alone got = (got, [])
 
 all_through : (xs ys : List (List ℕ))

@@ -31,6 +31,7 @@ use Rattle.avr_laws.specs.WorkedLoss.{loss_part}
 use Rattle.avr_laws.specs.Reader.{IsReader, ReadsOneOf}
 use Rattle.avr_laws.specs.Table.{IsDoneOrNot, IsRow, Row, reading, ErasesChip, WritesFlashPage, WritesEepromRun, WritesFuse, WritesLock, ReadsFlash, ReadsEeprom, ReadsFuse, ReadsLock, ReadsSignature, ReadsCalibration}
 use Rattle.avr_laws.specs.WorkedBootloader.{Bootloader, FitsBoot, boot_before, boot_executions, boot_frames, boot_plan, boot_replies, IsRead, after_body, bootloader, erased, first_image, with_page, writes_page}
+use Rattle.avr_laws.proofs.Rows.Loss.{is_part}
 
 -- ---- it keeps the sizes
 
@@ -161,9 +162,6 @@ module _ (part : Part) (sound : IsPart part) where
   }
 
 -- ---- the run over it
-
-is_part : IsPart loss_part
-is_part = search rules
 
 pub tiny_reads : IsReader loss_part (bootloader loss_part) (λ b. b.memories) (FitsBoot loss_part) IsRead
 tiny_reads = boot_reads loss_part is_part

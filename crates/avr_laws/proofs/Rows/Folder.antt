@@ -26,6 +26,7 @@ use Rattle.avr_desk.specs.Journal.{FileCall, SystemCalls, Gives, Opens, AddsCall
 use Rattle.avr_desk.specs.Record.{Bytes, Record, nothing_kept}
 use Rattle.avr_desk.specs.declared.folder.Folder.{Ghosts}
 use Rattle.ghosts.specs.Preserves.{Preserves}
+use Rattle.avr_laws.proofs.Memories.Bytes.{bytes_same}
 
 -- what each name has
 abbrev Names : Type 0
@@ -96,10 +97,6 @@ abbrev unlocked : System → System
 unlocked s = after (record s.at { held = None }) s.calls s
 
 -- ---- lemmas
-
-bytes_same : (xs : List ℕ) → bytes_eq xs xs ≡ true
-bytes_same [] = refl
-bytes_same (x ∷ xs) = search rules
 
 put_at : (name bytes other : Bytes) (names : Names) (found : Option Bytes) → put name bytes names other ≡ found
     → (names other ≡ found) ⊎ ((other ≡ name) × (found ≡ Some bytes))

@@ -21,7 +21,7 @@ use Rattle.avr_tool.proofs.Given.StepsGive.{changed_sizes, given_same}
 use Rattle.avr_tool.proofs.Hosts.AnyExchange.{data_in}
 use Rattle.avr_tool.proofs.Real.{ActionsWork, AllWork, Real}
 use Rattle.avr_laws.specs.Table.{IsDoneOrNot, IsLoaded, IsProgrammer, RefusesRow, IsRow, Row, Stands, addressed}
-use Rattle.avr_laws.proofs.Table.Steps.{IsSent, RowFor, bodies, row_for, short}
+use Rattle.avr_laws.proofs.Table.Steps.{IsSent, RowFor, bodies, row_for, short, nothing}
 
 abbrev Verdict : Type 0
 Verdict = Result (List ℕ) FrameFault
@@ -37,10 +37,6 @@ data_by : (r : Reply) (before bytes : List ℕ) → on_data r (λ b. Data (befor
     → (d : List ℕ) × ((r ≡ Data d) × (before ++ d ≡ bytes))
 data_by r before bytes e = search rules
 
-none_in : (d : List ℕ) → length d ≡ 0 → d ≡ []
-none_in [] e = refl
-none_in (b ∷ d) e = absurd (cc e)
-
 module _ {P : Type 0} (m : Device P) where
   -- LOAD_ADDRESS had the good reply
   pub loaded_by : (a : ℕ) (p : P) (d : List ℕ) → reply_to m (LoadAddress a) p ≡ Data d
@@ -48,7 +44,7 @@ module _ {P : Type 0} (m : Device P) where
   loaded_by a p d e =
       let reply = m.reply (body (LoadAddress a)) p in
       let t = short (LoadAddress a) reply d refl (judged (LoadAddress a) (judge (LoadAddress a) reply) d e) in
-      (t.0, none_in d t.1)
+      (t.0, nothing d t.1)
 
   one_judged : (c : Command) (before bytes : List ℕ) (p : P) → joined_reply m (c ∷ []) before p ≡ Data bytes
       → (d : List ℕ) × ((judge c (m.reply (body c) p) ≡ Ok d) × (before ++ d ≡ bytes))

@@ -21,7 +21,7 @@ use Rattle.avr_laws.proofs.Table.GoodReplies.{first_two, closed_is, bytes_is, cl
 
 -- ---- the good replies
 
-nothing : (d : List ℕ) → length d ≡ 0 → d ≡ []
+pub nothing : (d : List ℕ) → length d ≡ 0 → d ≡ []
 nothing [] e = refl
 nothing (b ∷ d) e = absurd (omega (arith, e))
 

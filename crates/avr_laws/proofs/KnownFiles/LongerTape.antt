@@ -1,4 +1,4 @@
--- What a run leaves over known files and a known tape.
+-- A run that came to its end is the same over a longer tape.
 use Rattle.std.proofs.Common.{◌≡◌, ℕ, ap, refl, List, [], ◌∷◌, ◌++◌, Option, Some, None, rules}
 use Rattle.avr_plan.specs.declared.settings.Settings.{Settings}
 use Rattle.avr_desk.specs.declared.record.Opening.{Opening}
