@@ -197,7 +197,6 @@ pub fn a_wrong_outcome_is_refused()
 ///
 /// If such a plan erases and verifies, and its comparisons agree on a chip of 00 and on one of FF, its status is 0. The
 /// chip then holds its images, whatever it held before.
-// Proof: `sound_expected` (ChipFile/FewBadThenAgain), by `few_session_ends` (FewBad/Sessions).
 pub fn a_sound_run_is_its_expected_run()
     ensures expected_run { (plan : Plan) (w v : WiredState) (d e : Record) (a b : ℕ × ℕ) (status : ℕ)
         → AtMostThreeBadOfSeven (exchanges_of_fates w.wire.fates) → IsSound (wire_and_desk w (keeping d a))
@@ -234,7 +233,7 @@ pub fn a_worked_run_has_one_outcome()
 /// States that one forged frame can end a comparison of a fuse with status 0 although the chip's fuse differs. Over a
 /// tape with one, comparing the low fuse with E2 ends with status 0 whatever the chip has. For a chip with another fuse
 /// the promise fails. A link that forges no frame can't give this tape.
-// Proof: `forged_run_succeeds`, `promise_void` and `frame_is_forged` (Lines/MadeFrame).
+// Proof: `forged_run_succeeds` and `promise_void` (Lines/MadeFrame), and `over_bytes` (AnyLink).
 pub fn a_forged_frame_voids_the_promise()
     ensures ends { (played (session fuse_plan) 1 forged_replies).outcome ≡ Some (0, 8, []) }
     ensures void { (p q : Programmer) (exchanges : List Exchange) (bytes : List ℕ) (events : List (Event OutputEvent))

@@ -76,15 +76,14 @@ same_data a b e = cc
 well : (size : ℕ) (exchanges : List Exchange) (got : List ℕ) (then : Reply) (rest : List Exchange)
     → Tried size (later_exchanges exchanges) got then rest → Tried (suc size) exchanges got then rest
 well size exchanges got then rest (inl brings) = inl brings
-well size exchanges got then rest (inr s) = inr
-    (record {
-      fault = s.fault;
-      again = s.again;
-      place = suc s.place;
-      near = (let n = s.near in omega (arith, n));
-      went_wrong = s.went_wrong;
-      behind_it = s.behind_it;
-    })
+well size exchanges got then rest (inr s) = inr (record {
+  fault = s.fault;
+  again = s.again;
+  place = suc s.place;
+  near = (let n = s.near in omega (arith, n));
+  went_wrong = s.went_wrong;
+  behind_it = s.behind_it;
+})
 
 -- the frame that went wrong
 wrong : (size : ℕ) (exchanges : List Exchange) (got : List ℕ) (fault : StepFault)
@@ -200,8 +199,7 @@ module _ (Before After : Programmer → Type 0) (commands : List Command) (got :
 
   step_steady : (z : Spot Programmer) → Before z.0 → AtMostThreeBadOfSeven z.1
       → Runs steady (λ y. ⊤) Whole (step commands) z
-  step_steady z before few =
-      attempts (this_link steady) (λ bytes y. ⊤) commands Begins Whole
+  step_steady z before few = attempts (this_link steady) (λ bytes y. ⊤) commands Begins Whole
       (λ more y begins. wider (λ bytes y x. tt) (λ e y x. x) (after_try more y.1 begins.1.1)
       (both steady (on_link steady (try_goes steady commands Before After fits y.0 begins.0))
       (attempt_tried commands [] y got begins.1.0 (gathered_steady commands [] y.0 ∙ has y.0 begins.0))))

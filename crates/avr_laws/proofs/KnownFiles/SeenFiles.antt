@@ -43,8 +43,7 @@ seen_outputs stock (event ∷ output_events) are = seen_outputs stock output_eve
 none_made : (output_events : List OutputEvent) (r : Record) → OnlyReadsAndPrints output_events
     → all_files (after_events output_events r) ≡ all_files r
 none_made [] r reads = refl
-none_made (Opens opening ∷ output_events) r reads =
-    none_made output_events (after_opening opening r) reads
+none_made (Opens opening ∷ output_events) r reads = none_made output_events (after_opening opening r) reads
     ∙ search (rules, absent_used, files_used, append-nil, files_opened, files_absent)
 none_made (PrintsLine bytes ∷ output_events) r reads = none_made output_events (after_err bytes r) reads
 none_made (event ∷ output_events) r reads = absurd reads

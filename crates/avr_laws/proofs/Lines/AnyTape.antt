@@ -20,8 +20,7 @@ use Rattle.avr_tool.proofs.Lines.Plays.{played_along, emitted_played, done_playe
 
 -- every authentic reading is an exchange
 abbrev IsExchangeOf : {P : Type 0} → Device P → List ℕ → P → Execution → Reading → Exchange → Type 0
-IsExchangeOf m bytes p execution reading one_exchange =
-    (reading_of_exchange one_exchange (m.reply bytes p) ≡ reading)
+IsExchangeOf m bytes p execution reading one_exchange = (reading_of_exchange one_exchange (m.reply bytes p) ≡ reading)
     × (after_exchange one_exchange (m.after bytes p) p m.reset ≡ after_execution execution (m.after bytes p) p m.reset)
 
 by_reply : {P : Type 0} (m : Device P) (bytes : List ℕ) (p : P) (execution : Execution) (came : List ℕ)
@@ -152,8 +151,7 @@ module _ {P : Type 0} (m : Device P) where
       → RepliesAreAuthentic m d n (t ++ u) p executions → RepliesAreAuthentic m d n t p executions
   authentic_prefix (Done r) n t u p executions h = tt
   authentic_prefix (Emit e d) n t u p executions h = authentic_prefix d n t u p executions h
-  authentic_prefix (Ask bytes go_on) n t u p executions h =
-      shorter bytes go_on n t u p executions (answer n t) refl
+  authentic_prefix (Ask bytes go_on) n t u p executions h = shorter bytes go_on n t u p executions (answer n t) refl
       (λ reading left q inner. authentic_prefix (go_on reading) (next n) left u q (later_executions executions) inner) h
 
 -- ---- what the programmer cuts from the bytes that it got
@@ -190,8 +188,7 @@ module _ {P : Type 0} (m : Device P) where
   let_through_after (first ∷ more) (piece ∷ sent) p = search (
     rules,
     getting_after,
-    let_through_after more sent
-        (after_execution first (after_frame m piece p) p m.reset),
+    let_through_after more sent (after_execution first (after_frame m piece p) p m.reset),
   )
 
   good_later : (got : List ℕ) (later : List (List ℕ)) (p : P)
