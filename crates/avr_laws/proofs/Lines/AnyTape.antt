@@ -7,7 +7,7 @@ use Rattle.std.specs.Prelude.{filter}
 use Rattle.stk_frame.specs.Frame.{frame}
 use Rattle.stk_frame.specs.Cut.{frames, is_good}
 use Rattle.stk_frame.proofs.Laws.{frame_is_good, body_of_frame}
-use Rattle.stk_host.specs.Tape.{Tape, Reading, Replied, Silent, Ended, Babbled, answer}
+use Rattle.stk_host.specs.Tape.{Tape, Reading, Replied, answer}
 use Rattle.stk_host.specs.Dialog.{Dialog, Done, Emit, Ask, Frame, Played, played, prepend_events, continue_with_reading, next, frames_in}
 use Rattle.stk_emu.specs.Device.{Device, after_frame, after_frames}
 use Rattle.stk_emu.specs.Lawful.{IsFrameBody}
@@ -36,9 +36,7 @@ pub authentic_exchange : {P : Type 0} (m : Device P) (bytes : List ℕ) (p : P) 
     (reading : Reading) → IsAuthentic m bytes p execution reading → IsExchangeOf m bytes p execution reading
     (exchange_by execution reading)
 authentic_exchange m bytes p execution (Replied came) h = by_reply m bytes p execution came h
-authentic_exchange m bytes p execution Silent h = (refl, refl)
-authentic_exchange m bytes p execution Ended h = (refl, refl)
-authentic_exchange m bytes p execution Babbled h = (refl, refl)
+authentic_exchange m bytes p execution reading h = (refl, refl)
 
 -- without a further command the programmer stays as it is
 none_asked : {E R P : Type 0} (m : Device P) (d : Dialog E R) (p : P) (exchanges : List Exchange)

@@ -214,9 +214,7 @@ module _ {P : Type 0} (part : Part) (sound : IsPart part) (m : Device P) (view :
   action_works (CompareImage mem image) x reads = reading_works Reads part mem reads x
   action_works (SaveMemory mem format file) x reads = reading_works Reads part mem reads x
   action_works (SkipAction what) x reads = tt
-  action_works OpenSession x reads = absurd reads
-  action_works EraseChip x reads = absurd reads
-  action_works (WriteImage mem image) x reads = absurd reads
+  action_works action x reads = absurd reads
 
   all_work : (actions : List Action) (x : Memories) → Each (ReadsAction Reads) actions
       → ActionsWorkBy part (ReadsOneOf Reads part) actions x

@@ -1,6 +1,6 @@
 -- The steps that read a memory are the rows that do.
 use Rattle.std.proofs.Common.{◌≡◌, ◌∙◌, ◌+◌, ◌*◌, ℕ, List, [], ◌∷◌, map, refl, sym, ap, subst, Option, Some, None}
-use Rattle.std.specs.Prelude.{◌==◌, slice_index, if◌then◌else◌}
+use Rattle.std.specs.Prelude.{◌==◌, slice_index}
 use Rattle.avr_part.specs.Part.{Part}
 use Rattle.avr_part.specs.declared.part.Mem.{Mem}
 use Rattle.avr_part.specs.declared.part.Mem.TheVariants.{Flash, Eeprom, Lfuse, Hfuse, Efuse, Lock, Signature, Calibration}
@@ -47,13 +47,7 @@ memory_by n = if n == 0x14 then Some Flash else if n == 0x16 then Some Eeprom el
 
 by_key : (mem : Mem) → memory_by (key mem) ≡ Some mem
 by_key Flash = refl
-by_key Eeprom = refl
-by_key Lfuse = refl
-by_key Hfuse = refl
-by_key Efuse = refl
-by_key Lock = refl
-by_key Signature = refl
-by_key Calibration = refl
+by_key mem = refl
 
 same_memory : (a b : Mem) → Some a ≡ Some b → a ≡ b
 same_memory a b e = cc

@@ -25,7 +25,7 @@ use Rattle.avr_tool.proofs.Plans.Fits.{work}
 use Rattle.avr_tool.proofs.WriteOperations.Steps.{effect_twice}
 use Rattle.avr_laws.specs.Kept.{after_task, before_tasks}
 use Rattle.avr_laws.specs.Sheet.{IsShown, IsVouched, SuitTasks, SuitsPlan, SuitsReading, SuitsWriting}
-use Rattle.avr_laws.specs.Table.{IsRow, Row, fuse_memory, ErasesChip, WritesFlashPage, WritesEepromRun, WritesFuse, WritesLock, ReadsFlash, ReadsEeprom, ReadsFuse, ReadsLock, ReadsSignature, ReadsCalibration}
+use Rattle.avr_laws.specs.Table.{IsRow, Row, fuse_memory, WritesFuse, WritesLock, ReadsFlash, ReadsEeprom, ReadsCalibration}
 use Rattle.avr_laws.proofs.Table.RealOf.{ActionsWorkBy, StepsWork, WorksBy}
 use Rattle.avr_laws.proofs.Table.Steps.{bodies}
 
@@ -44,14 +44,9 @@ byte_in sent = 0
 
 same_fuse : (f g : Fuse) → write_address f ≡ write_address g → f ≡ g
 same_fuse Low Low e = refl
-same_fuse Low High e = absurd (omega (arith, e))
-same_fuse Low Extended e = absurd (omega (arith, e))
-same_fuse High Low e = absurd (omega (arith, e))
 same_fuse High High e = refl
-same_fuse High Extended e = absurd (omega (arith, e))
-same_fuse Extended Low e = absurd (omega (arith, e))
-same_fuse Extended High e = absurd (omega (arith, e))
 same_fuse Extended Extended e = refl
+same_fuse f g e = absurd (omega (arith, e))
 
 module _ (becomes : Mem → ℕ → ℕ) (part : Part) where
   -- the lock takes this byte
@@ -70,18 +65,13 @@ module _ (becomes : Mem → ℕ → ℕ) (part : Part) where
 
   vouched_row : (sent : List (List ℕ)) (x : Memories) → IsVouchedSent sent x → (row : Row) (is : IsRow part row)
       → sent ≡ bodies row → IsVouched becomes part row is x
-  vouched_row sent x v row (WritesFlashPage page bytes whole inside e) same = tt
-  vouched_row sent x v row (WritesEepromRun start bytes some within inside e) same = tt
   vouched_row sent x v row (WritesFuse fuse byte e) same = v.fuse fuse byte (same ∙ ap bodies e)
   vouched_row sent x v row (WritesLock byte e) same = v.lock byte (same ∙ ap bodies e)
   vouched_row sent x v row (ReadsFlash start count some few inside even evens e) same =
       v.flash _ count (same ∙ ap bodies e)
   vouched_row sent x v row (ReadsEeprom start count some few inside e) same = v.eeprom _ count (same ∙ ap bodies e)
   vouched_row sent x v row (ReadsCalibration e) same = absurd (v.known (same ∙ ap bodies e))
-  vouched_row sent x v row (ErasesChip e) same = tt
-  vouched_row sent x v row (ReadsFuse fuse e) same = tt
-  vouched_row sent x v row (ReadsLock e) same = tt
-  vouched_row sent x v row (ReadsSignature place few e) same = tt
+  vouched_row sent x v row is same = tt
 
   abbrev Works : List (List Command) → Memories → Type 0
   Works steps x = StepsWork part (IsVouched becomes part) steps x
@@ -263,12 +253,8 @@ module _ (becomes : Mem → ℕ → ℕ) (part : Part) where
       → SuitsReading mem (effect part (Write mem image) x)
   read_back Flash image x suits = suits
   read_back Eeprom image x suits = suits
-  read_back Lfuse image x suits = tt
-  read_back Hfuse image x suits = tt
-  read_back Efuse image x suits = tt
-  read_back Lock image x suits = tt
-  read_back Signature image x suits = tt
   read_back Calibration image x suits = absurd suits
+  read_back mem image x suits = tt
 
   abbrev Acts : List Action → Memories → Type 0
   Acts actions x = ActionsWorkBy part (IsVouched becomes part) actions x

@@ -1,7 +1,6 @@
 -- A programmer that keeps the table does what the proofs use.
-use Rattle.std.proofs.Common.{◌≡◌, ◌∙◌, ℕ, zero, suc, List, [], ◌∷◌, ◌++◌, map, refl, sym, ap, subst, ◌⊎◌, inl, inr, Option, Some, None, Ok, Err, Result, rules}
+use Rattle.std.proofs.Common.{◌≡◌, ◌∙◌, ℕ, zero, suc, List, [], ◌∷◌, ◌++◌, map, refl, sym, ap, subst, ◌⊎◌, inl, inr, Option, Some, None, Ok, Err, rules}
 use Rattle.avr_part.specs.Part.{Part, IsPart}
-use Rattle.stk_frame.specs.declared.answer.FrameFault.{FrameFault}
 use Rattle.stk_frame.specs.declared.command.Command.{Command}
 use Rattle.stk_frame.specs.declared.command.Command.TheVariants.{SignOn, LoadAddress}
 use Rattle.stk_frame.specs.Commands.{body, judge}
@@ -22,9 +21,7 @@ use Rattle.avr_tool.proofs.Hosts.AnyExchange.{data_in}
 use Rattle.avr_tool.proofs.Real.{ActionsWork, AllWork, Real}
 use Rattle.avr_laws.specs.Table.{IsDoneOrNot, IsLoaded, IsProgrammer, RefusesRow, IsRow, Row, Stands, addressed}
 use Rattle.avr_laws.proofs.Table.Steps.{IsSent, RowFor, bodies, row_for, short, nothing}
-
-abbrev Verdict : Type 0
-Verdict = Result (List ℕ) FrameFault
+use Rattle.avr_laws.proofs.Table.GoodReplies.{Verdict}
 
 -- ---- data that were brought
 
