@@ -107,7 +107,7 @@ bad_dropped piece pieces bad = elim (cases_Bool (is_frame piece)) [
       | inr other ↦ other
     ]
 
-abbrev pub IsGood : List ℕ → Type 0
+abbrev IsGood : List ℕ → Type 0
 IsGood piece = is_good piece ≡ true
 
 came_by : (piece more got : List ℕ) → IsPiece piece → got ≡ piece ++ more → frames got

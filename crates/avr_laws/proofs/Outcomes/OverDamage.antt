@@ -29,7 +29,7 @@ use Rattle.avr_laws.specs.AnyTape.{executions_by_arrival}
 use Rattle.avr_laws.specs.Kept.{HasGeometryOf, KeepsOnPart, NoneForged, on_part}
 use Rattle.avr_laws.specs.Damaged.{Arrived, Arrival, BringsReplies, tape_of_arrivals}
 use Rattle.avr_laws.specs.NoForgedFrame.{ForgesNoFrame}
-use Rattle.avr_laws.proofs.Lines.Damaged.{arrived_came, brings_no_frame, IsGood}
+use Rattle.avr_laws.proofs.Lines.Damaged.{arrived_came, brings_no_frame}
 use Rattle.avr_laws.proofs.Outcomes.Alike.{AreAlike, same_frames}
 use Rattle.stk_host.specs.ReadSteps.{signature_steps}
 use Rattle.avr_tool.proofs.Emulated.{actions_work, all_work, emulated}
@@ -38,6 +38,9 @@ use Rattle.avr_tool.proofs.Plans.Fits.{work}
 use Rattle.avr_laws.proofs.Outcomes.Kept.{NotForgedThen, are_alike, frames_alike, its_bodies, its_none_forged, kept, on_each_reading}
 use Rattle.avr_laws.proofs.Outcomes.OwnSignature.{from_handshake, session_is}
 use Rattle.avr_laws.proofs.Outcomes.Promise.{same, tape}
+
+abbrev IsGood : List ℕ → Type 0
+IsGood piece = is_good piece ≡ true
 
 all_pieces : (fs : List (List ℕ)) → AreWhole fs → All IsPiece fs
 all_pieces [] whole = All-nil IsPiece
