@@ -7,7 +7,7 @@
 -- call is one step, also writing over a file. A crash leaves of the held file what it has on the disk, or what it has
 -- now.
 use Rattle.std.proofs.Common.{◌≡◌, ◌∙◌, ap, sym, subst, refl, arith, rules, inl, inr, ◌+◌, Bool, true, false, List, [], ◌∷◌, ◌++◌, Option, Some, None, Result, Ok, Err}
-use Rattle.std.specs.Prelude.{◌⊎◌, codes, IfErr, IfOk, MatchOption, MatchResult, OnOk}
+use Rattle.std.specs.Prelude.{◌⊎◌, codes, IfErr, IfOk, MatchOption, MatchResult, OnOk, if◌then◌else◌}
 use Rattle.std.proofs.lemmas.Bool.{cases_Bool}
 use Rattle.std.proofs.lemmas.Slice.Eq.{bytes_eq-Decides}
 use Rattle.std.specs.IoError.{error_kind}

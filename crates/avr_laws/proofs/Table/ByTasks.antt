@@ -1,6 +1,6 @@
 -- A plan that suits the sheet takes steps that the sheet vouches for.
 use Rattle.std.proofs.Common.{◌<◌, ◌≡◌, ◌⊎◌, ◌∙◌, inl, inr, ℕ, List, [], ◌∷◌, ◌++◌, map, refl, sym, ap, subst, arith, Bool, true, false, cond, Option, Some, None}
-use Rattle.std.specs.Prelude.{not, ◌&&◌}
+use Rattle.std.specs.Prelude.{not, ◌&&◌, if◌then◌else◌}
 use Rattle.byteorder.specs.Endian.{big_bytes}
 use Rattle.avr_image.specs.Image.{byte_at}
 use Rattle.avr_part.specs.declared.part.Mem.{Mem}
