@@ -1,3 +1,2 @@
 -- How much a session asks and receives.
 pub mod Questions
-pub mod Listening

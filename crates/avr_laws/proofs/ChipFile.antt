@@ -1,8 +1,7 @@
 -- Runs over the emulator and its chip file.
-pub mod FewBadThenAgain
 pub mod Found
 pub mod KilledRuns
 pub mod Killed
 pub mod Others
 pub mod Promised
-pub mod SecondRun
+pub mod Left

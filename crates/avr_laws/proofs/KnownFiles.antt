@@ -1,4 +1,4 @@
--- A run over known files and a known tape has one outcome.
-pub mod RunsInMemory
-pub mod OneOutcome
+-- What a run leaves of files and a tape.
+pub mod SeenFiles
+pub mod LongerTape
 pub mod PastUses

@@ -18,5 +18,4 @@ pub mod Table
 pub mod ChipFile
 pub mod KeptByPort
 pub mod Readers
-pub mod TwoProcesses
 pub mod Rows

@@ -36,12 +36,3 @@ AtMostThreeBadOf n (one_exchange ∷ exchanges) = (badness_of_first n (one_excha
 -- most two commands have four bad frames of seven.
 abbrev pub AtMostThreeBadOfSeven : List Exchange → Type 0
 AtMostThreeBadOfSeven = AtMostThreeBadOf 7
-
--- The command is lost, so the host times out.
-abbrev pub lost_command : Exchange
-lost_command = Disturbed NotExecuted NoReply
-
--- Every second command is lost: three of any six consecutive frames go wrong, and four of these seven.
-abbrev pub every_second_lost : List Exchange
-every_second_lost = lost_command ∷ AsIntended ∷ lost_command ∷ AsIntended ∷ lost_command ∷ AsIntended ∷ lost_command
-    ∷ []

@@ -12,14 +12,12 @@ pub mod SavedText
 pub mod Kept
 pub mod Damaged
 pub mod FewBadFrames
-pub mod Bound
 -- what a run reports and leaves, over any link
 pub mod WrittenBytes
 pub mod TrueReports
 pub mod Again
 pub mod AnyLink
 -- runs over known files, over the emulator and its chip file, and killed ones
-pub mod InMemory
 pub mod ChipFound
 pub mod Promise
 pub mod Worked
@@ -35,8 +33,6 @@ pub mod EmulatedStates
 -- the program, port by port
 pub mod KeptByPort
 pub mod BegunByPort
--- two processes
-pub mod TwoProcesses
 -- of the crates below, the definitions that public contracts cite
 pub use Rattle.avr_desk.specs.Fault
 pub use Rattle.avr_desk.specs.Memory

@@ -3,8 +3,7 @@
 use Rattle.std.specs.Prelude.{ℕ, List, [], ◌∷◌, ◌++◌, Some, None, false, codes}
 use Rattle.avr_plan.specs.declared.settings.Settings.{Settings}
 use Rattle.avr_plan.specs.declared.settings.Port.TheVariants.{Stdio}
-use Rattle.avr_desk.specs.Lines.{information, not_opened_line, spaced_digits}
-use Rattle.avr_desk.specs.Memory.{Stock}
+use Rattle.avr_desk.specs.Lines.{spaced_digits}
 use Rattle.avr_desk.specs.OutputEvents.{OutputEvent}
 use Rattle.avr_part.specs.BuiltIn.{m328p}
 use Rattle.avr_part.specs.declared.part.Mem.TheVariants.{Lfuse}
@@ -13,7 +12,6 @@ use Rattle.avr_plan.specs.declared.planned.Task.TheVariants.{Verify}
 use Rattle.avr_session.specs.Lines.{informs}
 use Rattle.stk_frame.specs.Frame.{frame}
 use Rattle.stk_host.specs.Tape.{Tape, on_tape}
-use Rattle.avr_laws.specs.InMemory.{RunOutcome}
 
 -- The settings of `-p m328p -P stdio:`.
 abbrev pub worked_settings : Settings
@@ -60,35 +58,6 @@ abbrev pub worked_lines : List OutputEvent
 worked_lines =
     informs 0 (codes "device signature = " ∷ spaced_digits (0x1E ∷ 0x95 ∷ 0x0F ∷ []) ∷ [])
     ++ informs 0 (codes "done" ∷ [])
-
--- What the worked run leaves, whatever files exist.
-abbrev pub worked_outcome : RunOutcome
-worked_outcome = record {
-  status = 0;
-  sent = worked_frames;
-  messages = information (codes "device signature = " ∷ spaced_digits (0x1E ∷ 0x95 ∷ 0x0F ∷ []) ∷ [])
-      ++ information (codes "done" ∷ []);
-  output = [];
-  files = [];
-}
-
--- The same settings with a part file, which doesn't exist.
-abbrev pub absent_settings : Settings
-absent_settings = record worked_settings { parts = Some (codes "parts.toml") }
-
--- A desk with an empty standard input and no files.
-abbrev pub no_stock : Stock
-no_stock = record { input = []; files = [] }
-
--- What a run with a missing part file leaves: its line, and status 1.
-abbrev pub absent_outcome : RunOutcome
-absent_outcome = record {
-  status = 1;
-  sent = [];
-  messages = not_opened_line (codes "parts.toml");
-  output = [];
-  files = [];
-}
 
 -- A comparison of the low fuse with E2.
 abbrev pub fuse_plan : Plan

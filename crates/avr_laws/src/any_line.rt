@@ -36,7 +36,6 @@ ghost use Rattle.stk_host.specs.Bound.{SendsAtMost, commands_in};
 ghost use Rattle.avr_tool.specs.OverFaultyLink.{SessionStopped};
 ghost use Rattle.avr_laws.specs.AnyLink.{OverAnyWire, ReportsOverExchanges, WholeSessionOverExchanges, ReportsWereTrue};
 ghost use Rattle.avr_session.specs.PlanSteps.{run_steps};
-ghost use Rattle.avr_laws.specs.Bound.{ListensAtMost};
 ghost use Rattle.avr_tool.specs.ExpectedRun.{expected_run};
 ghost use Rattle.avr_tool.specs.ExpectedOutput.{FirstActionsOutput, IsExpectedOutput, EndsAsExpected};
 ghost use Rattle.avr_tool.specs.Completed.{operations_completed};
@@ -62,13 +61,6 @@ pub fn a_run_does_its_write_operations_in_order()
 /// whatever the link does, and also if the session breaks off.
 pub fn a_run_sends_at_most_four_times_its_commands()
     ensures { (plan : Plan) → SendsAtMost IsPartOfEvent (4 * commands_in (run_steps plan)) (session plan) }
-{}
-
-/// States that a session has at most one timeout and reads at most 4,096 bytes for each frame sent, whatever the link
-/// does. So it has at most four timeouts for each command of its steps, also if it breaks off.
-pub fn a_run_times_out_at_most_once_for_each_frame()
-    ensures { (plan : Plan) → IsPart plan.part → All (IsFitted plan.part) plan.tasks
-        → ListensAtMost (4 * commands_in (run_steps plan)) (session plan) }
 {}
 
 /// States that each report of a run is true of the chip at that moment, whatever the status, over a link that forges no

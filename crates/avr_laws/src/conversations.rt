@@ -1,15 +1,12 @@
 //! Laws of a conversation with the emulated programmer over a bad link. What a link does to one command is an
 //! exchange. A conversation goes along its exchanges, over a wire and over any tape without forged frames.
 
-ghost use Rattle.std.specs.Prelude.{filter, true, ◌≡◌, ◌++◌, ℕ, List, [], ◌∷◌, Ok, length, replicate, ◌<◌, ◌≤◌, Err};
-ghost use Rattle.avr_part.specs.Part.{Part, IsPart};
-ghost use Rattle.stk_frame.specs.declared.command.Command.{Command};
+ghost use Rattle.std.specs.Prelude.{filter, true, ◌≡◌, ◌++◌, List, [], length, replicate, ◌<◌, ℕ};
 ghost use Rattle.stk_frame.specs.Frame.{frame};
 ghost use Rattle.stk_frame.specs.Cut.{frames, is_good};
 ghost use Rattle.stk_host.specs.Tape.{Tape};
 ghost use Rattle.stk_host.specs.Dialog.{Dialog, Event, played, bytes_sent, frames_in, outputs, Done};
 ghost use Rattle.stk_host.specs.Play.{Progress, progress_at, InTurn, IsBytePrefixOf, Plays};
-ghost use Rattle.stk_host.specs.Steps.{StepOutcome, step, play};
 ghost use Rattle.stk_host.specs.Transcript.{Transcript, sent, heard};
 ghost use Rattle.stk_emu.specs.Programmer.{Programmer};
 ghost use Rattle.stk_emu.specs.Device.{device};
@@ -20,44 +17,8 @@ ghost use Rattle.stk_emu.specs.Lawful.{NoneHasNumber};
 ghost use Rattle.stk_emu.specs.Wire.{Wire, AreLawful, executions_of_fates, tape_of, exchanges_of_fates};
 ghost use Rattle.stk_emu.specs.Wired.{WiredState, FollowsFates, NeverIdle};
 ghost use Rattle.stk_emu.specs.declared.fate.Fate.{Fate};
-ghost use Rattle.stk_emu.specs.Exchange.{Execution, Exchange};
+ghost use Rattle.stk_emu.specs.Exchange.{Execution};
 ghost use Rattle.stk_emu.specs.DialogOverExchanges.{state_after, outputs_after, SendsValidBodies};
-ghost use Rattle.stk_emu.specs.Effect.{Memories};
-ghost use Rattle.stk_emu.specs.Settled.{Ready, FitsPart};
-ghost use Rattle.stk_emu.specs.WriteOperations.{IsStep, AreSteps};
-ghost use Rattle.stk_emu.specs.StepData.{data_of_step, data_of_steps};
-ghost use Rattle.avr_laws.specs.FewBadFrames.{AtMostThreeBadOfSeven, AtMostThreeBadOf, lost_command, every_second_lost};
-ghost use Rattle.avr_tool.specs.OverFaultyLink.{AllArriveRight};
-ghost use Rattle.stk_host.specs.declared.fault.StepFault.TheVariants.{NoAnswer};
-ghost use Rattle.stk_frame.specs.declared.command.Command.TheVariants.{LoadAddress};
-
-/// States that in programming mode each step (one or two commands) gets its data, with retries, if at most three of any
-/// seven consecutive frames go wrong. The bound is sharp: four lost commands in a row are too many, and so are three
-/// lost of any six, if every second one is lost.
-pub fn few_bad_fates_bring_all_data()
-    ensures step { (part : Part) (commands : List Command) (m : Memories) (k : ℕ) (p : Programmer)
-        (exchanges : List Exchange)
-        → IsPart part → IsStep part commands → FitsPart part m → Ready part m p → AtMostThreeBadOfSeven exchanges
-        → 8 ≤ k
-        → (state_after device k (step commands) p exchanges).dialog ≡ Done (Ok (data_of_step part commands m)) }
-    ensures rest { (k : ℕ) (commands : List Command) (p : Programmer) (exchanges : List Exchange)
-        → AtMostThreeBadOfSeven exchanges
-        → AtMostThreeBadOfSeven (state_after device k (step commands) p exchanges).exchanges }
-    ensures play { (part : Part) (steps : List (List Command)) (m : Memories) (k : ℕ) (before : List ℕ) (p : Programmer)
-        (exchanges : List Exchange)
-        (o : StepOutcome)
-        → IsPart part → AreSteps part steps → FitsPart part m → Ready part m p → AtMostThreeBadOfSeven exchanges
-        → (state_after device k (play steps before) p exchanges).dialog ≡ Done o → o
-        ≡ Ok (before ++ data_of_steps part steps m) }
-    ensures good { (exchanges : List Exchange) → AllArriveRight exchanges → AtMostThreeBadOfSeven exchanges }
-    ensures four { (command : Command) (commands : List Command) (p : Programmer)
-        → (state_after device 4 (step (command ∷ commands)) p (lost_command ∷ lost_command ∷ lost_command ∷ lost_command
-        ∷ [])).dialog ≡ Done (Err NoAnswer) }
-    ensures six { AtMostThreeBadOf 6 every_second_lost }
-    ensures six_fail { (address : ℕ) (command : Command) (commands : List Command) (p : Programmer)
-        → (state_after device 7 (step (LoadAddress address ∷ command ∷ commands)) p every_second_lost).dialog
-        ≡ Done (Err NoAnswer) }
-{}
 
 /// States that a conversation follows from its exchanges (what became of each command and its reply), if no reply that
 /// it takes is forged. Its output and result are those of a run command by command over these exchanges, one for each

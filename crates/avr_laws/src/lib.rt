@@ -24,7 +24,6 @@ mod chip_file;
 mod crashes;
 mod program;
 mod runs;
-mod two_processes;
 
 pub use again::{
     a_second_run_repairs_the_first, the_same_run_again_repairs,
@@ -32,8 +31,8 @@ pub use again::{
 };
 pub use any_line::{
     a_run_does_its_write_operations_in_order, a_run_sends_at_most_four_times_its_commands,
-    a_run_times_out_at_most_once_for_each_frame, a_session_outputs_its_expected_run_up_to_a_fault,
-    a_session_over_a_wire_can_be_believed, a_session_over_any_link, what_a_run_reports_is_true,
+    a_session_outputs_its_expected_run_up_to_a_fault, a_session_over_a_wire_can_be_believed,
+    a_session_over_any_link, what_a_run_reports_is_true,
     what_a_run_reports_is_true_on_an_emulated_chip, what_was_reported_was_true,
     whatever_becomes_of_a_session_its_first_write_operations_were_done,
 };
@@ -42,14 +41,10 @@ pub use bootloaders::{
     AnyReader, a_program_with_status_0_left_what_it_compared_last,
     a_run_over_a_bootloader_meets_all_premises,
 };
-pub use chip_file::{
-    a_further_run_over_its_chip_file_repairs, a_run_finds_and_leaves_the_chip_of_its_file,
-    the_chip_file_holds_the_images,
-};
+pub use chip_file::{a_run_finds_and_leaves_the_chip_of_its_file, the_chip_file_holds_the_images};
 pub use conversations::{
     a_conversation_in_turn_is_never_idle, a_link_that_forges_no_frame_is_authentic,
-    a_wire_is_an_authentic_link, few_bad_fates_bring_all_data,
-    over_a_wire_a_conversation_follows_its_exchanges,
+    a_wire_is_an_authentic_link, over_a_wire_a_conversation_follows_its_exchanges,
     over_any_tape_a_conversation_follows_its_exchanges,
 };
 pub use crashes::{
@@ -71,15 +66,11 @@ pub use program::{
     whatever_the_status_first_write_operations_were_made_on_an_emulated_chip,
 };
 pub use runs::{
-    a_forged_frame_voids_the_promise, a_further_run_repairs, a_run_in_memory_has_one_outcome,
-    a_run_in_memory_is_a_function_of_its_files, a_run_over_a_bad_link_meets_all_premises,
+    a_forged_frame_voids_the_promise, a_run_over_a_bad_link_meets_all_premises,
     a_sound_run_is_its_expected_run, a_worked_run_has_one_outcome, a_wrong_outcome_is_refused,
     an_ended_run_and_one_with_status_0_are_as_one,
     an_ended_run_and_one_with_status_0_are_as_one_on_an_emulated_chip, status_0_means_the_images,
     status_0_means_the_images_on_an_emulated_chip,
-};
-pub use two_processes::{
-    a_server_sends_the_replies_to_what_it_received, what_a_host_receives_of_a_server_is_authentic,
 };
 pub use written::{
     a_byte_of_flash_is_made_by_images, a_plan_writes_what_its_tasks_write,

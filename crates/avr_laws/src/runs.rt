@@ -1,20 +1,15 @@
 //! What status 0 means. Laws of few bad frames, of a further run, and of worked outcomes.
 
-ghost use Rattle.std.specs.Prelude.{◌≡◌, ◌<◌, ◌*◌, ◌⊎◌, ℕ, true, false, List, [], ◌∷◌, All, Some, map};
+ghost use Rattle.std.specs.Prelude.{◌≡◌, ◌<◌, ◌*◌, true, false, List, [], ◌∷◌, All, Some, map, ℕ};
 ghost use Rattle.avr_plan.specs.declared.settings.Settings.{Settings};
-ghost use Rattle.avr_desk.specs.Memory.{MemDeskState, Stock, memory_state, stock_of};
-ghost use Rattle.avr_desk.specs.Truth.{HoldsTrue};
-ghost use Rattle.avr_session.specs.Run.{RunsBetween};
-ghost use Rattle.ghosts.specs.Preserves.{Preserves};
-ghost use Rattle.stk_host.specs.Links.{ConsumesTape, TranscriptIsTrueSince, StreamState, TapeState, stream_state, tape_state};
 ghost use Rattle.avr_desk.specs.Record.{DeskState, ChangesRecord, Record, all_openings};
 ghost use Rattle.avr_laws.specs.Again.{AgreesOnTwoChips, ItemsKeepEeprom};
-ghost use Rattle.avr_tool.specs.OverFaultyLink.{SessionStopped, SessionOverWire, OverExchanges, Weight, total_weight, bodies_in, memories, events_over, wire_and_desk};
+ghost use Rattle.avr_tool.specs.OverFaultyLink.{SessionOverWire, Weight, total_weight, bodies_in, memories, events_over, wire_and_desk};
 ghost use Rattle.avr_laws.specs.AnyLink.{OverAnyWire, WholeSessionOverExchanges};
 ghost use Rattle.avr_session.specs.PlanSteps.{run_steps};
 ghost use Rattle.avr_tool.specs.ExpectedRun.{expected_run};
 ghost use Rattle.avr_tool.specs.Items.{items, asked_items, has_erase};
-ghost use Rattle.avr_tool.specs.Outcome.{IsExpectedRun, IsDone};
+ghost use Rattle.avr_tool.specs.Outcome.{IsExpectedRun};
 ghost use Rattle.avr_tool.specs.Written.{IsWritten, written_to};
 ghost use Rattle.avr_desk.specs.OutputEvents.{OutputEvent, after_events};
 ghost use Rattle.avr_part.specs.Part.{IsPart};
@@ -24,14 +19,13 @@ ghost use Rattle.avr_plan.specs.Plan.{Plan, IsFitted};
 ghost use Rattle.avr_session.specs.Runs.{AllocationFailed, devices, cause_line};
 ghost use Rattle.avr_session.specs.Session.{session};
 ghost use Rattle.avr_session.specs.Stopping.{IsSound, EndWithLine, keeping, link_state};
-ghost use Rattle.avr_tool.specs.Headline.{IsRun, IsStopped};
-ghost use Rattle.avr_laws.specs.InMemory.{AreUnused, LeavesOutcome, LeavesOverStreams, RunOutcome, outcome_shown};
+ghost use Rattle.avr_tool.specs.Headline.{IsRun};
 ghost use Rattle.avr_laws.specs.BegunByPort.{IsBegunByAny};
 ghost use Rattle.avr_laws.specs.KeptByAny.{IsKeptByAny};
 ghost use Rattle.avr_laws.specs.KeptByPort.{KeepsPlan};
 ghost use Rattle.avr_laws.specs.Sheet.{IsVouched, SuitsPlan};
 ghost use Rattle.avr_laws.specs.Table.{IsProgrammer};
-ghost use Rattle.avr_laws.specs.Worked.{absent_outcome, absent_settings, worked_frames, fuse_plan, worked_lines, forged_replies, no_stock, worked_replies, worked_outcome, worked_settings};
+ghost use Rattle.avr_laws.specs.Worked.{worked_frames, fuse_plan, worked_lines, forged_replies, worked_replies, worked_settings};
 ghost use Rattle.avr_laws.specs.WorkedLoss.{image_read, loss_executions, loss_frames, loss_part, loss_plan, loss_programmer, loss_replies, loss_updates, old_chip, old_file, received_first, received_later};
 ghost use Rattle.avr_laws.specs.ChipFound.{IsChipInFile};
 ghost use Rattle.stk_emu.specs.Device.{device};
@@ -52,15 +46,12 @@ ghost use Rattle.avr_laws.specs.AnyTape.{ReceivedSentFrames, after_received_byte
 ghost use Rattle.avr_laws.specs.NoForgedFrame.{ForgesNoFrame};
 ghost use Rattle.stk_host.specs.Dialog.{Event, played, bytes_sent, frames_in, outputs};
 ghost use Rattle.stk_host.specs.Transcript.{Transcript, heard, sent};
-ghost use Rattle.stk_host.specs.Tape.{Tape};
 
 use super::any_programmer::AnyProgrammer;
 use avr_desk::Desk;
 use avr_plan::Settings;
 use avr_tool::run;
-use ghosts::Inlet;
 use std::alloc::Global;
-use std::io::Write;
 use stk_host::Link;
 
 /// Runs what the settings ask for over a new link, as [`avr_tool::run`] does, and states what status 0 means then. The
@@ -206,7 +197,6 @@ pub fn a_wrong_outcome_is_refused()
 ///
 /// If such a plan erases and verifies, and its comparisons agree on a chip of 00 and on one of FF, its status is 0. The
 /// chip then holds its images, whatever it held before.
-// Proof: `sound_expected` (ChipFile/FewBadThenAgain), by `few_session_ends` (FewBad/Sessions).
 pub fn a_sound_run_is_its_expected_run()
     ensures expected_run { (plan : Plan) (w v : WiredState) (d e : Record) (a b : ℕ × ℕ) (status : ℕ)
         → AtMostThreeBadOfSeven (exchanges_of_fates w.wire.fates) → IsSound (wire_and_desk w (keeping d a))
@@ -222,34 +212,6 @@ pub fn a_sound_run_is_its_expected_run()
         → plan.switches.no_verify ≡ false → has_erase (items plan) ≡ true → AgreesOnTwoChips plan
         → OverAnyWire plan w v (keeping d a) (keeping e b) status
         → (status ≡ 0) × IsWritten plan.part (asked_items plan) (memories w) (memories v) }
-{}
-
-/// States that the same run again repairs the chip, however the first ended, if few frames go wrong, under conditions
-/// on plan and chip, unless it stops. At most three of any seven consecutive frames go wrong, and a reset counts as
-/// four. The plan erases, and its comparisons agree on a chip of 00 and on one of FF. Then its status is 0 unless it
-/// stops, and the chip is as one run would have left it.
-///
-/// If the chip keeps EEPROM at an erase, each byte that the plan writes to the high fuse must keep it too. `wire`
-/// states this over a wire, `link` over the exchanges of any link that forges no frame, for a run that doesn't stop.
-// Proof: `further_repairs` (ChipFile/FewBadThenAgain), by `done_again` (SecondRun/Status).
-pub fn a_further_run_repairs()
-    ensures wire { (plan : Plan) (w v x y : WiredState) (d e f g : DeskState) (status further : ℕ)
-        → IsPart plan.part → All (IsFitted plan.part) plan.tasks → FitsPart plan.part (memories w)
-        → has_erase (items plan) ≡ true → AgreesOnTwoChips plan
-        → (erase_keeps_eeprom plan.part (memories w) ≡ true → ItemsKeepEeprom plan.part (items plan))
-        → SessionOverWire plan w v d e status
-        → memories x ≡ memories v → AtMostThreeBadOfSeven (exchanges_of_fates x.wire.fates)
-        → OverAnyWire plan x y f g further
-        → ((further ≡ 0) × IsDone plan (memories w) (memories y)) ⊎ SessionStopped plan x y f g }
-    ensures link { (plan : Plan) (p q x y : Programmer) (exchanges more : List Exchange) (bytes others : List ℕ)
-        (events : List (Event OutputEvent)) (further : ℕ)
-        → IsPart plan.part → All (IsFitted plan.part) plan.tasks → FitsPart plan.part (memories_of p.chip)
-        → has_erase (items plan) ≡ true → AgreesOnTwoChips plan
-        → (erase_keeps_eeprom plan.part (memories_of p.chip) ≡ true → ItemsKeepEeprom plan.part (items plan))
-        → OverExchanges plan p q exchanges bytes
-        → memories_of x.chip ≡ memories_of q.chip → AtMostThreeBadOfSeven more → WholeSessionOverExchanges plan x y more
-        others events further
-        → (further ≡ 0) × IsDone plan (memories_of p.chip) (memories_of y.chip) }
 {}
 
 /// States that no run of `-p m328p` with the replies of the worked example has status 1, other frames or other lines,
@@ -268,44 +230,10 @@ pub fn a_worked_run_has_one_outcome()
         → IsRun worked_settings (devices (link_state [] a) d) (devices (link_state transcript b) e) status → ⊥ }
 {}
 
-/// States that what a run leaves depends only on settings, files and replies, if files and link are in memory and it
-/// doesn't stop. It may stop because devices in memory fail if allocation fails. Over a reader it leaves what some tape
-/// with the reader's bytes leaves. The premises are what avr_tool's `run` states of a call over a new desk in memory
-/// and a new link.
-// Proof: `run_is_over_tape` and `run_is_over_streams` (KnownFiles/RunsInMemory).
-pub fn a_run_in_memory_is_a_function_of_its_files<R: Inlet, W: Write>()
-    ensures tape { (s : Settings) (old new : MemDeskState) (before after : TapeState) (status : ℕ)
-        → AreUnused old (tape_state before)
-        → RunsBetween memory_state HoldsTrue s (tape_state before) (tape_state after) old new status
-        → ConsumesTape before after → Preserves HoldsTrue old new
-        → LeavesOutcome s (stock_of old) before.left (outcome_shown status (sent after.transcript) new.kept)
-        ⊎ IsStopped s (devices (tape_state before) (memory_state old)) (devices (tape_state after) (memory_state new))
-        status }
-    ensures streams { (s : Settings) (old new : MemDeskState) (before after : StreamState R W) (status : ℕ)
-        → AreUnused old (stream_state before)
-        → RunsBetween memory_state HoldsTrue s (stream_state before) (stream_state after) old new status
-        → TranscriptIsTrueSince R.remaining R.has_timed_out W.contents before after → Preserves HoldsTrue old new
-        → LeavesOverStreams R.remaining R.has_timed_out W.contents s (stock_of old) before after
-        (outcome_shown status (sent after.transcript) new.kept)
-        ⊎ IsStopped s (devices (stream_state before) (memory_state old))
-        (devices (stream_state after) (memory_state new)) status }
-{}
-
-/// States that with given files and replies a run can leave only one outcome, unless it stops. An outcome is status,
-/// bytes sent, messages, output and files. For `-p m328p` with all its replies it is `worked_outcome`. If the part file
-/// doesn't exist, the run reports this, and sends nothing.
-// Proof: `one_outcome`, `worked_leaves` and `absent_leaves` (KnownFiles/OneOutcome).
-pub fn a_run_in_memory_has_one_outcome()
-    ensures one { (s : Settings) (stock : Stock) (tape : Tape) (a b : RunOutcome)
-        → LeavesOutcome s stock tape a → LeavesOutcome s stock tape b → a ≡ b }
-    ensures worked { (stock : Stock) → LeavesOutcome worked_settings stock worked_replies worked_outcome }
-    ensures absent { (tape : Tape) → LeavesOutcome absent_settings no_stock tape absent_outcome }
-{}
-
 /// States that one forged frame can end a comparison of a fuse with status 0 although the chip's fuse differs. Over a
 /// tape with one, comparing the low fuse with E2 ends with status 0 whatever the chip has. For a chip with another fuse
 /// the promise fails. A link that forges no frame can't give this tape.
-// Proof: `forged_run_succeeds`, `promise_void` and `frame_is_forged` (Lines/MadeFrame).
+// Proof: `forged_run_succeeds` and `promise_void` (Lines/MadeFrame), and `over_bytes` (AnyLink).
 pub fn a_forged_frame_voids_the_promise()
     ensures ends { (played (session fuse_plan) 1 forged_replies).outcome ≡ Some (0, 8, []) }
     ensures void { (p q : Programmer) (exchanges : List Exchange) (bytes : List ℕ) (events : List (Event OutputEvent))

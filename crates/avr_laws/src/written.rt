@@ -72,7 +72,7 @@ pub fn a_byte_of_flash_is_made_by_images()
 /// EEPROM and fuses: the chip was not locked. Flash: moreover, the same plan erased it before, and wrote no other image
 /// at the same addresses. The lock: the plan did the same for it. Otherwise `written` means only that each command got
 /// the status OK.
-// Proof: `written_there` (Memories/WrittenThere).
+// Proof: `there` (Memories/WrittenThere).
 pub fn what_is_written_is_there()
     ensures { (part : Part) (before now : Memories) (mem : Mem) (image : Image) (first : List Item)
         → HoldsBytes image → now ≡ effects part (first ++ Write mem image ∷ []) before

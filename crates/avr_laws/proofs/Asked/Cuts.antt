@@ -44,8 +44,7 @@ two_last (a ∷ b ∷ rest) (suc n) is = ap (λ (r : Bytes). a ∷ r) (two_last 
 
 pub letter_is : (rest file : Bytes) (letter : ℕ) → file_and_letter rest ≡ (file, Some letter)
     → rest ≡ file ++ colon ∷ letter ∷ []
-letter_is rest file letter is =
-    by (nat_le 2 (length rest) && slice_index rest (length rest - 2) == colon) refl is
+letter_is rest file letter is = by (nat_le 2 (length rest) && slice_index rest (length rest - 2) == colon) refl is
   where
     by : (test : Bool) → (nat_le 2 (length rest) && slice_index rest (length rest - 2) == colon) ≡ test
         → ◌≡◌ {A = Bytes × Option ℕ}
@@ -83,8 +82,7 @@ by_letter rest ends =
 pub plain_read : (rest : Bytes) → ((name : Bytes) (letter : ℕ) → rest ≡ name ++ colon ∷ letter ∷ [] → ⊥)
     → file_and_letter rest ≡ (rest, None)
 plain_read rest none = elim (cases_Bool (nat_le 2 (length rest) && slice_index rest (length rest - 2) == colon)) [
-  | inl ends ↦
-      absurd (none (take (length rest - 2) rest) (slice_index rest (length rest - 1))
+  | inl ends ↦ absurd (none (take (length rest - 2) rest) (slice_index rest (length rest - 1))
       (letter_is rest (take (length rest - 2) rest) (slice_index rest (length rest - 1)) (ap (by_letter rest) ends)))
   | inr plain ↦ ap (by_letter rest) plain
 ]

@@ -36,8 +36,7 @@ free port updates parts chip is = search (rules, cases_Bool)
 
 checked : (port : Port) (updates : List Update) (parts chip : Option Bytes) → AreFree port updates parts chip
     → checked_streams port updates parts chip ≡ Ok tt
-checked port updates parts chip are =
-    rw (are.parts_file, are.chip_file, are.port_free, are.input) refl
+checked port updates parts chip are = rw (are.parts_file, are.chip_file, are.port_free, are.input) refl
 
 not_standard : (name : Option Bytes) → option_map_or is_standard name false ≡ false → name ≡ Some (codes "-") → ⊥
 not_standard name none is =
@@ -77,36 +76,24 @@ record AreRun (part : Bytes) (e : Entries) (s : Settings) : Type 0 where
   parts_are : s.parts ≡ e.parts
   switches_are : s.switches ≡ e.switches
 
+abbrev settings_with : Bytes → Entries → Port → List Update → Settings
+settings_with part e port updates =
+    record { part = part; port = port; parts = e.parts; updates = updates; switches = e.switches }
+
 run_is : (part : Bytes) (e : Entries) (s : Settings) → run_settings part e ≡ Ok s → AreRun part e s
 run_is part e s is = by (checked_programmer e.programmer) (port_of_option e.port) (updates_of e.updates) refl refl refl is
   where
     last : (port : Port) (updates : List Update) (free : Result ⊤ SettingsFault)
-        → free >>= (λ streams. Ok (record {
-          part = part;
-          port = port;
-          parts = e.parts;
-          updates = updates;
-          switches = e.switches;
-        })) ≡ Ok s → (free ≡ Ok tt) × (s ≡ record {
-          part = part;
-          port = port;
-          parts = e.parts;
-          updates = updates;
-          switches = e.switches;
-        })
+        → free >>= (λ streams. Ok (settings_with part e port updates)) ≡ Ok s
+        → (free ≡ Ok tt) × (s ≡ settings_with part e port updates)
     last port updates (Err fault) is = absurd (cc is)
     last port updates (Ok unit) is = (refl, cc is)
 
     by : (programmer : Result ⊤ SettingsFault) (port : Result Port SettingsFault)
         (updates : Result (List Update) SettingsFault) → checked_programmer e.programmer ≡ programmer
         → port_of_option e.port ≡ port → updates_of e.updates ≡ updates → programmer >>= (λ programmer.
-        port >>= (λ port. updates >>= (λ updates. checked_streams port updates e.parts e.chip >>= (λ streams. Ok (record {
-          part = part;
-          port = port;
-          parts = e.parts;
-          updates = updates;
-          switches = e.switches;
-        }))))) ≡ Ok s → AreRun part e s
+        port >>= (λ port. updates >>= (λ updates. checked_streams port updates e.parts e.chip
+        >>= (λ streams. Ok (settings_with part e port updates))))) ≡ Ok s → AreRun part e s
     by (Err fault) port updates p q r is = absurd (cc is)
     by (Ok unit) (Err fault) updates p q r is = absurd (cc is)
     by (Ok unit) (Ok port) (Err fault) p q r is = absurd (cc is)
@@ -196,36 +183,22 @@ record IsServed (text : Bytes) (e : Entries) (s : Settings) : Type 0 where
   streams : checked_streams (Served text chip) [] e.parts e.chip ≡ Ok tt
   port : s.port ≡ Served text chip
 
+abbrev served_with : Bytes → Entries → Port → Settings
+served_with part e port = record { part = part; port = port; parts = e.parts; updates = []; switches = switches_of [] }
+
 served_at : (part text : Bytes) (e : Entries) (s : Settings) → serve_settings part text e ≡ Ok s → IsServed text e s
 served_at part text e s is = by (port_number text) e.chip refl refl is
   where
-    last : (port : Port) (free : Result ⊤ SettingsFault) → free >>= (λ streams. Ok (record {
-      part = part;
-      port = port;
-      parts = e.parts;
-      updates = [];
-      switches = switches_of [];
-    })) ≡ Ok s → (free ≡ Ok tt) × (s.port ≡ port)
+    last : (port : Port) (free : Result ⊤ SettingsFault) → free >>= (λ streams. Ok (served_with part e port)) ≡ Ok s
+        → (free ≡ Ok tt) × (s.port ≡ port)
     last port (Err fault) is = absurd (cc is)
     last port (Ok unit) is =
-        let same : s ≡ record {
-          part = part;
-          port = port;
-          parts = e.parts;
-          updates = [];
-          switches = switches_of [];
-        } = cc is in
-        (refl, ap (λ (s : Settings). s.port) same)
+        let same : s ≡ served_with part e port = cc is in (refl, ap (λ (s : Settings). s.port) same)
 
     by : (number : Option ℕ) (chip : Option Bytes) → port_number text ≡ number → e.chip ≡ chip
         → port_to_serve text number chip
-        >>= (λ port. checked_streams port [] e.parts e.chip >>= (λ streams. Ok (record {
-          part = part;
-          port = port;
-          parts = e.parts;
-          updates = [];
-          switches = switches_of [];
-        }))) ≡ Ok s → IsServed text e s
+        >>= (λ port. checked_streams port [] e.parts e.chip >>= (λ streams. Ok (served_with part e port))) ≡ Ok s
+        → IsServed text e s
     by None chip p q is = absurd (cc is)
     by (Some number) None p q is = absurd (cc is)
     by (Some number) (Some chip) p q is =

@@ -87,8 +87,7 @@ after_op mem rest u is = by (split_first rest) refl is
     named name behind None given is = absurd (cc is)
     named name behind (Some op) given is = (op, op_is name op given, is)
 
-    by : (cut : Option (Bytes × Bytes)) → split_first rest ≡ cut
-        → ok_or (op_named (unwrap_or cut (rest, [])).0) BadOp
+    by : (cut : Option (Bytes × Bytes)) → split_first rest ≡ cut → ok_or (op_named (unwrap_or cut (rest, [])).0) BadOp
         >>= (λ op. update_by mem op (file_and_letter (unwrap_or cut (rest, [])).1)) ≡ Ok u → IsAfter mem rest u
     by None cut is =
         let o = named rest [] (op_named rest) refl is in
@@ -162,14 +161,11 @@ by_read : (mem : Mem) (op : Op) (file : Bytes) (letter : Option ℕ) (format : F
 by_read mem op file letter format some is = search (rules, nat_tests)
 
 pub update_read : (text : Bytes) (u : Update) → AsksForUpdate text u → update_of text ≡ Ok u
-update_read text u (some, inl (letter, is, format)) =
-    ap update_of is
+update_read text u (some, inl (letter, is, format)) = ap update_of is
     ∙ (head_read u.memory u.op (u.file ++ colon ∷ letter ∷ [])
     ∙ (ap (update_by u.memory u.op) (file_and_letter-append u.file letter)
     ∙ by_read u.memory u.op u.file (Some letter) u.format some format))
-update_read text u (some, inr (inl (is, format, none))) =
-    ap update_of is
-    ∙ (head_read u.memory u.op u.file
+update_read text u (some, inr (inl (is, format, none))) = ap update_of is ∙ (head_read u.memory u.op u.file
     ∙ (ap (update_by u.memory u.op) (plain_read u.file none)
     ∙ by_read u.memory u.op u.file None u.format some format))
 update_read text u (some, inr (inr (is, none))) = search (rules, nat_tests, uncut, is)

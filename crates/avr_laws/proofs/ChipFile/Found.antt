@@ -48,11 +48,10 @@ module _ (settings : Settings) (file : Bytes) (stock : Stock) (old new : MemDesk
     (r : RunsOverEmulator settings file (memory_state old) (memory_state new) status) where
   -- the openings before the chip's file
   before : (openings : List Opening) × (all_uses r.planned_desk.kept ≡ all_uses old.kept ++ opened openings)
-  before =
-      search (
-        rules,
-        only_opened r.made.output_events old.kept (search (rules, only_reads settings (r.made.passed ++ []))),
-      )
+  before = search (
+    rules,
+    only_opened r.made.output_events old.kept (search (rules, only_reads settings (r.made.passed ++ []))),
+  )
 
   abbrev first_uses : List FileUse
   first_uses = all_uses old.kept ++ opened before.0
@@ -67,8 +66,7 @@ module _ (settings : Settings) (file : Bytes) (stock : Stock) (old new : MemDesk
   ))
 
   ended : (more : List FileUse) × (all_uses new.kept ≡ (first_uses ++ Opened opening ∷ []) ++ more)
-  ended =
-      past_shown (first_uses ++ Opened opening ∷ []) new.kept
+  ended = past_shown (first_uses ++ Opened opening ∷ []) new.kept
       (saved_past (first_uses ++ Opened opening ∷ []) _ r.played_desk (memory_state new) file _ r.session_status status
       r.saved played_past)
 
@@ -77,8 +75,7 @@ module _ (settings : Settings) (file : Bytes) (stock : Stock) (old new : MemDesk
 
   -- until the session begins nothing is created
   pub loaded_files : all_files r.loaded_desk.kept ≡ all_files old.kept
-  loaded_files =
-      ap all_files (found_kept r.plan.part file r.loaded.held_desk r.loaded_desk r.chip r.loaded.loaded)
+  loaded_files = ap all_files (found_kept r.plan.part file r.loaded.held_desk r.loaded_desk r.chip r.loaded.loaded)
       ∙ (search (rules, files_absent, files_used, first_files))
 
   every : OpeningsAreTrue stock [] (first_uses ++ Opened opening ∷ ended.0)

@@ -55,8 +55,7 @@ tried_untaken : (plan : Plan) (file : Bytes) (old new : DeskState) (status : ℕ
     → TakesChip plan file old new (Err status) → tried_at new ≡ tried_at old
 tried_untaken plan file old new status (inl own) = grind arith
 tried_untaken plan file old new status (inr (apart, inl unloaded)) = tried_unloaded _ _ _ _ _ unloaded
-tried_untaken plan file old new status (inr (apart, inr then)) =
-    (search rules) ∙ tried_loaded _ _ _ _ _ then.loaded
+tried_untaken plan file old new status (inr (apart, inr then)) = (search rules) ∙ tried_loaded _ _ _ _ _ then.loaded
 
 -- ---- it tries no other bytes than its chip's
 

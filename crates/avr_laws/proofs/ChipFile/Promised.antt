@@ -25,8 +25,8 @@ use Rattle.avr_laws.proofs.ChipFile.Found.{chip_found, loaded_files, planned_tru
 use Rattle.avr_laws.proofs.ChipFile.Others.{stood_named, stood_saved}
 use Rattle.avr_laws.proofs.Outcomes.ByTasks.{tasks_agree}
 use Rattle.avr_laws.proofs.Outcomes.Saved.{expected_writes, these_saved}
-use Rattle.avr_laws.proofs.ChipFile.SecondRun.{chip_left}
-use Rattle.avr_laws.proofs.KnownFiles.RunsInMemory.{seen}
+use Rattle.avr_laws.proofs.ChipFile.Left.{chip_left}
+use Rattle.avr_laws.proofs.KnownFiles.SeenFiles.{seen}
 use Rattle.avr_laws.specs.ChipFound.{IsChipInFile, contents_held}
 use Rattle.avr_laws.specs.Kept.{FilesAreSaved, named_files, saved_files}
 use Rattle.avr_laws.specs.Promise.{Promised}

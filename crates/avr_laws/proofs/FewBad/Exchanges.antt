@@ -1,35 +1,27 @@
 -- Over few bad exchanges each step gives its data.
-use Rattle.std.proofs.Common.{◌≡◌, ℕ, zero, suc, ◌+◌, ◌*◌, ◌≤◌, List, [], ◌∷◌, ◌++◌, length, refl, sym, ap, ◌∙◌, subst, arith, inl, inr, ◌⊎◌, Ok, Err, rules}
+use Rattle.std.proofs.Common.{◌≡◌, ℕ, zero, suc, ◌+◌, ◌≤◌, List, [], ◌∷◌, ◌++◌, length, refl, sym, ap, ◌∙◌, subst, arith, inl, inr, ◌⊎◌, Ok, rules}
 use Rattle.std.specs.Prelude.{⊤}
-use Rattle.avr_part.specs.Part.{Part, IsPart}
 use Rattle.stk_frame.specs.declared.command.Command.{Command}
-use Rattle.stk_frame.specs.declared.command.Command.TheVariants.{LoadAddress}
 use Rattle.stk_frame.specs.Commands.{body}
 use Rattle.stk_host.specs.declared.fault.StepFault.{StepFault}
 use Rattle.stk_host.specs.declared.fault.StepFault.TheVariants.{NoAnswer}
 use Rattle.stk_host.specs.Dialog.{Dialog, Done, Emit, Ask}
 use Rattle.stk_host.specs.Bound.{AsksAtMost}
-use Rattle.stk_host.specs.Steps.{Reply, Data, Again, Stop, StepOutcome, reply_from_reading, with_data, exchange, attempt, attempts_or_fault, step, play}
+use Rattle.stk_host.specs.Steps.{Reply, Data, Again, Stop, StepOutcome, reply_from_reading, with_data, exchange, attempt, step}
 use Rattle.stk_host.proofs.Dialogs.Logic.{OnReply, done, ask, wider, attempts}
-use Rattle.stk_host.proofs.Dialogs.Questions.{step_most}
 use Rattle.stk_emu.specs.Exchange.{Exchange, after_exchange, reading_of_exchange, first_exchange, later_exchanges}
 use Rattle.stk_emu.specs.Programmer.{Programmer}
 use Rattle.stk_emu.specs.Device.{device}
 use Rattle.stk_emu.specs.DialogOverExchanges.{state_after}
-use Rattle.stk_emu.specs.Effect.{Memories}
-use Rattle.avr_laws.specs.FewBadFrames.{badness, badness_of_first, AtMostThreeBadOf, AtMostThreeBadOfSeven, lost_command, every_second_lost}
-use Rattle.avr_tool.specs.OverFaultyLink.{AllArriveRight}
-use Rattle.stk_emu.specs.Settled.{Ready, FitsPart}
-use Rattle.stk_emu.specs.WriteOperations.{IsStep, AreSteps}
-use Rattle.stk_emu.specs.StepData.{data_of_step, data_of_steps}
+use Rattle.avr_laws.specs.FewBadFrames.{badness, badness_of_first, AtMostThreeBadOfSeven}
 use Rattle.stk_emu.proofs.Repeatable.{on_data, reply_to, joined_reply, IsRepeatable}
 use Rattle.avr_tool.proofs.Hosts.AnyExchange.{AfterStep, try_goes}
 use Rattle.avr_tool.proofs.Hosts.OneLink.{Spot, this_link, Runs, on_link, both}
 use Rattle.stk_emu.proofs.Replies.Commands.{steady}
 use Rattle.avr_tool.proofs.WriteOperations.OutsideMode.{gathered_steady}
 use Rattle.avr_tool.proofs.Sure.Good.{AreSteady, IsSteady, on_steady}
-use Rattle.avr_laws.proofs.Lines.Ends.{where_done, first_steady}
-use Rattle.avr_tool.proofs.Sure.Exchanges.{IsSure, brings_one, brings_play, step_short}
+use Rattle.avr_laws.proofs.Lines.Ends.{first_steady}
+use Rattle.avr_tool.proofs.Sure.Exchanges.{IsSure}
 
 -- ---- counting
 
@@ -46,32 +38,7 @@ others_few exchanges few = search rules
 in_seven : (exchanges : List Exchange) → AtMostThreeBadOfSeven exchanges → badness_of_first 7 exchanges ≤ 3
 in_seven exchanges few = search rules
 
-none_bad : (n : ℕ) (exchanges : List Exchange) → AllArriveRight exchanges → badness_of_first n exchanges ≡ 0
-none_bad zero exchanges good = refl
-none_bad (suc n) [] good = let none = none_bad n [] good in omega (arith, none)
-none_bad (suc n) (one_exchange ∷ exchanges) good = let none = none_bad n exchanges good.1 in
-    let well : badness one_exchange ≡ 0 = ap badness good.0 in
-    omega (arith, none, well)
-
--- a good link is the simplest case
-pub good_few : (exchanges : List Exchange) → AllArriveRight exchanges → AtMostThreeBadOfSeven exchanges
-good_few [] good = tt
-good_few (one_exchange ∷ exchanges) good = (
-  let none = none_bad 7 (one_exchange ∷ exchanges) good in
-      omega (arith, none),
-  good_few exchanges good.1,
-)
-
 module _ {E R : Type 0} where
-  -- if few of the exchanges to come are bad, so are few of those that are left
-  pub few_left : (k : ℕ) (d : Dialog E R) (p : Programmer) (exchanges : List Exchange) → AtMostThreeBadOfSeven exchanges
-      → AtMostThreeBadOfSeven (state_after device k d p exchanges).exchanges
-  few_left k (Done r) p exchanges few = few
-  few_left k (Emit s d) p exchanges few = few_left k d p exchanges few
-  few_left zero (Ask bytes go_on) p exchanges few = few
-  few_left (suc k) (Ask bytes go_on) p exchanges few =
-      few_left k (go_on _) _ (later_exchanges exchanges) (others_few exchanges few)
-
   -- a dialog that asks at most `n` commands is done after `n`
   pub done_within : (n k : ℕ) (d : Dialog E R) (p : Programmer) (exchanges : List Exchange) → AsksAtMost n d → n ≤ k
       → (r : R) × ((state_after device k d p exchanges).dialog ≡ Done r)
@@ -109,15 +76,14 @@ same_data a b e = cc
 well : (size : ℕ) (exchanges : List Exchange) (got : List ℕ) (then : Reply) (rest : List Exchange)
     → Tried size (later_exchanges exchanges) got then rest → Tried (suc size) exchanges got then rest
 well size exchanges got then rest (inl brings) = inl brings
-well size exchanges got then rest (inr s) = inr
-    (record {
-      fault = s.fault;
-      again = s.again;
-      place = suc s.place;
-      near = (let n = s.near in omega (arith, n));
-      went_wrong = s.went_wrong;
-      behind_it = s.behind_it;
-    })
+well size exchanges got then rest (inr s) = inr (record {
+  fault = s.fault;
+  again = s.again;
+  place = suc s.place;
+  near = (let n = s.near in omega (arith, n));
+  went_wrong = s.went_wrong;
+  behind_it = s.behind_it;
+})
 
 -- the frame that went wrong
 wrong : (size : ℕ) (exchanges : List Exchange) (got : List ℕ) (fault : StepFault)
@@ -233,8 +199,7 @@ module _ (Before After : Programmer → Type 0) (commands : List Command) (got :
 
   step_steady : (z : Spot Programmer) → Before z.0 → AtMostThreeBadOfSeven z.1
       → Runs steady (λ y. ⊤) Whole (step commands) z
-  step_steady z before few =
-      attempts (this_link steady) (λ bytes y. ⊤) commands Begins Whole
+  step_steady z before few = attempts (this_link steady) (λ bytes y. ⊤) commands Begins Whole
       (λ more y begins. wider (λ bytes y x. tt) (λ e y x. x) (after_try more y.1 begins.1.1)
       (both steady (on_link steady (try_goes steady commands Before After fits y.0 begins.0))
       (attempt_tried commands [] y got begins.1.0 (gathered_steady commands [] y.0 ∙ has y.0 begins.0))))
@@ -254,43 +219,3 @@ few_sure commands got Before After fits short has z before few = record {
   holds = on_steady (λ o y. ((o ≡ Ok got) × After y.0) × AtMostThreeBadOfSeven y.1) (step commands) z
       (few_steady z.1 few) (step_steady Before After commands got fits short has z before few).holds;
 }
-
--- ---- the steps of a host
-
-module _ (part : Part) (sound : IsPart part) where
-  -- a step gives its data, in at most eight commands
-  pub step_comes : (commands : List Command) (m : Memories) (k : ℕ) (p : Programmer) (exchanges : List Exchange)
-      → IsStep part commands → FitsPart part m → Ready part m p → AtMostThreeBadOfSeven exchanges → 8 ≤ k
-      → (state_after device k (step commands) p exchanges).dialog ≡ Done (Ok (data_of_step part commands m))
-  step_comes commands m k p exchanges is f ready few le =
-      let short = step_short part sound commands is in
-      let within : (o : StepOutcome) × ((state_after device k (step commands) p exchanges).dialog ≡ Done o) =
-      done_within (4 * length commands) k (step commands) p exchanges (step_most commands) (omega (arith, short, le)) in
-      within.1 ∙ ap (λ x. Done x)
-      (where_done device (step commands) (p, exchanges)
-      (brings_one part sound AtMostThreeBadOfSeven few_sure commands m is f (p, exchanges) ready few) k within.0
-      within.1).0.0
-
-  pub play_few : (steps : List (List Command)) (m : Memories) (k : ℕ) (before : List ℕ) (p : Programmer)
-      (exchanges : List Exchange) (o : StepOutcome) → AreSteps part steps → FitsPart part m → Ready part m p
-      → AtMostThreeBadOfSeven exchanges → (state_after device k (play steps before) p exchanges).dialog ≡ Done o → o
-      ≡ Ok (before ++ data_of_steps part steps m)
-  play_few steps m k before p exchanges o are f ready few e =
-      (where_done device (play steps before) (p, exchanges)
-      (brings_play part sound AtMostThreeBadOfSeven few_sure steps m before are f (p, exchanges) ready few) k o e).0.0
-
--- four bad frames of seven are too many, both in a row and if each second one is bad
-pub four_too_many : (command : Command) (commands : List Command) (p : Programmer)
-    → (state_after device 4 (step (command ∷ commands)) p (lost_command ∷ lost_command ∷ lost_command ∷ lost_command
-    ∷ [])).dialog ≡ Done (Err NoAnswer)
-unfolding attempts_or_fault attempt exchange
-four_too_many command commands p = refl
-
-pub second_too_many : (address : ℕ) (command : Command) (commands : List Command) (p : Programmer)
-    → (state_after device 7 (step (LoadAddress address ∷ command ∷ commands)) p every_second_lost).dialog
-    ≡ Done (Err NoAnswer)
-unfolding attempts_or_fault attempt exchange
-second_too_many address command commands p = refl
-
-pub three_of_six : AtMostThreeBadOf 6 every_second_lost
-three_of_six = search rules

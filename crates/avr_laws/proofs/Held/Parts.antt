@@ -157,13 +157,12 @@ divides_below n divides = search (rules, cases_lt, mod-eq_of_lt)
 
 page_read : (f : Field) (least n : ℕ) → 0 < n → least ≤ n → 256 % n ≡ 0
     → page_field f least (Some (integer (pos n))) ≡ Ok n
-page_read f least n some enough divides =
-    search (
-      rules,
-      nat_tests,
-      number_read f least 256 n enough (divides_below n divides),
-      divides_power n some (divides_below n divides) divides,
-    )
+page_read f least n some enough divides = search (
+  rules,
+  nat_tests,
+  number_read f least 256 n enough (divides_below n divides),
+  divides_power n some (divides_below n divides) divides,
+)
 
 signature_read : (text bytes : Bytes) → decode_sized text 3 ≡ Ok bytes → signature_field (Some (string text)) ≡ Ok bytes
 signature_read text bytes is = search rules
@@ -178,21 +177,18 @@ all_made id signature flash flash_page eeprom eeprom_page bit part f = grind (ar
 
 part_read : (key : Bytes) (fields : Members) (part : Part) → IsPartOf key fields part
     → part_of key (table fields) ≡ Ok part
-part_read key fields part p =
-    search (
-      rules,
-      all_made,
-      id_read,
-      signature_read p.signature.0 part.signature p.signature.2,
-      number_read
-          field.FlashSize 2 262144 part.flash_size p.is_part.flash_some p.is_part.flash_most,
-      page_read field.FlashPage
-          2 part.flash_page (omega (arith, p.is_part.flash_page)) p.is_part.flash_page p.is_part.flash_fits,
-      number_read field.EepromSize 1 4096 part.eeprom_size p.is_part.eeprom_some p.is_part.eeprom_most,
-      page_read
-          field.EepromPage 1 part.eeprom_page p.is_part.eeprom_page p.is_part.eeprom_page p.is_part.eeprom_fits,
-      number_read field.EesaveBit 0 7 part.eesave_bit (omega arith) (omega (arith, p.is_part.eesave_bit)),
-    )
+part_read key fields part p = search (
+  rules,
+  all_made,
+  id_read,
+  signature_read p.signature.0 part.signature p.signature.2,
+  number_read field.FlashSize 2 262144 part.flash_size p.is_part.flash_some p.is_part.flash_most,
+  page_read field.FlashPage
+      2 part.flash_page (omega (arith, p.is_part.flash_page)) p.is_part.flash_page p.is_part.flash_fits,
+  number_read field.EepromSize 1 4096 part.eeprom_size p.is_part.eeprom_some p.is_part.eeprom_most,
+  page_read field.EepromPage 1 part.eeprom_page p.is_part.eeprom_page p.is_part.eeprom_page p.is_part.eeprom_fits,
+  number_read field.EesaveBit 0 7 part.eesave_bit (omega arith) (omega (arith, p.is_part.eesave_bit)),
+)
 
 all_read : (tables : Members) (parts : List Part) → ArePartsIn tables parts → parts_in tables ≡ Ok parts
 all_read no_members [] are = refl

@@ -252,8 +252,7 @@ long_or : {A E : Type 0} (b : Bool) (o : Option A) (e : E) (r : Result A E) (a :
 long_or true o e r a is go_on = absurd (cc is)
 long_or false o e r a is go_on = go_on is
 
-line_read : (kind : Kind) (line : List ℕ) (m : Meaning) → line_meaning kind line ≡ Some m
-    → line_result kind line ≡ Ok m
+line_read : (kind : Kind) (line : List ℕ) (m : Meaning) → line_meaning kind line ≡ Some m → line_result kind line ≡ Ok m
 line_read Ihex line m is = search (rules, long_or, trimmed_read)
 line_read Srec line m is = search (rules, long_or, trimmed_read)
 
@@ -316,8 +315,7 @@ module _ (size : ℕ) (before rs : List LineResult) (os : List (Option Meaning))
       record { fine = rw both.0 next.fine; are = next.are }
   step_read End placed are within = record { fine = refl; are = cc are }
 
-  meant_read : (r : LineResult) (o : Option Meaning) (placed : List (ℕ × ℕ))
-      → ((m : Meaning) → o ≡ Some m → r ≡ Ok m)
+  meant_read : (r : LineResult) (o : Option Meaning) (placed : List (ℕ × ℕ)) → ((m : Meaning) → o ≡ Some m → r ≡ Ok m)
       → placed_bytes (base_after before) (count_by is_data_record before) (o ∷ os) ≡ Some placed
       → Inside size placed → AreRead size before (r ∷ rs) placed
   meant_read r None placed read are within = absurd (cc are)
@@ -336,8 +334,7 @@ made_again : (size : ℕ) (made : List (Option ℕ)) (places placed : List (ℕ 
     → made ≡ image_of_pairs size placed
     → ◌≡◌ {A = Result (List (Option ℕ) × Ending) RecordFault} (Ok (image_of_pairs size places, ending))
     (Ok (made, ending))
-made_again size made places placed ending same is =
-    cc (ap (image_of_pairs size) same)
+made_again size made places placed ending same is = cc (ap (image_of_pairs size) same)
 
 pub records_read : (kind : Kind) (text : List ℕ) (size : ℕ) (image : List (Option ℕ))
     → HoldsRecords kind text size image

@@ -92,12 +92,10 @@ module _ (Kept : Plan → Transcript → Record → Record → Type 0)
         let acts : ActsAtPort peers s.port s old new 0 =
         subst (λ (k : ℕ). ActsAtPort peers s.port s old new k) zero took.runs in
         elim (serves_or_asks words s took.asked) [
-          | inl (serves, (port, file, is)) ↦
-              inl (
-                serves,
-                served peers port file s old new silent
-                    (subst (λ (p : Port). ActsAtPort peers p s old new 0) is acts),
-              )
+          | inl (serves, (port, file, is)) ↦ inl (
+            serves,
+            served peers port file s old new silent (subst (λ (p : Port). ActsAtPort peers p s old new 0) is acts),
+          )
           | inr asks ↦ inr (s, asks, at_port peers asks.port.0 s.port s old new asks.port.2 silent acts)
         ],
   )

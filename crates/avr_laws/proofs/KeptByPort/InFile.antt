@@ -24,7 +24,7 @@ use Rattle.stk_host.specs.Dialog.{outputs}
 use Rattle.stk_host.specs.Transcript.{heard, sent}
 use Rattle.avr_laws.proofs.AnyWire.{came_to}
 use Rattle.avr_laws.proofs.ChipFile.Found.{found, found_kept}
-use Rattle.avr_laws.proofs.ChipFile.SecondRun.{no_silence}
+use Rattle.avr_laws.proofs.ChipFile.Left.{no_silence}
 use Rattle.avr_laws.proofs.Held.Chip.{IsReadFrom, in_file}
 use Rattle.avr_laws.proofs.Outcomes.ByTasks.{made_by_tasks, tasks_agree}
 use Rattle.avr_laws.proofs.Outcomes.Saved.{WritesFiles, expected_writes, reading_writes, these_saved}

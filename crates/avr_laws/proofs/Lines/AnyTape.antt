@@ -7,7 +7,7 @@ use Rattle.std.specs.Prelude.{filter}
 use Rattle.stk_frame.specs.Frame.{frame}
 use Rattle.stk_frame.specs.Cut.{frames, is_good}
 use Rattle.stk_frame.proofs.Laws.{frame_is_good, body_of_frame}
-use Rattle.stk_host.specs.Tape.{Tape, Reading, Replied, Silent, Ended, Babbled, answer}
+use Rattle.stk_host.specs.Tape.{Tape, Reading, Replied, answer}
 use Rattle.stk_host.specs.Dialog.{Dialog, Done, Emit, Ask, Frame, Played, played, prepend_events, continue_with_reading, next, frames_in}
 use Rattle.stk_emu.specs.Device.{Device, after_frame, after_frames}
 use Rattle.stk_emu.specs.Lawful.{IsFrameBody}
@@ -20,8 +20,7 @@ use Rattle.avr_tool.proofs.Lines.Plays.{played_along, emitted_played, done_playe
 
 -- every authentic reading is an exchange
 abbrev IsExchangeOf : {P : Type 0} → Device P → List ℕ → P → Execution → Reading → Exchange → Type 0
-IsExchangeOf m bytes p execution reading one_exchange =
-    (reading_of_exchange one_exchange (m.reply bytes p) ≡ reading)
+IsExchangeOf m bytes p execution reading one_exchange = (reading_of_exchange one_exchange (m.reply bytes p) ≡ reading)
     × (after_exchange one_exchange (m.after bytes p) p m.reset ≡ after_execution execution (m.after bytes p) p m.reset)
 
 by_reply : {P : Type 0} (m : Device P) (bytes : List ℕ) (p : P) (execution : Execution) (came : List ℕ)
@@ -37,9 +36,7 @@ pub authentic_exchange : {P : Type 0} (m : Device P) (bytes : List ℕ) (p : P) 
     (reading : Reading) → IsAuthentic m bytes p execution reading → IsExchangeOf m bytes p execution reading
     (exchange_by execution reading)
 authentic_exchange m bytes p execution (Replied came) h = by_reply m bytes p execution came h
-authentic_exchange m bytes p execution Silent h = (refl, refl)
-authentic_exchange m bytes p execution Ended h = (refl, refl)
-authentic_exchange m bytes p execution Babbled h = (refl, refl)
+authentic_exchange m bytes p execution reading h = (refl, refl)
 
 -- without a further command the programmer stays as it is
 none_asked : {E R P : Type 0} (m : Device P) (d : Dialog E R) (p : P) (exchanges : List Exchange)
@@ -87,10 +84,6 @@ module _ {P : Type 0} (m : Device P) where
         (leaves : after_exchange one_exchange (m.after bytes p) p m.reset ≡ on_time)
         (goes : ReadAs m (go_on (reading_of_exchange one_exchange (m.reply bytes p))) (next n) left
         (after_exchange one_exchange (m.after bytes p) p m.reset) (later_executions executions) later) where
-      abbrev fs : List (List ℕ)
-      fs = frames_in (played_along m goes.reply_count (go_on (reading_of_exchange one_exchange (m.reply bytes p)))
-          (next n) (after_exchange one_exchange (m.after bytes p) p m.reset) later goes.left).events
-
       by_exchange : ReadAs m (Ask bytes go_on) n tape p executions (one_exchange ∷ later)
       by_exchange = record {
         reply_count = suc goes.reply_count;
@@ -156,8 +149,7 @@ module _ {P : Type 0} (m : Device P) where
       → RepliesAreAuthentic m d n (t ++ u) p executions → RepliesAreAuthentic m d n t p executions
   authentic_prefix (Done r) n t u p executions h = tt
   authentic_prefix (Emit e d) n t u p executions h = authentic_prefix d n t u p executions h
-  authentic_prefix (Ask bytes go_on) n t u p executions h =
-      shorter bytes go_on n t u p executions (answer n t) refl
+  authentic_prefix (Ask bytes go_on) n t u p executions h = shorter bytes go_on n t u p executions (answer n t) refl
       (λ reading left q inner. authentic_prefix (go_on reading) (next n) left u q (later_executions executions) inner) h
 
 -- ---- what the programmer cuts from the bytes that it got
@@ -194,8 +186,7 @@ module _ {P : Type 0} (m : Device P) where
   let_through_after (first ∷ more) (piece ∷ sent) p = search (
     rules,
     getting_after,
-    let_through_after more sent
-        (after_execution first (after_frame m piece p) p m.reset),
+    let_through_after more sent (after_execution first (after_frame m piece p) p m.reset),
   )
 
   good_later : (got : List ℕ) (later : List (List ℕ)) (p : P)

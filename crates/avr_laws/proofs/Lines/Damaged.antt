@@ -1,5 +1,5 @@
 -- A link that loses or delays whole frames, and damages at most one byte of each, forges no frame.
-use Rattle.std.proofs.Common.{◌≡◌, ℕ, zero, suc, ◌+◌, ◌-◌, ◌<◌, ◌≤◌, List, [], ◌∷◌, ◌++◌, length, take, refl, sym, ap, subst, append_assoc, if◌then◌else◌, ◌∙◌, arith, inl, inr, ◌⊎◌, Bool, true, false, Option, Some, None, length-append}
+use Rattle.std.proofs.Common.{◌≡◌, ℕ, zero, suc, ◌+◌, ◌-◌, ◌<◌, ◌≤◌, List, [], ◌∷◌, ◌++◌, length, take, refl, sym, ap, subst, append_assoc, ◌∙◌, arith, inl, inr, ◌⊎◌, Bool, true, false, Option, Some, None, length-append, if◌then◌else◌}
 use Rattle.std.proofs.lemmas.Bool.{cases_Bool, and_parts, eqb-true, false≢true, cond-true, cond-false}
 use Rattle.std.proofs.Math.Seq.{take-append-add}
 use Rattle.std.proofs.lemmas.List.{append-nil}
@@ -18,9 +18,10 @@ use Rattle.stk_emu.specs.Device.{Device, refusal}
 use Rattle.stk_emu.specs.Lawful.{IsFrameBody}
 use Rattle.stk_emu.specs.Exchange.{Execution, NotExecuted, Executed, ThenRestarted, after_execution}
 use Rattle.avr_tool.specs.Authentic.{first_execution, later_executions, on_reading}
-use Rattle.avr_laws.specs.AnyTape.{FramesByRestart, adding_received, received_frames, good_frames, ReceivedSentFrames, executions_by_arrival}
+use Rattle.avr_laws.specs.AnyTape.{adding_received, received_frames, good_frames, ReceivedSentFrames, executions_by_arrival}
 use Rattle.avr_laws.specs.NoForgedFrame.{frame_of_reply, IsAmongFirst, IsNotForged, AreNotForged, ForgesNoFrame}
 use Rattle.avr_laws.specs.Damaged.{DifferInOne, IsDamaged, Arrived, Arrival, FrameArrives, PauseArrives, EndArrives, tape_of_arrivals, frames_before_pause, IsReplyOfFirst, IsSomeRefusal, AreRecentReplies, bytes_up_to_reply, first_reading, IfRead, BringsReplies}
+use Rattle.avr_laws.proofs.Lines.NoForgedFrame.{alone}
 
 -- ---- a damaged frame has its length, and a wrong XOR
 
@@ -113,9 +114,6 @@ came_by : (piece more got : List ℕ) → IsPiece piece → got ≡ piece ++ mor
     ≡ filter is_frame (piece ∷ cut more)
 came_by piece more got whole e = ap frames e ∙ ap (filter is_frame) (cut_first piece more whole)
 
-abbrev alone : List (List ℕ) → FramesByRestart
-alone got = (got, [])
-
 good_arrived : (sent : List (List ℕ)) (through : List Bool) (got : List ℕ) → All IsPiece sent → All IsGood sent
     → Arrived sent through got → received_frames (executions_by_arrival through) sent ≡ alone (good_frames got)
 good_arrived [] [] got whole good e = ap (λ (g : List ℕ). alone (good_frames g)) (sym e)
@@ -177,11 +175,10 @@ refused_body : IsFrameBody refusal
 refused_body = record { some = omega arith; few = omega arith }
 
 refuses : (piece : List ℕ) → IsSomeRefusal piece → Sound (λ p. body_of p ≡ refusal) piece
-refuses piece (n, inl same) =
-    inr (
-      subst IsPiece (sym same) (whole_frame n refusal refused_body),
-      λ good. ap body_of same ∙ body_of_frame n refusal,
-    )
+refuses piece (n, inl same) = inr (
+  subst IsPiece (sym same) (whole_frame n refusal refused_body),
+  λ good. ap body_of same ∙ body_of_frame n refusal,
+)
 refuses piece (n, inr d) =
     let bad = damaged_frame n refusal piece refused_body d in inr (bad.0, λ good. absurd (bad.1 good))
 
@@ -277,8 +274,7 @@ further_first : (n : ℕ) (piece bytes : List ℕ) → (piece ≡ []) ⊎ IsPiec
 further_first n piece bytes (inl none) other = subst
     (λ p. first_reply n (cut (p ++ bytes)) ≡ past_skipped (length p) (first_reply n (cut bytes))) (sym none)
     (further_zero (first_reply n (cut bytes)))
-further_first n piece bytes (inr whole) other =
-    ap (first_reply n) (cut_first piece bytes whole)
+further_first n piece bytes (inr whole) other = ap (first_reply n) (cut_first piece bytes whole)
     ∙ cond-false (is_reply n piece) (Some (body_of piece, length piece))
     (past_skipped (length piece) (first_reply n (cut bytes))) other
 
@@ -303,14 +299,13 @@ behind n piece bytes come whole other (inl (body, left, is, tape, first)) =
       further_first n piece bytes whole other
           ∙ (ap (past_skipped (length piece)) first ∙ ap (λ k. Some (body, k)) size),
     )
-behind n piece bytes come whole other (inr (left, is, none, tape, first)) =
-    inr (
-      left,
-      cond-false (is_reply n piece) _ _ other ∙ is,
-      none,
-      joined piece bytes (tape_of_arrivals come) (tape_of_arrivals left) tape,
-      further_first n piece bytes whole other ∙ ap (past_skipped (length piece)) first,
-    )
+behind n piece bytes come whole other (inr (left, is, none, tape, first)) = inr (
+  left,
+  cond-false (is_reply n piece) _ _ other ∙ is,
+  none,
+  joined piece bytes (tape_of_arrivals come) (tape_of_arrivals left) tape,
+  further_first n piece bytes whole other ∙ ap (past_skipped (length piece)) first,
+)
 
 looked : (n : ℕ) (sent : List (List ℕ)) (come : List Arrival) → AllReplies sent
     → AreRecentReplies n sent (frames_before_pause come) → Found n come (bytes_up_to_reply n (frames_before_pause come))

@@ -112,8 +112,7 @@ module _ {P : Type 0} (m : Device P) where
       own n bytes p execution before body past (search (rules, taken))
   by_reading n bytes p execution before reading tape left e past were = tt
 
-  its_number : (n : ℕ) (bytes : List ℕ) (p : P) (execution : Execution)
-      → (frame_of_reply m n bytes p execution ≡ [])
+  its_number : (n : ℕ) (bytes : List ℕ) (p : P) (execution : Execution) → (frame_of_reply m n bytes p execution ≡ [])
       ⊎ ((seq_of (frame_of_reply m n bytes p execution) + 1) % 256 ≡ next n % 256)
   its_number n bytes p NotExecuted = inl refl
   its_number n bytes p Executed = search rules
@@ -152,7 +151,7 @@ module _ {P : Type 0} (m : Device P) where
 
 -- ---- a programmer that got a prefix of the bytes sent, as over a link that keeps their order
 
-abbrev alone : List (List ℕ) → FramesByRestart
+abbrev pub alone : List (List ℕ) → FramesByRestart
 alone got = (got, [])
 
 all_through : (xs ys : List (List ℕ))

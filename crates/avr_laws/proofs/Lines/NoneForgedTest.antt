@@ -18,13 +18,11 @@ is_among_first (suc k) [] piece = false
 is_among_first (suc k) (first ∷ sent) piece = bytes_eq piece first || is_among_first k sent piece
 
 abbrev is_not_forged : List (List ℕ) → List ℕ → Bool
-is_not_forged sent piece =
-    not (is_good piece) || (bytes_eq (body_of piece) refusal || is_among_first 256 sent piece)
+is_not_forged sent piece = not (is_good piece) || (bytes_eq (body_of piece) refusal || is_among_first 256 sent piece)
 
 abbrev are_not_forged : ℕ → List (List ℕ) → List (List ℕ) → Bool
 are_not_forged n sent [] = true
-are_not_forged n sent (piece ∷ pieces) =
-    is_not_forged sent piece && (is_reply n piece || are_not_forged n sent pieces)
+are_not_forged n sent (piece ∷ pieces) = is_not_forged sent piece && (is_reply n piece || are_not_forged n sent pieces)
 
 abbrev on_reading_or_true : (Reading → Tape → Bool) → Option (Reading × Tape) → Bool
 on_reading_or_true test None = true
@@ -52,8 +50,7 @@ both false b is = cc
 equal : (x y : List ℕ) → bytes_eq x y ≡ true → x ≡ y
 equal x y is = search (rules, bytes_eq-Decides)
 
-among : (k : ℕ) (sent : List (List ℕ)) (piece : List ℕ) → is_among_first k sent piece ≡ true
-    → IsAmongFirst k sent piece
+among : (k : ℕ) (sent : List (List ℕ)) (piece : List ℕ) → is_among_first k sent piece ≡ true → IsAmongFirst k sent piece
 among zero sent piece is = cc
 among (suc k) [] piece is = cc
 among (suc k) (first ∷ sent) piece is =

@@ -56,22 +56,20 @@ module _ (part : Part) (addr : ℕ) where
   pub made : (xs : List Item) (m : Memories) → addr < length m.flash
       → IsMadeByImages xs addr (byte m) (byte (effects part xs m))
   made [] m l = record { first = byte m; bytes = []; first_is = inl refl; are_there = tt; is = refl }
-  made (Erase ∷ xs) m l =
-      search (
-        rules,
-        are_later,
-        get_or-replicate,
-        length-replicate,
-        made xs (effect part Erase m) (search (rules, length-replicate)),
-      )
-  made (Write Flash image ∷ xs) m l =
-      search (
-        rules,
-        joined,
-        get_and_in,
-        still_inside,
-        made xs (effect part (Write Flash image) m) (still_inside image m.flash addr (are_locked m) l),
-      )
+  made (Erase ∷ xs) m l = search (
+    rules,
+    are_later,
+    get_or-replicate,
+    length-replicate,
+    made xs (effect part Erase m) (search (rules, length-replicate)),
+  )
+  made (Write Flash image ∷ xs) m l = search (
+    rules,
+    joined,
+    get_and_in,
+    still_inside,
+    made xs (effect part (Write Flash image) m) (still_inside image m.flash addr (are_locked m) l),
+  )
   made (Write mem image ∷ xs) m l = search (rules, are_later, made xs (effect part (Write mem image) m) l)
 
 -- the first items of a list

@@ -81,8 +81,7 @@ same_on events (Some (a, seq, tape)) f g same = ap (prepend_events events) (same
 pub alike_bind : {A B : Type 0} {a b : Dialog OutputEvent A} {f g : A → Dialog OutputEvent B}
     → AreAlike a b → ((x : A) → AreAlike (f x) (g x)) → AreAlike (a >>= f) (b >>= g)
 alike_bind {a = a} {b = b} {f = f} {g = g} first later = record {
-  over = λ seq tape.
-      ap silent (played_bind a f seq tape)
+  over = λ seq tape. ap silent (played_bind a f seq tape)
       ∙ (silent_on (played a seq tape).events (played a seq tape).outcome (λ x. played (f x))
       ∙ (same_on (without_lines (played a seq tape).events) (played a seq tape).outcome
       (λ x n t. silent (played (f x) n t)) (λ x n t. silent (played (g x) n t)) (λ x n t. (later x).over n t)
@@ -125,9 +124,7 @@ played_emits (event ∷ outputs) d seq tape = ap (prepend_events (Emitted event 
 pub alike_emits : {R : Type 0} (these those : List OutputEvent) (d : Dialog OutputEvent R) → SameButLines these those
     → AreAlike (emits these d) (emits those d)
 alike_emits these those d same = record {
-  over = λ seq tape.
-      ap silent (played_emits these d seq tape)
-      ∙ (silent_after (map Emitted these) (played d seq tape)
+  over = λ seq tape. ap silent (played_emits these d seq tape) ∙ (silent_after (map Emitted these) (played d seq tape)
       ∙ (ap (λ events. prepend_events events (silent (played d seq tape))) same.is
       ∙ (sym (silent_after (map Emitted those) (played d seq tape))
       ∙ sym (ap silent (played_emits those d seq tape)))));

@@ -133,8 +133,7 @@ module _ (plan : Plan) (m : Memories) where
   due = is_erase_due plan.switches plan.tasks
 
   pub tasks_agree : ComparisonsAgree plan m → PlanAgrees plan m
-  tasks_agree agree =
-      agree_by_tasks plan.part plan.switches plan.tasks (before_tasks plan m)
+  tasks_agree agree = agree_by_tasks plan.part plan.switches plan.tasks (before_tasks plan m)
       (behind plan.part m these plan.switches.dry plan.switches.erase due agree.1)
 
   pub actions_agree : PlanAgrees plan m → ComparisonsAgree plan m
@@ -145,8 +144,7 @@ module _ (plan : Plan) (m : Memories) where
   )
 
   pub files_by_tasks : actions_files plan.part plan.switches (actions plan) m ≡ saved_files plan m
-  files_by_tasks =
-      no_file plan.part m these plan.switches plan.switches.dry plan.switches.erase due
+  files_by_tasks = no_file plan.part m these plan.switches plan.switches.dry plan.switches.erase due
       ∙ files_of_tasks plan.part plan.switches plan.tasks (before_tasks plan m)
 
 -- ---- what was done

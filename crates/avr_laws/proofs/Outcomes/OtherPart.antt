@@ -132,8 +132,7 @@ module _ (part : Part) (id signature : Bytes) where
 
     action_alike : (action : Action) → AreAlike (action_dialog part s action) (action_dialog other s action)
     action_alike OpenSession = opening_alike
-    action_alike EraseChip =
-        reported_alike erasing erasing (erased_output s.quiet part) (erased_output s.quiet other)
+    action_alike EraseChip = reported_alike erasing erasing (erased_output s.quiet part) (erased_output s.quiet other)
         (alike (lifted erasing))
         (λ outcome. fault_printed part other _ outcome)
     action_alike (WriteImage mem image) =
@@ -141,8 +140,7 @@ module _ (part : Part) (id signature : Bytes) where
         (written_output s.quiet other mem image)
         (subst (λ d. AreAlike (lifted (writing part mem image)) (lifted d)) (same_writing mem image)
         (alike (lifted (writing part mem image)))) (λ outcome. fault_printed part other _ outcome)
-    action_alike (CompareImage mem image) =
-        reported_alike (verifying part mem image) (verifying other mem image)
+    action_alike (CompareImage mem image) = reported_alike (verifying part mem image) (verifying other mem image)
         (verified_output s.quiet part mem image) (verified_output s.quiet other mem image)
         (subst (λ steps. AreAlike (lifted (verifying part mem image)) (lifted (operation steps (comparison mem image))))
         (same_reading mem) (alike (lifted (verifying part mem image))))
@@ -162,13 +160,11 @@ module _ (part : Part) (id signature : Bytes) where
 
     actions_alike : (all : List Action) → AreAlike (actions_dialog part s all) (actions_dialog other s all)
     actions_alike [] = alike (Done NoFault)
-    actions_alike (action ∷ all) =
-        alike_bind (action_alike action)
+    actions_alike (action ∷ all) = alike_bind (action_alike action)
         (unless_alike (actions_dialog part s all) (actions_dialog other s all) (actions_alike all))
 
     ending_alike : (standing : Standing) → AreAlike (ending part s standing) (ending other s standing)
-    ending_alike NoFault =
-        reported_alike closing closing (closing_output s.quiet part) (closing_output s.quiet other)
+    ending_alike NoFault = reported_alike closing closing (closing_output s.quiet part) (closing_output s.quiet other)
         (alike (lifted closing))
         (λ outcome. fault_printed part other _ outcome)
     ending_alike Faulty = alike (ending part s Faulty)
@@ -193,7 +189,6 @@ module _ (plan : Plan) (part : Part) (fits : HasGeometryOf plan.part part) where
       (λ standing. alike (Done (status_of standing))))
 
   pub tasks_fit : All (IsFitted plan.part) plan.tasks → All (IsFitted part) plan.tasks
-  tasks_fit fitted =
-      subst (λ (other : Part). All (IsFitted other) plan.tasks) (sym fits)
+  tasks_fit fitted = subst (λ (other : Part). All (IsFitted other) plan.tasks) (sym fits)
       (All-weaker (IsFitted plan.part) (IsFitted (other plan.part part.id part.signature))
       (fits_other plan.part part.id part.signature) plan.tasks fitted)

@@ -59,8 +59,7 @@ whole_frame n body valid = search (rules, frame_is_piece, and_parts, frame_is_go
 
 -- the frames of the one run are the first ones of the other
 abbrev pub IsFirstPart : {A : Type 0} → Played ⊥ A → Played OutputEvent ℕ → Type 0
-IsFirstPart first whole =
-    (more : List (List ℕ)) × (frames (bytes_sent whole.events) ≡ frames_in first.events ++ more)
+IsFirstPart first whole = (more : List (List ℕ)) × (frames (bytes_sent whole.events) ≡ frames_in first.events ++ more)
 
 onwards : {A : Type 0} (first : Reading → Tape → Played ⊥ A) (whole : Reading → Tape → Played OutputEvent ℕ)
     (o : Option (Reading × Tape))
@@ -81,8 +80,7 @@ module _ (plan : Plan) where
 
   -- what a session does after an operation at its beginning; and all of it, from the handshake on
   abbrev after : Dialog OutputEvent Standing → Dialog OutputEvent ℕ
-  after d = d >>= unless_fault later_actions >>= ending plan.part s
-      >>= λ standing. Done (status_of standing)
+  after d = d >>= unless_fault later_actions >>= ending plan.part s >>= λ standing. Done (status_of standing)
 
   abbrev pub from_handshake : Dialog ⊥ StepOutcome → Dialog OutputEvent ℕ
   from_handshake d = after (reported (d

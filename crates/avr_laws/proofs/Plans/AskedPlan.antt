@@ -201,8 +201,7 @@ module _ (Gives : GivesText) where
 
     all_tasks : (updates : List Update) (openings opened : List Opening) (made : List Task)
         → Saw (tasks_stage switches part [] updates) openings opened made → AreTasksOf Gives part updates made opened
-    all_tasks updates openings opened made saw =
-        search (rules, tasks [] updates openings opened made saw)
+    all_tasks updates openings opened made saw = search (rules, tasks [] updates openings opened made saw)
 
   found : (o : Option Part) (part : Part) → ok_or o NoSuchPart ≡ Ok part → o ≡ Some part
   found (Some part) other is = cc is

@@ -124,12 +124,10 @@ module _ {part : Part} (sound : IsPart part) (real : Real part) (IsIn : real.P �
             subst RestAgrees (sym (has ∙ (agreement.memories no_fault ∙ only_reads Reads part rest x reads)))
             (agreement.if_fine no_fault),
       )
-      found x at emitted y (rests, inr broken) =
-          (t.is_in _ y.0 rests.stands, λ fine. absurd (broken.faulty fine))
+      found x at emitted y (rests, inr broken) = (t.is_in _ y.0 rests.stands, λ fine. absurd (broken.faulty fine))
 
       rest_goes : (y : Spot real.P) → IsIn y.0 → Goes (Then RestAgrees) (actions_dialog part s rest) y
-      rest_goes y i =
-          prints_wider m Anything (λ emitted z now. tt) (found (real.memories y.0))
+      rest_goes y i = prints_wider m Anything (λ emitted z now. tt) (found (real.memories y.0))
           (goes_actions part sound real s Anything (λ fault q. any_outputs (fault_output part fault) q)
           (λ x z. Settled real x z.0) ⊤ (anyhow part sound real s) rest (real.memories y.0) y fits (t.sizes y.0 i)
           (t.works rest (real.memories y.0) reads) (anything rest (real.memories y.0)) (t.settled y.0 i))
@@ -157,8 +155,7 @@ module _ {part : Part} (sound : IsPart part) (real : Real part) (IsIn : real.P �
 
       -- leaving programming mode keeps the memories
       ends : (at : Standing) (y : Spot real.P) → Then Claim at y → Goes AtEnd (ending part s at) y
-      ends NoFault y (i, claim) =
-          prints_reported m Anything (closing_output s.quiet part)
+      ends NoFault y (i, claim) = prints_reported m Anything (closing_output s.quiet part)
           (on_link m (closing_goes m (λ q. HasMemories real (real.memories y.0) q) (real.leaves (real.memories y.0)) y.0
           (real.idle (real.memories y.0) y.0 (t.settled y.0 i))))
           (λ z now. tt)
@@ -166,8 +163,7 @@ module _ {part : Part} (sound : IsPart part) (real : Real part) (IsIn : real.P �
             any_outputs (closing_output s.quiet part r) z.0,
             λ fine. subst Claim (sym (real.has (real.memories y.0) z.0 x.0)) (claim refl),
           ))
-      ends Faulty y (i, claim) =
-          prints_then m Anything (λ emitted z now. now)
+      ends Faulty y (i, claim) = prints_then m Anything (λ emitted z now. now)
           (record { holds = stays_in (reported closing (λ r. [])) y i }) over
         where
           over : (closed : Standing) (emitted : List OutputEvent) (z : Spot real.P) → IsIn z.0
@@ -190,8 +186,7 @@ module _ (plan : Plan) (sound : IsPart plan.part) (real : Real plan.part) (IsIn 
   Fine at y = at ≡ NoFault → Agrees (real.memories y.0)
 
   dialog_goes : (z : Spot real.P) → IsIn z.0 → Goes sound real IsIn Reads t Fine (session_dialog plan) z
-  dialog_goes z i =
-      prints_then real.device Anything (λ emitted y now. now)
+  dialog_goes z i = prints_then real.device Anything (λ emitted y now. now)
       (subst (λ (all : List Action). Goes sound real IsIn Reads t (Then sound real IsIn Reads t s Agrees)
       (actions_dialog plan.part s (OpenSession ∷ all)) z) (sym are)
       (behind sound real IsIn Reads t s Agrees (OpenSession ∷ done) rest
@@ -201,8 +196,7 @@ module _ (plan : Plan) (sound : IsPart plan.part) (real : Real plan.part) (IsIn 
   session_goes : (z : Spot real.P) → IsIn z.0
       → Goes sound real IsIn Reads t (λ status y. status ≡ 0 → Agrees (real.memories y.0)) (session plan) z
   unfolding session
-  session_goes z i =
-      prints_then real.device Anything (λ emitted y now. now) (dialog_goes z i)
+  session_goes z i = prints_then real.device Anything (λ emitted y now. now) (dialog_goes z i)
       (λ at emitted y claim. record { holds = λ good. claim (succeeded at good) })
 
   along : (p : real.P) → IsIn p → (exchanges : List Exchange) (k : ℕ)
@@ -220,9 +214,7 @@ module _ {P : Type 0} (part : Part) (sound : IsPart part) (m : Device P) (view :
   action_works (CompareImage mem image) x reads = reading_works Reads part mem reads x
   action_works (SaveMemory mem format file) x reads = reading_works Reads part mem reads x
   action_works (SkipAction what) x reads = tt
-  action_works OpenSession x reads = absurd reads
-  action_works EraseChip x reads = absurd reads
-  action_works (WriteImage mem image) x reads = absurd reads
+  action_works action x reads = absurd reads
 
   all_work : (actions : List Action) (x : Memories) → Each (ReadsAction Reads) actions
       → ActionsWorkBy part (ReadsOneOf Reads part) actions x

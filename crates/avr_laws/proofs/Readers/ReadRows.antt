@@ -18,8 +18,7 @@ use Rattle.avr_laws.specs.Table.{IsRow, Row, ErasesChip, WritesFlashPage, Writes
 
 -- what tells by which memory a command reads: its code, and of a fuse its instruction
 abbrev key_of : List ℕ → ℕ
-key_of body =
-    if slice_index body 0 == 0x18 then 0x18 + 256 * (slice_index body 2 + 256 * slice_index body 3)
+key_of body = if slice_index body 0 == 0x18 then 0x18 + 256 * (slice_index body 2 + 256 * slice_index body 3)
     else slice_index body 0
 
 abbrev key_in : List (List ℕ) → ℕ
@@ -38,10 +37,7 @@ key Signature = 0x1B
 key Calibration = 0x1C
 
 abbrev memory_by : ℕ → Option Mem
-memory_by n =
-    if n == 0x14 then Some Flash
-    else if n == 0x16 then Some Eeprom
-    else if n == 0x005018 then Some Lfuse
+memory_by n = if n == 0x14 then Some Flash else if n == 0x16 then Some Eeprom else if n == 0x005018 then Some Lfuse
     else if n == 0x085818 then Some Hfuse
     else if n == 0x085018 then Some Efuse
     else if n == 0x1A then Some Lock
@@ -51,13 +47,7 @@ memory_by n =
 
 by_key : (mem : Mem) → memory_by (key mem) ≡ Some mem
 by_key Flash = refl
-by_key Eeprom = refl
-by_key Lfuse = refl
-by_key Hfuse = refl
-by_key Efuse = refl
-by_key Lock = refl
-by_key Signature = refl
-by_key Calibration = refl
+by_key mem = refl
 
 same_memory : (a b : Mem) → Some a ≡ Some b → a ≡ b
 same_memory a b e = cc

@@ -57,8 +57,7 @@ pub by_tape : {E R : Type 0} (d : Dialog E R) (n : ℕ) (tape : Tape) (execution
     → ByExchanges (length (frames_in (played d n tape).events)) executions (exchanges_on_tape d n tape executions)
 by_tape (Done r) n tape executions = tt
 by_tape (Emit e d) n tape executions = by_tape d n tape executions
-by_tape (Ask bytes go_on) n tape executions =
-    by_next_reading executions (λ reading. played (go_on reading) (next n))
+by_tape (Ask bytes go_on) n tape executions = by_next_reading executions (λ reading. played (go_on reading) (next n))
     (λ reading left. exchanges_on_tape (go_on reading) (next n) left (later_executions executions)) (answer n tape)
     (λ reading left. by_tape (go_on reading) (next n) left (later_executions executions))
 
@@ -117,7 +116,6 @@ module _ {P : Type 0} (m : Device P) where
   pub results_prefix : {E : Type 0} (T : P → E → Type 0) (x y : List (Event E)) (exchanges : List Exchange) (p : P)
       → EmittedTrue m T (x ++ y) exchanges p → EmittedTrue m T x exchanges p
   results_prefix T [] y exchanges p all = tt
-  results_prefix T (Frame bytes ∷ x) y exchanges p all =
-      results_prefix T x y (later_exchanges exchanges)
+  results_prefix T (Frame bytes ∷ x) y exchanges p all = results_prefix T x y (later_exchanges exchanges)
       (after_exchange (first_exchange exchanges) (after_frame m bytes p) p m.reset) all
   results_prefix T (Emitted e ∷ x) y exchanges p all = (all.0, results_prefix T x y exchanges p all.1)

@@ -80,8 +80,7 @@ module _ (plan : Plan) (sound : IsPart plan.part) (real : Real plan.part) (m0 : 
       → AllTrue T (bytes_output plan.switches.quiet mem count done_text) q
   counts_hold mem count done_text q t = search (rules, informs_hold)
 
-  failed : (fault : StepFault) (q : real.P) → AllTrue T (PrintsLine (fault_line plan.part (host_fault fault))
-      ∷ []) q
+  failed : (fault : StepFault) (q : real.P) → AllTrue T (PrintsLine (fault_line plan.part (host_fault fault)) ∷ []) q
   failed fault q = (StepFailed fault refl, tt)
 
   -- ---- the opening
@@ -94,8 +93,7 @@ module _ (plan : Plan) (sound : IsPart plan.part) (real : Real plan.part) (m0 : 
   compared_now : (mem : Mem) (image : Image) (q : real.P) → Contains (actions plan) (CompareImage mem image)
       → (r : Result ⊤ HostFault) → comparison mem image (memory_in plan.part mem (real.memories q)) ≡ r
       → AllTrue T (verified_output plan.switches.quiet plan.part mem image r) q
-  compared_now mem image q has (Ok a) e =
-      counts_hold mem (byte_count image) (codes " bytes verified") q
+  compared_now mem image q has (Ok a) e = counts_hold mem (byte_count image) (codes " bytes verified") q
       (BytesVerified mem image has refl
       (no_difference 0 image (memory_in plan.part mem (real.memories q))
       (no_difference_if_fine mem (difference_from 0 image (memory_in plan.part mem (real.memories q)))
@@ -114,8 +112,7 @@ module _ (plan : Plan) (sound : IsPart plan.part) (real : Real plan.part) (m0 : 
       → items plan ≡ first ++ Write mem image ∷ later
       → real.memories q ≡ effects plan.part (Write mem image ∷ []) (effects plan.part first m0)
       → AllTrue T (written_output plan.switches.quiet plan.part mem image (Ok tt)) q
-  written_now mem image first later q order is =
-      counts_hold mem (byte_count image) (codes " bytes written") q
+  written_now mem image first later q order is = counts_hold mem (byte_count image) (codes " bytes written") q
       (BytesWritten mem image first later refl order
       (is ∙ sym (effects_on plan.part first (Write mem image ∷ []) m0)))
 
@@ -138,8 +135,7 @@ module _ (plan : Plan) (sound : IsPart plan.part) (real : Real plan.part) (m0 : 
           → items plan ≡ actions_items done ++ (action_items a ++ actions_items later)
           → ActionTrue plan.part real plan.switches T a m
       by_kind OpenSession fits has order = absurd fits
-      by_kind EraseChip fits has order = λ q is.
-          informs_hold plan.switches.quiet (codes "chip erased" ∷ []) q
+      by_kind EraseChip fits has order = λ q is. informs_hold plan.switches.quiet (codes "chip erased" ∷ []) q
           (ChipErased has refl (is ∙ ap (λ xs. effect plan.part Erase (effects plan.part xs m0))
           (erase_first plan (actions_items done) (actions_items later) order)))
       by_kind (WriteImage mem image) fits has order = λ q is.
@@ -186,8 +182,7 @@ module _ (plan : Plan) (sound : IsPart plan.part) (real : Real plan.part) (m0 : 
       all_true real.device T (AtMoment plan real m0) (AtEnd plan real m0 ⊤) k (session plan) (p, exchanges) prints.holds
     where
       prints : Prints real.device T (AtMoment plan real m0) (AtEnd plan real m0 ⊤) (session plan) (p, exchanges)
-      prints =
-          session_prints plan sound real fitted T failed
+      prints = session_prints plan sound real fitted T failed
           (λ q. informs_hold plan.switches.quiet (codes "done" ∷ []) q (SessionDone refl))
           (λ m z. Settled real m z.0) ⊤ (anyhow plan.part sound real plan.switches) m0 f0 works
           (λ q is. own_signature plan.switches.quiet q)

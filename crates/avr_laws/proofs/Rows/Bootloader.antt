@@ -29,8 +29,9 @@ use Rattle.avr_laws.specs.AnyTape.{ReceivedSentFrames, after_received_bytes}
 use Rattle.avr_laws.specs.Kept.{NoneForged}
 use Rattle.avr_laws.specs.WorkedLoss.{loss_part}
 use Rattle.avr_laws.specs.Reader.{IsReader, ReadsOneOf}
-use Rattle.avr_laws.specs.Table.{IsDoneOrNot, IsRow, Row, reading, ErasesChip, WritesFlashPage, WritesEepromRun, WritesFuse, WritesLock, ReadsFlash, ReadsEeprom, ReadsFuse, ReadsLock, ReadsSignature, ReadsCalibration}
+use Rattle.avr_laws.specs.Table.{IsDoneOrNot, IsRow, Row, reading, ReadsFlash, ReadsFuse, ReadsSignature}
 use Rattle.avr_laws.specs.WorkedBootloader.{Bootloader, FitsBoot, boot_before, boot_executions, boot_frames, boot_plan, boot_replies, IsRead, after_body, bootloader, erased, first_image, with_page, writes_page}
+use Rattle.avr_laws.proofs.Rows.Loss.{is_part}
 
 -- ---- it keeps the sizes
 
@@ -131,17 +132,10 @@ module _ (part : Part) (sound : IsPart part) where
   rows row b (ReadsFlash start count some few inside even evens is) reads fits f =
       by_row row _ b is (reads_block start count b f inside even few)
   rows row b (ReadsSignature place few is) reads fits f = by_row row _ b is (reads_place place b f)
-  rows row b (ErasesChip is) reads fits f = absurd reads
-  rows row b (WritesFlashPage page bytes whole inside is) reads fits f = absurd reads
-  rows row b (WritesEepromRun start bytes some within inside is) reads fits f = absurd reads
-  rows row b (WritesFuse fuse byte is) reads fits f = absurd reads
-  rows row b (WritesLock byte is) reads fits f = absurd reads
-  rows row b (ReadsEeprom start count some few inside is) reads fits f = absurd reads
   rows row b (ReadsFuse Low is) reads fits f = absurd reads
   rows row b (ReadsFuse High is) reads fits f = absurd reads
   rows row b (ReadsFuse Extended is) reads fits f = absurd reads
-  rows row b (ReadsLock is) reads fits f = absurd reads
-  rows row b (ReadsCalibration is) reads fits f = absurd reads
+  rows row b is reads fits f = absurd reads
 
   pub boot_reads : IsReader part (bootloader part) (λ b. b.memories) (FitsBoot part) IsRead
   boot_reads = record {
@@ -161,9 +155,6 @@ module _ (part : Part) (sound : IsPart part) where
   }
 
 -- ---- the run over it
-
-is_part : IsPart loss_part
-is_part = search rules
 
 pub tiny_reads : IsReader loss_part (bootloader loss_part) (λ b. b.memories) (FitsBoot loss_part) IsRead
 tiny_reads = boot_reads loss_part is_part

@@ -6,8 +6,8 @@
 -- gets its name, and the sync of a folder says nothing of the disk. In others it is better than a real system: each
 -- call is one step, also writing over a file. A crash leaves of the held file what it has on the disk, or what it has
 -- now.
-use Rattle.std.proofs.Common.{◌≡◌, ◌∙◌, ap, sym, subst, refl, arith, rules, inl, inr, ℕ, ◌+◌, Bool, true, false, List, [], ◌∷◌, ◌++◌, Option, Some, None, Result, Ok, Err}
-use Rattle.std.specs.Prelude.{◌⊎◌, codes, if◌then◌else◌, IfErr, IfOk, MatchOption, MatchResult, OnOk}
+use Rattle.std.proofs.Common.{◌≡◌, ◌∙◌, ap, sym, subst, refl, arith, rules, inl, inr, ◌+◌, Bool, true, false, List, [], ◌∷◌, ◌++◌, Option, Some, None, Result, Ok, Err}
+use Rattle.std.specs.Prelude.{◌⊎◌, codes, IfErr, IfOk, MatchOption, MatchResult, OnOk, if◌then◌else◌}
 use Rattle.std.proofs.lemmas.Bool.{cases_Bool}
 use Rattle.std.proofs.lemmas.Slice.Eq.{bytes_eq-Decides}
 use Rattle.std.specs.IoError.{error_kind}
@@ -26,6 +26,7 @@ use Rattle.avr_desk.specs.Journal.{FileCall, SystemCalls, Gives, Opens, AddsCall
 use Rattle.avr_desk.specs.Record.{Bytes, Record, nothing_kept}
 use Rattle.avr_desk.specs.declared.folder.Folder.{Ghosts}
 use Rattle.ghosts.specs.Preserves.{Preserves}
+use Rattle.avr_laws.proofs.Memories.Bytes.{bytes_same}
 
 -- what each name has
 abbrev Names : Type 0
@@ -97,10 +98,6 @@ unlocked s = after (record s.at { held = None }) s.calls s
 
 -- ---- lemmas
 
-bytes_same : (xs : List ℕ) → bytes_eq xs xs ≡ true
-bytes_same [] = refl
-bytes_same (x ∷ xs) = search rules
-
 put_at : (name bytes other : Bytes) (names : Names) (found : Option Bytes) → put name bytes names other ≡ found
     → (names other ≡ found) ⊎ ((other ≡ name) × (found ≡ Some bytes))
 put_at name bytes other names found is = elim (cases_Bool (bytes_eq other name)) [
@@ -134,8 +131,7 @@ module _ (run : Run) where
   is_mounted name = run.mounted name
 
   abbrev MayLeave : Bytes → Option Bytes → Moment → Type 0
-  MayLeave name found m =
-      ((was : Option Bytes) × (m.held ≡ Some (name, was))) × (is_mounted name → ⊥)
+  MayLeave name found m = ((was : Option Bytes) × (m.held ≡ Some (name, was))) × (is_mounted name → ⊥)
       × ((m.disk name ≡ found) ⊎ (m.now name ≡ found))
 
   abbrev left_at : List Moment → Bytes → Option Bytes → Type 0
@@ -243,8 +239,7 @@ module _ (run : Run) where
     gives : ChangesCalls has_done (with_calls (Gives ∷ [])) self.old self.new
 
   record OpenClauses (self : Over System) (name : At Bytes) (result : Result Bytes Error) : Type 0 where
-    named : Counts has_done 0 self.old ⊎ is_free self.old name.now
-        → MatchResult result (λ file. is_of file name.now)
+    named : Counts has_done 0 self.old ⊎ is_free self.old name.now → MatchResult result (λ file. is_of file name.now)
         (λ error. error_kind error ≡ ErrorKind.NotFound → lacks name.now)
     opens : AddsCalls has_done (Opens name.now ∷ []) self.old self.new result
     keeps : CrashLeavesNoMore left self.old self.new
@@ -273,8 +268,7 @@ module _ (run : Run) where
         (λ file. MatchOption file (denies (name_of place.now)) (λ file. Unit {0})) (fails (name_of place.now))
     stays : IsUncounted has_done left self.old self.new
 
-  record LockClauses (self : Over System) (place : At Bytes) (result : Result (Option (Unit {0})) Error)
-      : Type 0 where
+  record LockClauses (self : Over System) (place : At Bytes) (result : Result (Option (Unit {0})) Error) : Type 0 where
     denied : MatchResult result
         (λ lock. MatchOption lock (denies (name_of place.now)) (λ lock. Unit {0})) (fails (name_of place.now))
     stays : IsUncounted has_done left self.old self.new
@@ -329,16 +323,14 @@ module _ (run : Run) where
     only : IfOk result (λ placed. lacks (held_name held.now))
     whole : (bytes : Bytes) → keeps file bytes
         → CrashMayAlsoLeave left (held_name held.now) (λ found. found ≡ Some bytes) self.old self.new
-    placed : IfOk result (λ placed. (bytes : Bytes) → keeps file bytes
-        → finds self.new (held_name held.now) bytes)
+    placed : IfOk result (λ placed. (bytes : Bytes) → keeps file bytes → finds self.new (held_name held.now) bytes)
     stays : Preserves has_done self.old self.new
 
   record RenameClauses (self : Over System) (held : At Bytes) (file : NewFile) (result : Result NewFile Error)
       : Type 0 where
     whole : (bytes : Bytes) → keeps file bytes
         → CrashMayAlsoLeave left (held_name held.now) (λ found. found ≡ Some bytes) self.old self.new
-    placed : IfOk result (λ placed. (bytes : Bytes) → keeps file bytes
-        → finds self.new (held_name held.now) bytes)
+    placed : IfOk result (λ placed. (bytes : Bytes) → keeps file bytes → finds self.new (held_name held.now) bytes)
     busy : IfErr result (λ e. error_kind e ≡ ErrorKind.ResourceBusy → is_mounted (held_name held.now))
     stays : Preserves has_done self.old self.new
 
@@ -348,16 +340,14 @@ module _ (run : Run) where
     stays : IsUncounted has_done left self.old self.new
 
   record SyncPlacedClauses (self : Over System) (held : At Bytes) (result : Result (Unit {0}) Error) : Type 0 where
-    lasts : MatchResult result
-        (λ done. (bytes : Bytes) → finds_synced self.old (held_name held.now) bytes
+    lasts : MatchResult result (λ done. (bytes : Bytes) → finds_synced self.old (held_name held.now) bytes
         → lasts (held_name held.now) bytes
         × ChangesCalls has_done (with_calls (made (held_name held.now))) self.old self.new)
         (λ error. Preserves has_done self.old self.new)
     spare : OnOk result (is_spare self.new (held_name held.now))
     keeps : CrashLeavesNoMore left self.old self.new
 
-  record WriteOverClauses (self : Over System) (held bytes : At Bytes) (result : Result (Unit {0}) Error)
-      : Type 0 where
+  record WriteOverClauses (self : Over System) (held bytes : At Bytes) (result : Result (Unit {0}) Error) : Type 0 where
     lasts : OnOk result (lasts (held_name held.now) bytes.now)
     writes : AddsCalls has_done (made (held_name held.now)) self.old self.new result
     spare : OnOk result (is_spare self.new (held_name held.now))
@@ -467,8 +457,7 @@ module _ (run : Run) where
     gives = λ done is. ap (with_calls (Gives ∷ [])) is;
   }
 
-  open_met : (s : System) (name : Bytes)
-      → OpenClauses (from_to s (called (Opens name ∷ []) s)) (is_now name) (Ok name)
+  open_met : (s : System) (name : Bytes) → OpenClauses (from_to s (called (Opens name ∷ []) s)) (is_now name) (Ok name)
   open_met s name = record {
     named = λ unheld. refl;
     opens = λ done is. ap (with_calls (Opens name ∷ [])) is;
@@ -484,8 +473,7 @@ module _ (run : Run) where
     keeps = λ other found may. may;
   }
 
-  create_met : (s : System) (name : Bytes)
-      → CreateClauses (from_to s (created name s)) (is_now name) (Ok name)
+  create_met : (s : System) (name : Bytes) → CreateClauses (from_to s (created name s)) (is_now name) (Ok name)
   create_met s name = record {
     named = refl;
     creates = λ done is. ap (with_calls (made name)) is;
@@ -493,8 +481,7 @@ module _ (run : Run) where
     keeps = create_leaves s name;
   }
 
-  create_fails : (s : System) (name : Bytes) (error : Error)
-      → CreateClauses (from_to s s) (is_now name) (Err error)
+  create_fails : (s : System) (name : Bytes) (error : Error) → CreateClauses (from_to s s) (is_now name) (Err error)
   create_fails s name error = record {
     named = tt;
     creates = λ done is. is;
@@ -751,8 +738,7 @@ chip_made new = place_new_met (run None new) (holding None new) (file None new) 
 
 -- renames in two steps: between them no file has the name
 abbrev torn : Bytes → Bytes → System
-torn old new =
-    placed (file (Some old) new) (after (record (holding (Some old) new).at { now = λ name. None }) []
+torn old new = placed (file (Some old) new) (after (record (holding (Some old) new).at { now = λ name. None }) []
     (holding (Some old) new))
 
 torn_refused : (old new : Bytes) → RenameClauses (run (Some old) new) (from_to (holding (Some old) new) (torn old new))

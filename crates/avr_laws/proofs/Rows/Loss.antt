@@ -33,7 +33,7 @@ pub none_is_forged : NoneForged device loss_frames loss_replies loss_programmer 
 unfolding answer
 none_is_forged = by_test device loss_frames loss_replies loss_programmer loss_executions [] refl
 
-is_part : IsPart loss_part
+pub is_part : IsPart loss_part
 is_part = search rules
 
 pub chip_is_sound : IsSoundChip old_chip

@@ -102,8 +102,7 @@ module _ (m : Device Programmer) (loads : (a : ℕ) → SameReply m (load_body a
 
 abbrev pub calibrated : ℕ → Device Programmer
 calibrated byte = record {
-  reply = λ bytes p.
-      if slice_index bytes 0 == 0x1C then (if p.mode then 0x1C ∷ 0 ∷ byte ∷ 0 ∷ [] else 0x1C ∷ 0xC0 ∷ [])
+  reply = λ bytes p. if slice_index bytes 0 == 0x1C then (if p.mode then 0x1C ∷ 0 ∷ byte ∷ 0 ∷ [] else 0x1C ∷ 0xC0 ∷ [])
       else device.reply bytes p;
   after = device.after;
   reset = device.reset;
@@ -163,19 +162,17 @@ module _ (part : Part) (sound : IsPart part) where
         does_as_emulated (calibrated byte) (λ a. (λ q. refl, λ q. refl)) (λ q. refl) part sound (IsVouched becomes part)
         (λ q. refl) (λ q. refl) (λ q. refl) (λ q. refl) calibrated_does
 
-  bits_do : (row : Row) (is : IsRow part row) (x : Memories) → IsVouched kept_bits part row is x
-      → Same keeping_bits row
+  bits_do : (row : Row) (is : IsRow part row) (x : Memories) → IsVouched kept_bits part row is x → Same keeping_bits row
   bits_do row (ErasesChip e) x v = by_row keeping_bits row _ e (λ q. refl, λ q. refl)
   bits_do row (WritesFlashPage page bytes whole inside e) x v = by_row keeping_bits row _ e (λ q. refl, λ q. refl)
   bits_do row (WritesEepromRun start bytes some within inside e) x v = by_row keeping_bits row _ e
       (λ q. refl, λ q. refl)
   bits_do row (WritesFuse Low b e) x v = by_row keeping_bits row _ e (λ q. refl, λ q. refl)
   bits_do row (WritesFuse High b e) x v = by_row keeping_bits row _ e (λ q. refl, λ q. refl)
-  bits_do row (WritesFuse Extended b e) x v =
-      by_row keeping_bits row _ e (
-        λ q. ap (λ (byte : ℕ). device.reply (0x17 ∷ 0xAC ∷ 0xA4 ∷ 0 ∷ byte ∷ []) q) v,
-        λ q. ap (λ (byte : ℕ). device.after (0x17 ∷ 0xAC ∷ 0xA4 ∷ 0 ∷ byte ∷ []) q) v,
-      )
+  bits_do row (WritesFuse Extended b e) x v = by_row keeping_bits row _ e (
+    λ q. ap (λ (byte : ℕ). device.reply (0x17 ∷ 0xAC ∷ 0xA4 ∷ 0 ∷ byte ∷ []) q) v,
+    λ q. ap (λ (byte : ℕ). device.after (0x17 ∷ 0xAC ∷ 0xA4 ∷ 0 ∷ byte ∷ []) q) v,
+  )
   bits_do row (WritesLock b e) x v = by_row keeping_bits row _ e (λ q. refl, λ q. refl)
   bits_do row (ReadsFlash start count some few inside even evens e) x v = by_row keeping_bits row _ e
       (λ q. refl, λ q. refl)

@@ -20,8 +20,7 @@ use Rattle.stk_emu.specs.Programmer.{Programmer}
 abbrev pub perfect_transcript : {E R : Type 0} → Dialog E R → ℕ → Programmer → Transcript
 perfect_transcript (Done r) n p = []
 perfect_transcript (Emit e d) n p = perfect_transcript d n p
-perfect_transcript (Ask bytes go_on) n p =
-    Sent (frame n bytes) ∷ Got (on_tape (frame n (device.reply bytes p)))
+perfect_transcript (Ask bytes go_on) n p = Sent (frame n bytes) ∷ Got (on_tape (frame n (device.reply bytes p)))
     ∷ perfect_transcript (go_on (Replied (device.reply bytes p))) (next n) (device.after bytes p)
 
 own_reply : (n : ℕ) (bytes : List ℕ) (later : Tape) → IsFrameBody bytes

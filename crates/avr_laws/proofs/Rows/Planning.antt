@@ -168,8 +168,7 @@ module _ (r : Record) (k l m n status : ℕ) where
       (showing (after_events (Opens (Found (record { name = file; bytes = bytes; ended = true }))
       ∷ PrintsLine (not_opened_line file) ∷ []) r) l n) (Err status)
       → ⊥
-  opened_well bytes good given ends =
-      differs 15 memory_line (not_opened_line file) (showing r k m) (showing r l n)
+  opened_well bytes good given ends = differs 15 memory_line (not_opened_line file) (showing r k m) (showing r l n)
       (λ back is. let e : ◌≡◌ {A = ℕ} 120 111 = is in omega (arith, e))
       (search (rules, opened_is_reported))
 

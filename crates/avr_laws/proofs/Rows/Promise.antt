@@ -66,7 +66,7 @@ use Rattle.avr_tool.specs.Sockets.{IsOverAddress}
 use Rattle.avr_tool.specs.Written.{IsWritten}
 use Rattle.avr_tool.specs.declared.network.Network.{Ghosts as Networks}
 use Rattle.avr_laws.proofs.Asked.Settings.{serves_or_asks, settings_are, settings_read}
-use Rattle.avr_laws.proofs.KnownFiles.OneOutcome.{run_more}
+use Rattle.avr_laws.proofs.KnownFiles.LongerTape.{run_more}
 use Rattle.avr_laws.proofs.Lines.Damaged.{brings_no_frame}
 use Rattle.avr_laws.proofs.Outcomes.Kept.{its_none_forged, kept}
 use Rattle.avr_laws.proofs.Held.Chip.{from_file}
@@ -89,6 +89,7 @@ use Rattle.avr_laws.proofs.Table.Kept.{kept_by_any}
 use Rattle.avr_tool.proofs.Given.FirstSteps.{sound_fits, sound_idle}
 use Rattle.avr_laws.specs.KeptByPort.{ConnectionState, IsKeptInFile, KeepsCommandLine, KeepsPlan, KeepsPlanAt}
 use Rattle.avr_laws.specs.Worked.{fuse_plan, worked_frames, worked_replies, worked_settings}
+use Rattle.avr_laws.proofs.Rows.Served.{begun}
 
 -- ---- the run
 
@@ -122,13 +123,10 @@ asks : SendsValidBodies (session plan)
 asks = session_asks plan is_part
     (All-cons (IsFitted m328p) (Write Lfuse (Some 0xE2 ∷ [])) [] (refl, refl) (All-nil (IsFitted m328p)))
 
-abbrev empty_desk : DeskState
-empty_desk = showing nothing_kept 0 0
-
 abbrev reported : DeskState
 reported = showing (after_events (outputs (run settings [] (heard passed)).events) nothing_kept) 0 0
 
-abbrev ran : IsRun settings (devices (link_state [] 0) empty_desk) (devices (link_state passed 0) reported) 0
+abbrev ran : IsRun settings (devices (link_state [] 0) begun) (devices (link_state passed 0) reported) 0
 ran = record {
   openings = [];
   during = passed;
@@ -146,7 +144,7 @@ ran = record {
 
 pub run_is_kept : IsKept plan passed nothing_kept reported.kept
 run_is_kept =
-    kept settings plan (devices (link_state [] 0) empty_desk) (devices (link_state passed 0) reported) ran refl refl
+    kept settings plan (devices (link_state [] 0) begun) (devices (link_state passed 0) reported) ran refl refl
 
 -- ---- its premises hold
 
@@ -248,7 +246,7 @@ pub run_is_kept_by_any : IsKeptByAny m328p device chip_memories (HasPart m328p) 
     passed nothing_kept reported.kept
 run_is_kept_by_any =
     kept_by_any m328p device chip_memories (HasPart m328p) (HasEmptyBuffers m328p) whole settings plan
-    (devices (link_state [] 0) empty_desk) (devices (link_state passed 0) reported) ran refl refl
+    (devices (link_state [] 0) begun) (devices (link_state passed 0) reported) ran refl refl
 
 pub rows_kept : IsProgrammer m328p device chip_memories (HasPart m328p) (HasEmptyBuffers m328p) (IsVouched whole m328p)
 rows_kept = emulated_meets m328p is_part (IsVouched whole m328p)

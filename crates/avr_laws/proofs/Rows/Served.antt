@@ -16,7 +16,7 @@ limits : LARGEST_CHIP_FILE ≡ 4194304
 limits = refl
 
 -- a desk of no requests and no failures, and one that shows this and has failed this often
-abbrev begun : DeskState
+abbrev pub begun : DeskState
 begun = showing nothing_kept 0 0
 
 abbrev now : Record → ℕ → DeskState

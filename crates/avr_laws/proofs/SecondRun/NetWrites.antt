@@ -103,8 +103,7 @@ module _ (part : Part) where
     -- if both are barred alike, the writes come to the same
     abbrev Alike : List Item → Memories → Memories → Type 0
     Alike [] m n = ⊤
-    Alike (item ∷ items) m n =
-        (is_barred mem (are_locked m) ≡ is_barred mem (are_locked n))
+    Alike (item ∷ items) m n = (is_barred mem (are_locked m) ≡ is_barred mem (are_locked n))
         × Alike items (effect part item m) (effect part item n)
 
     same_net : (items : List Item) (m n : Memories) → Alike items m n → net items m ≡ net items n
@@ -201,14 +200,12 @@ module _ (part : Part) where
 
   pub first_writes_again : (k : ℕ) (items : List Item) (m : Memories) → has_erase items ≡ false
       → effects part items (effects part (take k items) m) ≡ effects part items m
-  first_writes_again k items m w =
-      in_two k items (effects part (take k items) m)
+  first_writes_again k items m w = in_two k items (effects part (take k items) m)
       ∙ (search (rules, written_again, writes_of, in_two))
 
   pub first_again : (k : ℕ) (items : List Item) (m : Memories) → has_erase items ≡ false
       → (erase_keeps_eeprom part m ≡ true → erase_keeps_eeprom part (effects part (take k (Erase ∷ items)) m) ≡ true)
       → effects part (Erase ∷ items) (effects part (take k (Erase ∷ items)) m) ≡ effects part (Erase ∷ items) m
   first_again zero items m w kept = refl
-  first_again (suc k) items m w kept =
-      in_two k items (effect part Erase (effects part (Erase ∷ take k items) m))
+  first_again (suc k) items m w kept = in_two k items (effect part Erase (effects part (Erase ∷ take k items) m))
       ∙ (search (rules, erased_again, writes_of, in_two))

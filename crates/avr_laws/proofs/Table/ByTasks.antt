@@ -1,6 +1,6 @@
 -- A plan that suits the sheet takes steps that the sheet vouches for.
-use Rattle.std.proofs.Common.{◌≡◌, ◌⊎◌, ◌∙◌, inl, inr, ℕ, List, [], ◌∷◌, ◌++◌, map, refl, sym, ap, subst, arith, Bool, true, false, cond, Option, Some, None}
-use Rattle.std.specs.Prelude.{if◌then◌else◌, not, ◌&&◌}
+use Rattle.std.proofs.Common.{◌<◌, ◌≡◌, ◌⊎◌, ◌∙◌, inl, inr, ℕ, List, [], ◌∷◌, ◌++◌, map, refl, sym, ap, subst, arith, Bool, true, false, cond, Option, Some, None}
+use Rattle.std.specs.Prelude.{not, ◌&&◌, if◌then◌else◌}
 use Rattle.byteorder.specs.Endian.{big_bytes}
 use Rattle.avr_image.specs.Image.{byte_at}
 use Rattle.avr_part.specs.declared.part.Mem.{Mem}
@@ -15,7 +15,7 @@ use Rattle.stk_frame.specs.declared.command.Command.{Command}
 use Rattle.stk_frame.specs.declared.command.Fuse.{Fuse}
 use Rattle.stk_frame.specs.declared.command.Fuse.TheVariants.{Low, High, Extended}
 use Rattle.stk_frame.specs.Commands.{body, code}
-use Rattle.stk_frame.specs.HostCommands.{erase, program_fuse, program_lock, read_signature, write_address}
+use Rattle.stk_frame.specs.HostCommands.{erase, program_fuse, program_lock, read_fuse, read_signature, write_address}
 use Rattle.stk_host.specs.ReadSteps.{read_count, read_step, read_steps, signature_steps}
 use Rattle.stk_host.specs.WriteSteps.{byte_steps, page_steps, run_steps_at, write_steps}
 use Rattle.stk_emu.specs.Effect.{Erase, Image, Memories, Write, effect}
@@ -25,7 +25,7 @@ use Rattle.avr_tool.proofs.Plans.Fits.{work}
 use Rattle.avr_tool.proofs.WriteOperations.Steps.{effect_twice}
 use Rattle.avr_laws.specs.Kept.{after_task, before_tasks}
 use Rattle.avr_laws.specs.Sheet.{IsShown, IsVouched, SuitTasks, SuitsPlan, SuitsReading, SuitsWriting}
-use Rattle.avr_laws.specs.Table.{IsRow, Row, fuse_memory, ErasesChip, WritesFlashPage, WritesEepromRun, WritesFuse, WritesLock, ReadsFlash, ReadsEeprom, ReadsFuse, ReadsLock, ReadsSignature, ReadsCalibration}
+use Rattle.avr_laws.specs.Table.{IsRow, Row, fuse_memory, WritesFuse, WritesLock, ReadsFlash, ReadsEeprom, ReadsCalibration}
 use Rattle.avr_laws.proofs.Table.RealOf.{ActionsWorkBy, StepsWork, WorksBy}
 use Rattle.avr_laws.proofs.Table.Steps.{bodies}
 
@@ -44,14 +44,9 @@ byte_in sent = 0
 
 same_fuse : (f g : Fuse) → write_address f ≡ write_address g → f ≡ g
 same_fuse Low Low e = refl
-same_fuse Low High e = absurd (omega (arith, e))
-same_fuse Low Extended e = absurd (omega (arith, e))
-same_fuse High Low e = absurd (omega (arith, e))
 same_fuse High High e = refl
-same_fuse High Extended e = absurd (omega (arith, e))
-same_fuse Extended Low e = absurd (omega (arith, e))
-same_fuse Extended High e = absurd (omega (arith, e))
 same_fuse Extended Extended e = refl
+same_fuse f g e = absurd (omega (arith, e))
 
 module _ (becomes : Mem → ℕ → ℕ) (part : Part) where
   -- the lock takes this byte
@@ -60,10 +55,8 @@ module _ (becomes : Mem → ℕ → ℕ) (part : Part) where
 
   -- what the sheet asks of the row with these bodies
   record IsVouchedSent (sent : List (List ℕ)) (x : Memories) : Type 0 where
-    flash : (load : List ℕ) (count : ℕ) → sent ≡ load ∷ (0x14 ∷ (big_bytes 2 count ++ 0x20 ∷ [])) ∷ []
-        → IsShown x.lock
-    eeprom : (load : List ℕ) (count : ℕ) → sent ≡ load ∷ (0x16 ∷ (big_bytes 2 count ++ 0xA0 ∷ [])) ∷ []
-        → IsShown x.lock
+    flash : (load : List ℕ) (count : ℕ) → sent ≡ load ∷ (0x14 ∷ (big_bytes 2 count ++ 0x20 ∷ [])) ∷ [] → IsShown x.lock
+    eeprom : (load : List ℕ) (count : ℕ) → sent ≡ load ∷ (0x16 ∷ (big_bytes 2 count ++ 0xA0 ∷ [])) ∷ [] → IsShown x.lock
     fuse : (fuse : Fuse) (byte : ℕ) → sent ≡ (0x17 ∷ 0xAC ∷ write_address fuse ∷ 0x00 ∷ byte ∷ []) ∷ []
         → becomes (fuse_memory fuse) byte ≡ byte
     lock : (byte : ℕ) → sent ≡ (0x19 ∷ 0xAC ∷ 0xE0 ∷ 0x00 ∷ byte ∷ []) ∷ []
@@ -72,18 +65,13 @@ module _ (becomes : Mem → ℕ → ℕ) (part : Part) where
 
   vouched_row : (sent : List (List ℕ)) (x : Memories) → IsVouchedSent sent x → (row : Row) (is : IsRow part row)
       → sent ≡ bodies row → IsVouched becomes part row is x
-  vouched_row sent x v row (WritesFlashPage page bytes whole inside e) same = tt
-  vouched_row sent x v row (WritesEepromRun start bytes some within inside e) same = tt
   vouched_row sent x v row (WritesFuse fuse byte e) same = v.fuse fuse byte (same ∙ ap bodies e)
   vouched_row sent x v row (WritesLock byte e) same = v.lock byte (same ∙ ap bodies e)
   vouched_row sent x v row (ReadsFlash start count some few inside even evens e) same =
       v.flash _ count (same ∙ ap bodies e)
   vouched_row sent x v row (ReadsEeprom start count some few inside e) same = v.eeprom _ count (same ∙ ap bodies e)
   vouched_row sent x v row (ReadsCalibration e) same = absurd (v.known (same ∙ ap bodies e))
-  vouched_row sent x v row (ErasesChip e) same = tt
-  vouched_row sent x v row (ReadsFuse fuse e) same = tt
-  vouched_row sent x v row (ReadsLock e) same = tt
-  vouched_row sent x v row (ReadsSignature place few e) same = tt
+  vouched_row sent x v row is same = tt
 
   abbrev Works : List (List Command) → Memories → Type 0
   Works steps x = StepsWork part (IsVouched becomes part) steps x
@@ -140,13 +128,6 @@ module _ (becomes : Mem → ℕ → ℕ) (part : Part) where
     known = λ e. not_known (sym is ∙ ap code_in e);
   }
 
-  calm_one : (c : Command) (n : ℕ) → code c ≡ n → (n ≡ 0x17 → ⊥) → (n ≡ 0x19 → ⊥) → (n ≡ 0x1C → ⊥)
-      → ((x : Memories) → (memories_after_step part (c ∷ []) x).lock ≡ x.lock) → Calm Any (c ∷ [])
-  calm_one c n is not_fuse not_lock not_known kept = record {
-    kept = kept;
-    vouched = λ x such. one_sent c n is not_fuse not_lock not_known x;
-  }
-
   calm_fuse : (f : Fuse) (v : ℕ) → becomes (fuse_memory f) v ≡ v
       → ((x : Memories) → (memories_after_step part (program_fuse f v ∷ []) x).lock ≡ x.lock)
       → Calm Any (program_fuse f v ∷ [])
@@ -155,8 +136,7 @@ module _ (becomes : Mem → ℕ → ℕ) (part : Part) where
     vouched = λ x such. record {
       flash = λ load count e. absurd (cc e);
       eeprom = λ load count e. absurd (cc e);
-      fuse = λ g byte e.
-          subst (λ h. becomes (fuse_memory h) byte ≡ byte) (same_fuse f g (ap fuse_in e))
+      fuse = λ g byte e. subst (λ h. becomes (fuse_memory h) byte ≡ byte) (same_fuse f g (ap fuse_in e))
           (subst (λ b. becomes (fuse_memory f) b ≡ b) (ap byte_in e) stays);
       lock = λ byte e. absurd (let c = ap code_in e in omega (arith, c));
       known = λ e. let c = ap code_in e in omega (arith, c);
@@ -209,11 +189,9 @@ module _ (becomes : Mem → ℕ → ℕ) (part : Part) where
 
   write_works : (mem : Mem) (image : Image) (x : Memories) → SuitsWriting becomes mem (byte_at image 0) x
       → Works (write_steps part mem image) x
-  write_works Flash image x suits =
-      calm_steps IsShown (write_steps part Flash image)
+  write_works Flash image x suits = calm_steps IsShown (write_steps part Flash image)
       (each_of (Calm IsShown) (page_steps part image) 0 _ (λ i. if_any IsShown _ _ (calm_two _ _ (λ y. refl)))) x suits
-  write_works Eeprom image x suits =
-      calm_steps IsShown (write_steps part Eeprom image)
+  write_works Eeprom image x suits = calm_steps IsShown (write_steps part Eeprom image)
       (each_of (Calm IsShown) (run_steps_at part image) 0 _ (λ i. if_any IsShown _ _ (calm_two _ _ (λ y. refl)))) x
       suits
   write_works Lfuse image x suits = fuse_works Low (byte_at image 0) x (λ v y. refl)
@@ -226,53 +204,41 @@ module _ (becomes : Mem → ℕ → ℕ) (part : Part) where
   write_works Signature image x suits = tt
   write_works Calibration image x suits = absurd suits
 
+  -- each step of reading is calm
+  reads_calmly : (Such : ℕ → Type 0) (mem : Mem) → ((i : ℕ) → Each (Calm Such) (read_step part mem i)) → (x : Memories)
+      → Such x.lock → Works (read_steps part mem) x
+  reads_calmly Such mem each x =
+      calm_steps Such (read_steps part mem) (each_of (Calm Such) (read_step part mem) 0 (read_count part mem) each) x
+
+  apart : (n : ℕ) → 0x17 < n → n < 0x1C → (n ≡ 0x19 → ⊥) → (c : Command) → code c ≡ n
+      → ((x : Memories) → (memories_after_step part (c ∷ []) x).lock ≡ x.lock) → Calm Any (c ∷ [])
+  apart n more less other c is kept = record {
+    kept = kept;
+    vouched = λ x such. one_sent c n is (λ e. omega (arith, e, more)) other (λ e. omega (arith, e, less)) x;
+  }
+
+  fuse_read : (f : Fuse) → Calm Any (read_fuse f ∷ [])
+  fuse_read f = apart 0x18 (omega arith) (omega arith) (λ e. omega (arith, e)) (read_fuse f) refl (λ y. refl)
+
+  signature_read : (i : ℕ) → Calm Any (read_signature i ∷ [])
+  signature_read i = apart 0x1B (omega arith) (omega arith) (λ e. omega (arith, e)) (read_signature i) refl (λ y. refl)
+
   read_works : (mem : Mem) (x : Memories) → SuitsReading mem x → Works (read_steps part mem) x
-  read_works Flash x suits =
-      calm_steps IsShown (read_steps part Flash)
-      (each_of (Calm IsShown) (read_step part Flash) 0 (read_count part Flash)
-      (λ i. (calm_two _ _ (λ y. refl), tt))) x suits
-  read_works Eeprom x suits =
-      calm_steps IsShown (read_steps part Eeprom)
-      (each_of (Calm IsShown) (read_step part Eeprom) 0 (read_count part Eeprom)
-      (λ i. (calm_two _ _ (λ y. refl), tt))) x suits
-  read_works Lfuse x suits =
-      calm_steps Any (read_steps part Lfuse) (each_of (Calm Any) (read_step part Lfuse) 0 (read_count part Lfuse)
-      (λ i. (
-        calm_one _ 0x18 refl (λ e. omega (arith, e)) (λ e. omega (arith, e)) (λ e. omega (arith, e)) (λ y. refl),
-        tt,
-      ))) x tt
-  read_works Hfuse x suits =
-      calm_steps Any (read_steps part Hfuse) (each_of (Calm Any) (read_step part Hfuse) 0 (read_count part Hfuse)
-      (λ i. (
-        calm_one _ 0x18 refl (λ e. omega (arith, e)) (λ e. omega (arith, e)) (λ e. omega (arith, e)) (λ y. refl),
-        tt,
-      ))) x tt
-  read_works Efuse x suits =
-      calm_steps Any (read_steps part Efuse) (each_of (Calm Any) (read_step part Efuse) 0 (read_count part Efuse)
-      (λ i. (
-        calm_one _ 0x18 refl (λ e. omega (arith, e)) (λ e. omega (arith, e)) (λ e. omega (arith, e)) (λ y. refl),
-        tt,
-      ))) x tt
-  read_works Lock x suits =
-      calm_steps Any (read_steps part Lock) (each_of (Calm Any) (read_step part Lock) 0 (read_count part Lock)
-      (λ i. (
-        calm_one _ 0x1A refl (λ e. omega (arith, e)) (λ e. omega (arith, e)) (λ e. omega (arith, e)) (λ y. refl),
-        tt,
-      ))) x tt
-  read_works Signature x suits =
-      calm_steps Any (read_steps part Signature) (each_of (Calm Any) (read_step part Signature) 0
-      (read_count part Signature) (λ i. (
-        calm_one _ 0x1B refl (λ e. omega (arith, e)) (λ e. omega (arith, e)) (λ e. omega (arith, e)) (λ y. refl),
-        tt,
-      ))) x tt
+  read_works Flash x suits = reads_calmly IsShown Flash (λ i. (calm_two _ _ (λ y. refl), tt)) x suits
+  read_works Eeprom x suits = reads_calmly IsShown Eeprom (λ i. (calm_two _ _ (λ y. refl), tt)) x suits
+  read_works Lfuse x suits = reads_calmly Any Lfuse (λ i. (fuse_read Low, tt)) x tt
+  read_works Hfuse x suits = reads_calmly Any Hfuse (λ i. (fuse_read High, tt)) x tt
+  read_works Efuse x suits = reads_calmly Any Efuse (λ i. (fuse_read Extended, tt)) x tt
+  read_works Lock x suits = reads_calmly Any Lock (λ i. (
+    apart 0x1A (omega arith) (omega arith)
+        (λ e. omega (arith, e)) _ refl (λ y. refl),
+    tt,
+  )) x tt
+  read_works Signature x suits = reads_calmly Any Signature (λ i. (signature_read i, tt)) x tt
   read_works Calibration x suits = absurd suits
 
   pub signature_works : (x : Memories) → Works signature_steps x
-  signature_works x = calm_steps Any signature_steps (sig 0, (sig 1, (sig 2, tt))) x tt
-    where
-      sig : (i : ℕ) → Calm Any (read_signature i ∷ [])
-      sig i = calm_one (read_signature i) 0x1B refl (λ e. omega (arith, e)) (λ e. omega (arith, e))
-          (λ e. omega (arith, e)) (λ y. refl)
+  signature_works x = calm_steps Any signature_steps (signature_read 0, (signature_read 1, (signature_read 2, tt))) x tt
 
   erase_works : (x : Memories) → Works ((erase ∷ []) ∷ []) x
   erase_works x = (works_by (erase ∷ []) x (sent x) (sent (memories_after_step part (erase ∷ []) x)), tt)
@@ -287,12 +253,8 @@ module _ (becomes : Mem → ℕ → ℕ) (part : Part) where
       → SuitsReading mem (effect part (Write mem image) x)
   read_back Flash image x suits = suits
   read_back Eeprom image x suits = suits
-  read_back Lfuse image x suits = tt
-  read_back Hfuse image x suits = tt
-  read_back Efuse image x suits = tt
-  read_back Lock image x suits = tt
-  read_back Signature image x suits = tt
   read_back Calibration image x suits = absurd suits
+  read_back mem image x suits = tt
 
   abbrev Acts : List Action → Memories → Type 0
   Acts actions x = ActionsWorkBy part (IsVouched becomes part) actions x
@@ -317,8 +279,7 @@ module _ (becomes : Mem → ℕ → ℕ) (part : Part) where
       by_write s.dry s.no_verify mem image (tasks_actions s tasks) x suits
       (tasks_work s tasks (after_task part s (task.Write mem image) x) more)
   tasks_work s (task.Verify mem image ∷ tasks) x (suits, more) = (read_works mem x suits, tasks_work s tasks x more)
-  tasks_work s (task.Read mem format file ∷ tasks) x (suits, more) =
-      (read_works mem x suits, tasks_work s tasks x more)
+  tasks_work s (task.Read mem format file ∷ tasks) x (suits, more) = (read_works mem x suits, tasks_work s tasks x more)
 
   by_erase : (dry asked due : Bool) (rest : List Action) (x : Memories)
       → Acts rest (if not dry && due then effect part Erase x else x)

@@ -60,8 +60,7 @@ module _ (part : Part) (sound : IsPart part) where
   loads : (address : Option ℕ) (p : Programmer) → Fits32 address → HasEmptyBuffers part p
       → Stands chip_memories (HasEmptyBuffers part) (chip_memories p) (addressed device address p)
   loads None p few s = record { memories = refl; is = s }
-  loads (Some a) p few s =
-      subst (Stands chip_memories (HasEmptyBuffers part) (chip_memories p))
+  loads (Some a) p few s = subst (Stands chip_memories (HasEmptyBuffers part) (chip_memories p))
       (sym (ap (λ (z : Response). z.1) (executes_command (LoadAddress a) p few)))
       (record {
         memories = refl;
@@ -84,11 +83,9 @@ module _ (part : Part) (sound : IsPart part) where
       → Fits32 address → IsSent address c commands
       → judge c (device.reply (body c) (addressed device address p)) ≡ Ok bytes
       → joined_reply device commands [] p ≡ Data bytes
-  joined None c commands bytes p few is e =
-      ap (λ (cs : List Command). joined_reply device cs [] p) is
+  joined None c commands bytes p few is e = ap (λ (cs : List Command). joined_reply device cs [] p) is
       ∙ ap (λ v. on_data (reply_from_check c v) (λ b. Data b)) e
-  joined (Some a) c commands bytes p few is e =
-      ap (λ (cs : List Command). joined_reply device cs [] p) is
+  joined (Some a) c commands bytes p few is e = ap (λ (cs : List Command). joined_reply device cs [] p) is
       ∙ (ap (λ (r : Reply). on_data r (λ b. joined_reply device (c ∷ []) b (device.after (body (LoadAddress a)) p)))
       (load_reply a p few)
       ∙ ap (λ v. on_data (reply_from_check c v) (λ b. Data b)) e)
@@ -125,8 +122,7 @@ module _ (part : Part) (sound : IsPart part) where
 
     good_reply : (read : List ℕ) → length read ≡ r.row.count → device.reply r.row.command here ≡ r.row.reply read
         → joined_reply device commands [] p ≡ Data read
-    good_reply read long e =
-        joined r.row.address r.command commands read p r.few r.is_sent
+    good_reply read long e = joined r.row.address r.command commands read p r.few r.is_sent
         (ap (λ (bytes : List ℕ). judge r.command (device.reply bytes here)) r.body_is
         ∙ (ap (judge r.command) e ∙ r.back read long))
 

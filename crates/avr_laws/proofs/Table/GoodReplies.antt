@@ -8,7 +8,7 @@ use Rattle.stk_frame.specs.declared.answer.FrameFault.{FrameFault}
 use Rattle.stk_frame.specs.declared.answer.Shape.TheVariants.{Bytes, Closed}
 use Rattle.stk_frame.specs.Commands.{code, judge, shape, data_in_shape}
 
-abbrev Verdict : Type 0
+abbrev pub Verdict : Type 0
 Verdict = Result (List ℕ) FrameFault
 
 last_byte : (n : ℕ) (more : List ℕ) → length more ≡ n + 1 → more ≡ take n more ++ (slice_index more n ∷ [])

@@ -1,7 +1,6 @@
 -- A programmer that keeps the table does what the proofs use.
-use Rattle.std.proofs.Common.{◌≡◌, ◌∙◌, ℕ, zero, suc, List, [], ◌∷◌, ◌++◌, length, map, refl, sym, ap, subst, ◌⊎◌, inl, inr, Option, Some, None, Ok, Err, Result, rules}
+use Rattle.std.proofs.Common.{◌≡◌, ◌∙◌, ℕ, zero, suc, List, [], ◌∷◌, ◌++◌, map, refl, sym, ap, subst, ◌⊎◌, inl, inr, Option, Some, None, Ok, Err, rules}
 use Rattle.avr_part.specs.Part.{Part, IsPart}
-use Rattle.stk_frame.specs.declared.answer.FrameFault.{FrameFault}
 use Rattle.stk_frame.specs.declared.command.Command.{Command}
 use Rattle.stk_frame.specs.declared.command.Command.TheVariants.{SignOn, LoadAddress}
 use Rattle.stk_frame.specs.Commands.{body, judge}
@@ -21,10 +20,8 @@ use Rattle.avr_tool.proofs.Given.StepsGive.{changed_sizes, given_same}
 use Rattle.avr_tool.proofs.Hosts.AnyExchange.{data_in}
 use Rattle.avr_tool.proofs.Real.{ActionsWork, AllWork, Real}
 use Rattle.avr_laws.specs.Table.{IsDoneOrNot, IsLoaded, IsProgrammer, RefusesRow, IsRow, Row, Stands, addressed}
-use Rattle.avr_laws.proofs.Table.Steps.{IsSent, RowFor, bodies, row_for, short}
-
-abbrev Verdict : Type 0
-Verdict = Result (List ℕ) FrameFault
+use Rattle.avr_laws.proofs.Table.Steps.{IsSent, RowFor, bodies, row_for, short, nothing}
+use Rattle.avr_laws.proofs.Table.GoodReplies.{Verdict}
 
 -- ---- data that were brought
 
@@ -37,10 +34,6 @@ data_by : (r : Reply) (before bytes : List ℕ) → on_data r (λ b. Data (befor
     → (d : List ℕ) × ((r ≡ Data d) × (before ++ d ≡ bytes))
 data_by r before bytes e = search rules
 
-none_in : (d : List ℕ) → length d ≡ 0 → d ≡ []
-none_in [] e = refl
-none_in (b ∷ d) e = absurd (cc e)
-
 module _ {P : Type 0} (m : Device P) where
   -- LOAD_ADDRESS had the good reply
   pub loaded_by : (a : ℕ) (p : P) (d : List ℕ) → reply_to m (LoadAddress a) p ≡ Data d
@@ -48,7 +41,7 @@ module _ {P : Type 0} (m : Device P) where
   loaded_by a p d e =
       let reply = m.reply (body (LoadAddress a)) p in
       let t = short (LoadAddress a) reply d refl (judged (LoadAddress a) (judge (LoadAddress a) reply) d e) in
-      (t.0, none_in d t.1)
+      (t.0, nothing d t.1)
 
   one_judged : (c : Command) (before bytes : List ℕ) (p : P) → joined_reply m (c ∷ []) before p ≡ Data bytes
       → (d : List ℕ) × ((judge c (m.reply (body c) p) ≡ Ok d) × (before ++ d ≡ bytes))
@@ -118,8 +111,7 @@ module _ {P : Type 0} (m : Device P) where
           ⊎ After (after_commands m i both p)
       two_prefix p zero b replied = inl b
       two_prefix p (suc zero) b replied = inl (load p b)
-      two_prefix p (suc (suc i)) b replied =
-          subst (λ q. Before q ⊎ After q) (sym (executed_none m i (end p)))
+      two_prefix p (suc (suc i)) b replied = subst (λ q. Before q ⊎ After q) (sym (executed_none m i (end p)))
           (either p b (loaded_by a p replied.0.0 replied.0.1).0)
 
       two_again : (p : P) (i : ℕ) → After p → AreReplied m i both p → After (after_commands m i both p)
@@ -144,8 +136,7 @@ module _ {P : Type 0} (m : Device P) where
 -- each row that a host sends by these commands is, also if it is repeated
 abbrev pub WorksBy : (part : Part) → ((row : Row) → IsRow part row → Memories → Type 0) → List Command → Memories
     → Type 0
-WorksBy part Vouched commands x =
-    (row : Row) (is : IsRow part row) → map body commands ≡ bodies row
+WorksBy part Vouched commands x = (row : Row) (is : IsRow part row) → map body commands ≡ bodies row
     → Vouched row is x × Vouched row is (memories_after_step part commands x)
 
 abbrev pub StepsWork : (part : Part) → ((row : Row) → IsRow part row → Memories → Type 0) → List (List Command)
@@ -157,8 +148,7 @@ StepsWork part Vouched (commands ∷ steps) x =
 abbrev pub ActionsWorkBy : (part : Part) → ((row : Row) → IsRow part row → Memories → Type 0) → List Action → Memories
     → Type 0
 ActionsWorkBy part Vouched [] x = Unit {0}
-ActionsWorkBy part Vouched (action ∷ actions) x =
-    StepsWork part Vouched (action_steps part action) x
+ActionsWorkBy part Vouched (action ∷ actions) x = StepsWork part Vouched (action_steps part action) x
     × ActionsWorkBy part Vouched actions (effects part (action_items action) x)
 
 module _ {P : Type 0} (part : Part) (sound : IsPart part) (m : Device P) (view : P → Memories)
@@ -197,8 +187,7 @@ module _ {P : Type 0} (part : Part) (sound : IsPart part) (m : Device P) (view :
       (λ p d e s. keeps p s)
 
   pub entering : (x : Memories) → IsRepeatable m (enter ∷ []) (In x) (Ready x)
-  entering x =
-      one_repeats m enter (In x) (Ready x) (restart_in x) (restart_ready x)
+  entering x = one_repeats m enter (In x) (Ready x) (restart_in x) (restart_ready x)
       (λ p s. inl (moved IsIn (view p) x (m.after (body enter) p) s.memories (t.enters p s.is)))
       (λ p s. record {
         memories = (t.enters p (t.ready_in p s.is)).memories ∙ s.memories;
@@ -259,10 +248,7 @@ module _ {P : Type 0} (part : Part) (sound : IsPart part) (m : Device P) (view :
     ]
 
     after_twice : memories_after_step part commands after ≡ after
-    after_twice =
-        sym (r.writes after)
-        ∙ (ap (effects part r.row.writes) (sym (r.writes x))
-        ∙ (r.twice x ∙ r.writes x))
+    after_twice = sym (r.writes after) ∙ (ap (effects part r.row.writes) (sym (r.writes x)) ∙ (r.twice x ∙ r.writes x))
 
     again_at : (p : P) → Ready after p → IsLoaded m r.row.address p → Ready after (done p)
     again_at p s loaded = elim (either_at after f_after then p s loaded) [
@@ -307,8 +293,7 @@ module _ {P : Type 0} (part : Part) (sound : IsPart part) (m : Device P) (view :
 
     ends_at : (a : ℕ) → Some a ≡ r.row.address → (p : P) → Either p
         → (m.reset p ≡ p) ⊎ FailsAt m Either r.command (m.reset p)
-    ends_at a is p (inl s) =
-        by_refused x p s (λ z ready. inl ready) ((row_at x p f now s).restarted a (sym is))
+    ends_at a is p (inl s) = by_refused x p s (λ z ready. inl ready) ((row_at x p f now s).restarted a (sym is))
     ends_at a is p (inr s) =
         by_refused after p s (λ z ready. inr ready) ((row_at after p f_after then s).restarted a (sym is))
 

@@ -16,12 +16,12 @@ use Rattle.stk_emu.specs.WriteOperations.{memories_after_step, image_at, IsStep,
 use Rattle.stk_emu.specs.WriteOperations as steps
 use Rattle.stk_emu.proofs.Memories.Pages.{flash_address_back, page_even}
 use Rattle.avr_tool.proofs.WriteOperations.Steps.{effect_twice, address_fits}
-use Rattle.avr_laws.specs.Table.{Row, IsRow, load_body, writing, reading, block, fuse_memory, ErasesChip, WritesFlashPage, WritesEepromRun, WritesFuse, WritesLock, ReadsFlash, ReadsEeprom, ReadsFuse, ReadsLock, ReadsSignature, ReadsCalibration}
+use Rattle.avr_laws.specs.Table.{Row, IsRow, load_body, writing, block, fuse_memory, ErasesChip, WritesFlashPage, WritesEepromRun, WritesFuse, WritesLock, ReadsFlash, ReadsEeprom, ReadsFuse, ReadsLock, ReadsSignature, ReadsCalibration}
 use Rattle.avr_laws.proofs.Table.GoodReplies.{first_two, closed_is, bytes_is, closed_from}
 
 -- ---- the good replies
 
-nothing : (d : List ℕ) → length d ≡ 0 → d ≡ []
+pub nothing : (d : List ℕ) → length d ≡ 0 → d ≡ []
 nothing [] e = refl
 nothing (b ∷ d) e = absurd (omega (arith, e))
 
@@ -216,11 +216,6 @@ module _ (part : Part) (sound : IsPart part) where
     good = λ reply d e. closed (read_eeprom_block count) count reply d refl e;
     back = λ d e. closed_from count d e;
   }
-
-  fuse_reads : (f : Fuse) (x : Memories)
-      → (reading None (0x18 ∷ 4 ∷ []) 1 (λ x. data_of_step part (read_fuse f ∷ []) x) 0x18).reads x
-      ≡ data_of_step part (read_fuse f ∷ []) x
-  fuse_reads f x = refl
 
   for_fuse_read : (f : Fuse) → RowFor part (read_fuse f ∷ [])
   for_fuse_read f = record {

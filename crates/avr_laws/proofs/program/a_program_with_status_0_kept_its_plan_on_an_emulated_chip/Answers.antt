@@ -9,8 +9,7 @@ use Rattle.avr_laws.proofs.program.a_program_with_status_0_kept_its_plan_on_an_e
 
 pub returns : goal.returns
 returns g c = record {
-  plan = λ zero silent.
-      words_kept IsKept promised g.C.CommandLine
+  plan = λ zero silent. words_kept IsKept promised g.C.CommandLine
       (peers_of g.N.Network g.N.Listener.Callers g.N.Stream.Read g.N.Stream.Inlet.has_timed_out
       g.N.Stream.Write g.N.Stream.Side.closed)
       (devices (stream_state c.args.link.now) (system_desk_view c.args.desk.now))

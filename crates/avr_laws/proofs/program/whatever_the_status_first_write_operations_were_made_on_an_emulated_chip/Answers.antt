@@ -8,8 +8,7 @@ use Rattle.avr_laws.proofs.program.whatever_the_status_first_write_operations_we
 
 pub returns : goal.returns
 returns g c = record {
-  begun = λ silent.
-      words_begun IsBegun emulated_begun g.C.CommandLine
+  begun = λ silent. words_begun IsBegun emulated_begun g.C.CommandLine
       (peers_of g.N.Network g.N.Listener.Callers g.N.Stream.Read g.N.Stream.Inlet.has_timed_out
       g.N.Stream.Write g.N.Stream.Side.closed)
       (devices (stream_state c.args.link.now) (system_desk_view c.args.desk.now))
