@@ -17,6 +17,7 @@ pub mod Outcomes
 pub mod Table
 pub mod ChipFile
 pub mod KeptByPort
+pub mod Recorded
 pub mod Readers
 pub mod TwoProcesses
 pub mod Rows

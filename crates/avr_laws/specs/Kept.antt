@@ -3,7 +3,7 @@
 use Rattle.std.specs.Prelude.{◌≡◌, ℕ, false, not, ◌&&◌, List, [], ◌∷◌, ◌++◌, filter, take, if◌then◌else◌}
 use Rattle.avr_plan.specs.declared.settings.Switches.{Switches}
 use Rattle.avr_desk.specs.Named.{is_dash}
-use Rattle.avr_desk.specs.Record.{Bytes, Record, all_files}
+use Rattle.avr_desk.specs.Record.{Bytes, Record, all_uses, files_among}
 use Rattle.avr_desk.specs.declared.record.Writing.{Writing}
 use Rattle.avr_laws.specs.AnyTape.{ReceivedSentFrames, after_received_bytes}
 use Rattle.avr_laws.specs.NoForgedFrame.{AreNotForged, frame_of_reply}
@@ -94,7 +94,7 @@ dash_output (file ∷ files) = if is_dash file.name then file.bytes ++ dash_outp
 
 -- Between these records of a desk these files were created, in order, and no others; the output is that of `-`.
 pub record FilesAreSaved (files : List Writing) (old now : Record) : Type 0 where
-  pub created : all_files now ≡ all_files old ++ named_files files
+  pub created : files_among (all_uses now) ≡ files_among (all_uses old) ++ named_files files
   pub output : now.output ≡ old.output ++ dash_output files
 
 -- A run of this plan with status 0 led from these memories and this record of the desk to those.

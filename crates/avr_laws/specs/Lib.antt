@@ -34,6 +34,7 @@ pub mod Reader
 pub mod EmulatedStates
 -- the program, port by port
 pub mod KeptByPort
+pub mod Recorded
 pub mod BegunByPort
 -- two processes
 pub mod TwoProcesses

@@ -19,7 +19,7 @@ use Rattle.avr_plan.specs.declared.settings.Settings.{Settings}
 use Rattle.avr_plan.specs.declared.settings.SettingsFault.{SettingsFault}
 use Rattle.avr_plan.specs.declared.update.Format.TheVariants.{Immediate}
 use Rattle.avr_plan.specs.declared.update.Op.TheVariants as op
-use Rattle.avr_desk.specs.Handles.{IsTrueRecord, IsTrueUse}
+use Rattle.avr_desk.specs.Handles.{IsTrueUse}
 use Rattle.avr_desk.specs.Journal.{SystemCalls, Opens, calls_of_record, no_calls}
 use Rattle.avr_desk.specs.OutputEvents.{after_events}
 use Rattle.avr_desk.specs.Record.{Bytes, DeskState, Record, all_openings, nothing_kept, showing, with_absent, with_replaced}
@@ -32,7 +32,6 @@ use Rattle.avr_desk.specs.declared.record.Opening.TheVariants.{Absent, Found}
 use Rattle.avr_desk.specs.declared.record.Writing.{Writing}
 use Rattle.avr_desk.specs.declared.system.OpenFile.TheVariants.{Nothing}
 use Rattle.avr_part.specs.BuiltIn.{built_in_parts, has_id, m328p}
-use Rattle.avr_part.specs.ChipFile.{chip_file}
 use Rattle.avr_part.specs.Part.{Part, IsPart}
 use Rattle.avr_part.specs.Sound.{IsSoundChip}
 use Rattle.avr_part.specs.State.{ChipState as Chip, fresh_state}
@@ -69,14 +68,14 @@ use Rattle.avr_laws.proofs.Asked.Settings.{serves_or_asks, settings_are, setting
 use Rattle.avr_laws.proofs.KnownFiles.OneOutcome.{run_more}
 use Rattle.avr_laws.proofs.Lines.Damaged.{brings_no_frame}
 use Rattle.avr_laws.proofs.Outcomes.Kept.{its_none_forged, kept}
-use Rattle.avr_laws.proofs.Held.Chip.{from_file}
+use Rattle.avr_laws.proofs.Held.Chip.{chip_in_file, from_file, with_memories}
 use Rattle.avr_laws.proofs.Rows.Held.{one_value}
 use Rattle.avr_laws.proofs.Rows.Kept.{executed, programmer, reading_plan, worked_came, worked_forges_none}
 use Rattle.avr_laws.proofs.Rows.PerfectLine.{perfect_transcript, in_turn}
 use Rattle.avr_laws.specs.AnyTape.{ReceivedSentFrames, after_received_bytes}
 use Rattle.avr_laws.specs.AskedPlan.{GivesText, IsAsked, WasOpened}
 use Rattle.avr_laws.specs.AskedSettings.{AsksFor, AsksToServe}
-use Rattle.avr_laws.specs.ChipFound.{IsChipInFile}
+use Rattle.avr_laws.specs.ChipFound.{AreInFile, file_of_memories}
 use Rattle.avr_laws.specs.Damaged.{Arrival, FrameArrives, BringsReplies, tape_of_arrivals}
 use Rattle.avr_laws.specs.Kept.{FilesAreSaved, HasGeometryOf, IsKept, Keeps, KeepsOnPart, NoneForged, PlanAgrees, saved_files}
 use Rattle.avr_laws.specs.EmulatedStates.{HasEmptyBuffers, HasPart, chip_memories}
@@ -88,6 +87,7 @@ use Rattle.avr_laws.proofs.Table.Emulated.{emulated_meets}
 use Rattle.avr_laws.proofs.Table.Kept.{kept_by_any}
 use Rattle.avr_tool.proofs.Given.FirstSteps.{sound_fits, sound_idle}
 use Rattle.avr_laws.specs.KeptByPort.{ConnectionState, IsKeptInFile, KeepsCommandLine, KeepsPlan, KeepsPlanAt}
+use Rattle.avr_laws.specs.Recorded.{RecordsFiles, RecordsOutput}
 use Rattle.avr_laws.specs.Worked.{fuse_plan, worked_frames, worked_replies, worked_settings}
 
 -- ---- the run
@@ -319,11 +319,14 @@ plan_asked Gives = record {
   switches = refl;
 }
 
-pub no_chip_file : IsChipInFile m328p None (fresh_state m328p)
+pub no_chip_file : AreInFile m328p None fresh
 no_chip_file = refl
 
-pub short_chip_file : (chip : Chip) → IsChipInFile m328p (Some []) chip → ⊥
-short_chip_file chip is = let size : 0 ≡ 33796 = (from_file m328p (Some []) chip is).0 in omega (arith, size)
+pub short_chip_file : (m : Memories) → AreInFile m328p (Some []) m → ⊥
+short_chip_file m are =
+    let size : 0 ≡ 33796 =
+    (from_file m328p (Some []) (with_memories m328p m) (chip_in_file m328p (Some []) m are)).0 in
+    omega (arith, size)
 
 -- ---- over the emulator, without a chip file
 
@@ -334,12 +337,12 @@ abbrev loaded : Record
 loaded = with_absent file nothing_kept
 
 abbrev saved : Record
-saved = with_replaced file (chip_file left) loaded
+saved = with_replaced file (file_of_memories (memories_of left)) loaded
 
 pub chip_saved : IsKeptInFile file None plan nothing_kept saved
 chip_saved = record {
-  chip = fresh_state m328p;
-  left = left;
+  before = fresh;
+  after = memories_of left;
   ended = loaded;
   was = no_chip_file;
   keeps = record {
@@ -358,7 +361,7 @@ not_none (y ∷ xs) x e = cc
 pub chip_unsaved : (name : Bytes) (found : Option Bytes) (other : Plan) (old new : Record) → new.tried ≡ []
     → IsKeptInFile name found other old new → ⊥
 chip_unsaved name found other old new none kept =
-    not_none kept.ended.tried (record { name = name; bytes = chip_file kept.left })
+    not_none kept.ended.tried (record { name = name; bytes = file_of_memories kept.after })
     (sym (ap (λ (r : Record). r.tried) kept.saved) ∙ none)
 
 -- ---- streams: a side of a socket, or a stream, as the bytes that it will give and those that it took
@@ -493,19 +496,38 @@ made = Created (record { name = file; bytes = 0 ∷ [] })
 abbrev uses : Record
 uses = record nothing_kept { uses = absent ∷ made ∷ [] }
 
-pub record_true : IsTrueRecord system reads writes reads (calls_of_record uses) Nothing None uses
+pub record_true : RecordsFiles system reads writes reads
+    (record unused { system = calls_of_record uses; kept = uses })
 record_true =
-    search (
-      rules,
-      All-cons (IsTrueUse system reads writes reads),
-      All-nil (IsTrueUse system reads writes reads),
-      All-nil system.denies,
-    )
+    search (rules, All-cons (IsTrueUse system reads writes reads), All-nil (IsTrueUse system reads writes reads))
 
-pub call_unrecorded : IsTrueRecord system reads writes reads (record { calls = Opens file ∷ []; holds = 0 }) Nothing
-    None nothing_kept → ⊥
+pub call_unrecorded : RecordsFiles system reads writes reads
+    (record unused { system = record { calls = Opens file ∷ []; holds = 0 } }) → ⊥
 call_unrecorded truly =
     let none : 0 ≡ 1 = ap (λ (done : SystemCalls). length done.calls) truly.has_done in omega (arith, none)
+
+-- ---- messages: a line that their writer took, and one that it didn't
+
+abbrev printing : Bytes → Bytes → Shown SystemCalls (List ℕ) (List ℕ) (List ℕ) Bytes Bytes
+printing taken recorded = record {
+  system = no_calls;
+  output = [];
+  messages = taken;
+  failures = 0;
+  message_failures = 0;
+  last_error = None;
+  opened = Nothing;
+  hold = None;
+  kept = record nothing_kept { messages = recorded };
+}
+
+pub line_taken : (line : Bytes) → RecordsOutput writes writes (printing [] []) (printing line line)
+line_taken line = record { messages = (line, refl, refl); output = ([], refl, λ apart none. refl) }
+
+pub line_untaken : RecordsOutput writes writes (printing [] []) (printing [] (0 ∷ [])) → ⊥
+line_untaken shown =
+    let none : 1 ≡ 0 = ap (λ (bytes : Bytes). length bytes) (shown.messages.1 ∙ sym shown.messages.2) in
+    omega (arith, none)
 
 -- ---- each port
 
