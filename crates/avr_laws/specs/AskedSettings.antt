@@ -78,7 +78,8 @@ pub record AsksFor (rows : List Row) (settings : Settings) : Type 0 where
   pub chip : first_of (codes "chip") rows ≡ Some (codes "-") → ⊥
   pub chip_file : settings.port ≡ Emulated (codes "-") → ⊥
   pub streams : settings.port ≡ Stdio → list_any uses_standard settings.updates ≡ false
-  pub input : count_by (λ (u : Update). uses_standard u && elim (u.op) [ Read ↦ false | op ↦ true ]) settings.updates ≤ 1
+  pub input : count_by (λ (u : Update). uses_standard u && elim (u.op) [ Read ↦ false | op ↦ true ])
+      settings.updates ≤ 1
 
 -- These options ask for a service: of a part, at the port of a number, with a chip file. It is no standard stream.
 pub record AsksToServe (rows : List Row) : Type 0 where

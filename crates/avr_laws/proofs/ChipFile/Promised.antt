@@ -64,7 +64,10 @@ module _ (settings : Settings) (file : Bytes) (stock : Stock) (old new : MemDesk
   written = search (rules, these_saved, expected_writes r.plan (memories_of r.chip) (sym expected.status_is ∙ zero))
 
   created : all_files r.played_desk.kept ≡ named_files files
-  created = sym (files_used r.played_desk.kept) ∙ (written.created ∙ ap (λ (before : List Writing). before ++ named_files files)
+  created =
+      sym (files_used r.played_desk.kept)
+      ∙ (written.created
+      ∙ ap (λ (before : List Writing). before ++ named_files files)
       (files_used r.loaded_desk.kept ∙ (loaded_files settings file stock old new 0 holds r ∙ ap all_files unused)))
 
   kept : (name : Bytes) → (name ≡ file → ⊥)

@@ -169,8 +169,7 @@ pub session_keeps : (s : Settings) (x y : Devices) (status : â„•) (IsSo : Plan â
 session_keeps s x y status IsSo with so =
     let first = since x.desk with.between with.made.output_events with.made.kept in
     let later = session_opened with.plan (devices x.link with.between) y status with.then_is in
-    let asked = went_asked s with.plan x.desk with.between with.made in
-    (
+    let asked = went_asked s with.plan x.desk with.between with.made in (
       with.plan,
       openings_in with.made.output_events,
       opened_by_uses x.desk.kept y.desk.kept (openings_in with.made.output_events ++ [])

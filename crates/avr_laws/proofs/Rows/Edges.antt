@@ -65,7 +65,8 @@ read_before IsSo keeps =
 -- ---- one more file was opened than the plan asks for
 
 pub another_opening : (IsSo : Plan → Type 0) (old new : Record) (more : Opening)
-    → openings_among (all_uses new) ≡ openings_among (all_uses old) ++ more ∷ [] → KeepsPlan worked_settings old new [] IsSo → ⊥
+    → openings_among (all_uses new) ≡ openings_among (all_uses old) ++ more ∷ []
+    → KeepsPlan worked_settings old new [] IsSo → ⊥
 another_opening IsSo old new more is keeps =
     let asked = keeps.3 in
     let first : asked.first ≡ [] = asked.are_parts.1 in

@@ -70,9 +70,9 @@ use Rattle.avr_laws.proofs.Lines.Damaged.{brings_no_frame}
 use Rattle.avr_laws.proofs.Outcomes.Kept.{its_none_forged, kept}
 use Rattle.avr_laws.proofs.Held.Chip.{chip_in_file, from_file, with_memories}
 use Rattle.avr_laws.proofs.Rows.Held.{one_value}
-use Rattle.avr_laws.proofs.Rows.Kept.{executed, programmer, reading_plan, worked_came, worked_forges_none}
+use Rattle.avr_laws.proofs.Rows.Kept.{executed, programmer, reading_plan, worked_forges_none}
 use Rattle.avr_laws.proofs.Rows.PerfectLine.{perfect_transcript, in_turn}
-use Rattle.avr_laws.specs.AnyTape.{ReceivedSentFrames, after_received_bytes}
+use Rattle.avr_laws.specs.AnyTape.{after_sent_frames}
 use Rattle.avr_laws.specs.AskedPlan.{GivesText, IsAsked, WasOpened}
 use Rattle.avr_laws.specs.AskedSettings.{AsksFor, AsksToServe}
 use Rattle.avr_laws.specs.ChipFound.{AreInFile, file_of_memories}
@@ -157,10 +157,6 @@ fresh_is_sound part is =
 pub chip_is_sound : IsSoundChip (fresh_state m328p)
 chip_is_sound = fresh_is_sound m328p is_part
 
-came : ReceivedSentFrames (sent passed) [] (frames (sent passed)) executions
-unfolding session opening handshake operation closing play attempts_or_fault attempt exchange answer
-came = record { good = refl }
-
 -- the replies, one after the other
 abbrev arrivals : {E R : Type 0} → Dialog E R → ℕ → Programmer → List Arrival
 arrivals (Done r) n p = []
@@ -193,9 +189,8 @@ none_forged =
 
 -- all at once
 pub premises_hold : IsSoundChip programmer.chip × HasGeometryOf plan.part programmer.chip.part
-    × ReceivedSentFrames (sent passed) [] (frames (sent passed)) executions
     × NoneForged device (frames (sent passed)) (heard passed) programmer executions []
-premises_hold = (chip_is_sound, refl, came, none_forged)
+premises_hold = (chip_is_sound, refl, none_forged)
 
 -- ---- so does what it kept
 
@@ -203,10 +198,10 @@ abbrev fresh : Memories
 fresh = memories_of (fresh_state m328p)
 
 abbrev left : Chip
-left = (after_received_bytes device (sent passed) [] programmer).chip
+left = (after_sent_frames device (frames (sent passed)) executions programmer).chip
 
 pub kept_on_part : KeepsOnPart m328p plan fresh (memories_of left) nothing_kept reported.kept
-kept_on_part = run_is_kept programmer (sent passed) [] executions chip_is_sound refl came none_forged
+kept_on_part = run_is_kept programmer executions chip_is_sound refl none_forged
 
 pub plan_kept : Keeps plan fresh (memories_of left) nothing_kept reported.kept
 plan_kept = kept_on_part.keeps
@@ -231,8 +226,8 @@ plan_unkept old now keeps =
 pub write_unsent : (old now : Record) → IsKept plan (Sent worked_frames ∷ Got worked_replies ∷ []) old now → ⊥
 write_unsent old now kept =
     let keeps : KeepsOnPart m328p plan fresh
-    (memories_of (after_received_bytes device worked_frames [] programmer).chip) old now =
-    kept programmer worked_frames [] executed chip_is_sound refl worked_came worked_forges_none in
+    (memories_of (after_sent_frames device (frames worked_frames) executed programmer).chip) old now =
+    kept programmer executed chip_is_sound refl worked_forges_none in
     let byte : 255 ≡ 0xE2 = ap (λ (m : Memories). m.lfuse) keeps.keeps.made in omega (arith, byte)
 
 -- ---- by the table
@@ -269,17 +264,15 @@ plan_suits = ((λ written. refl), tt)
 
 pub kept_by_table : KeepsOnPart m328p plan fresh (memories_of left) nothing_kept reported.kept
 kept_by_table =
-    run_is_kept_by_any is_part refl rows_kept programmer (sent passed) [] executions is_in
-    chip_fits_part plan_suits came none_forged
+    run_is_kept_by_any is_part refl rows_kept programmer executions is_in chip_fits_part plan_suits none_forged
 
 pub write_unsent_to_any : (old now : Record)
     → IsKeptByAny m328p device chip_memories (HasPart m328p) (HasEmptyBuffers m328p) whole plan
     (Sent worked_frames ∷ Got worked_replies ∷ []) old now → ⊥
 write_unsent_to_any old now kept =
     let keeps : KeepsOnPart m328p plan fresh
-    (memories_of (after_received_bytes device worked_frames [] programmer).chip) old now =
-    kept is_part refl rows_kept programmer worked_frames [] executed is_in chip_fits_part plan_suits worked_came
-    worked_forges_none in
+    (memories_of (after_sent_frames device (frames worked_frames) executed programmer).chip) old now =
+    kept is_part refl rows_kept programmer executed is_in chip_fits_part plan_suits worked_forges_none in
     let byte : 255 ≡ 0xE2 = ap (λ (m : Memories). m.lfuse) keeps.keeps.made in omega (arith, byte)
 
 -- a plan that compares the calibration
