@@ -93,7 +93,17 @@ module _ (plan : Plan) (begun : Programmer) (is_sound : IsSoundChip begun.chip) 
             bytes (stands bytes all_sent) (outputs events) status comes emitted,
       )
 
-  -- over a link that forges no frame, from the bytes that the programmer got
+  -- over a link that forges no frame
+  pub end_sent : (bytes : List ℕ) (executions : List Execution) (tape : Tape)
+      → ForgesNoFrame device (session plan) 1 tape begun executions []
+      → IsBytePrefixOf bytes (bytes_sent (played (session plan) 1 tape).events)
+      → ReportsOverExchanges plan begun (after_sent_frames device (frames bytes) executions begun)
+      (exchanges_on_tape (session plan) 1 tape executions) bytes (played (session plan) 1 tape).events
+  end_sent bytes executions tape none prefix =
+      over_any_end tape executions
+      (no_forged_frame_authentic device (session plan) 1 tape begun executions [] tt none) bytes prefix
+
+  -- the same, from the bytes that the programmer got
   module _ (got bytes : List ℕ) (later : List (List ℕ)) (executions : List Execution) (tape : Tape)
       (came : ReceivedSentFrames got later (frames bytes) executions)
       (none : ForgesNoFrame device (session plan) 1 tape begun executions []) where

@@ -17,5 +17,6 @@ pub mod Outcomes
 pub mod Table
 pub mod ChipFile
 pub mod KeptByPort
+pub mod Recorded
 pub mod Readers
 pub mod Rows

@@ -1,22 +1,22 @@
 -- The settings that a command line asks for. Only a command line that is accepted has settings here. Which fault another
 -- one has is said by its reader, in avr_plan.
-use Rattle.std.specs.Prelude.{◌≡◌, ◌⊎◌, ◌<◌, ◌≤◌, ℕ, true, false, List, [], ◌∷◌, ◌++◌, codes, count_by, length, unwrap_or, Some, None}
+use Rattle.std.specs.Prelude.{◌≡◌, ◌⊎◌, ◌&&◌, ◌<◌, ◌≤◌, ℕ, Bool, true, false, List, [], ◌∷◌, ◌++◌, codes, count_by, length, unwrap_or, Some, None}
 use Rattle.std.specs.Char.{is_ascii_digit}
 use Rattle.std.specs.List.{list_all, list_any}
 use Rattle.std.specs.Str.Parse.{digits_value}
 use Rattle.clap.specs.Words.{Row, all_of, first_of}
+use Rattle.avr_desk.specs.Named.{is_dash}
 use Rattle.avr_desk.specs.Record.{Bytes}
 use Rattle.avr_part.specs.Mem.{name_of}
 use Rattle.avr_part.specs.declared.part.Mem.TheVariants.{Flash}
 use Rattle.avr_plan.specs.Settings.{switches_of}
 use Rattle.avr_plan.specs.Split.{colon}
-use Rattle.avr_plan.specs.Standard.{uses_input, uses_standard}
 use Rattle.avr_plan.specs.Update.{format_of, op_name}
 use Rattle.avr_plan.specs.declared.settings.Port.{Port}
 use Rattle.avr_plan.specs.declared.settings.Port.TheVariants.{Stdio, Emulated, Network, Served}
 use Rattle.avr_plan.specs.declared.settings.Settings.{Settings}
-use Rattle.avr_plan.specs.declared.update.Format.TheVariants.{Auto}
-use Rattle.avr_plan.specs.declared.update.Op.TheVariants.{Write}
+use Rattle.avr_plan.specs.declared.update.Format.TheVariants.{Auto, Immediate}
+use Rattle.avr_plan.specs.declared.update.Op.TheVariants.{Read, Write}
 use Rattle.avr_plan.specs.declared.update.Update.{Update}
 
 -- Decimal digits, with a value from 1 to 65535.
@@ -58,6 +58,10 @@ AskForUpdates [] [] = Unit {0}
 AskForUpdates (text ∷ texts) (u ∷ updates) = AsksForUpdate text u × AskForUpdates texts updates
 AskForUpdates texts updates = ⊥
 
+-- The file of an update is standard input or output. Values are no file.
+abbrev pub uses_standard : Update → Bool
+uses_standard u = is_dash u.file && elim (u.format) [ Immediate ↦ false | format ↦ true ]
+
 -- THE SETTINGS that these options ask for, without `--serve`.
 pub record AsksFor (rows : List Row) (settings : Settings) : Type 0 where
   pub part : first_of (codes "part") rows ≡ Some settings.part
@@ -74,7 +78,8 @@ pub record AsksFor (rows : List Row) (settings : Settings) : Type 0 where
   pub chip : first_of (codes "chip") rows ≡ Some (codes "-") → ⊥
   pub chip_file : settings.port ≡ Emulated (codes "-") → ⊥
   pub streams : settings.port ≡ Stdio → list_any uses_standard settings.updates ≡ false
-  pub input : count_by uses_input settings.updates ≤ 1
+  pub input : count_by (λ (u : Update). uses_standard u && elim (u.op) [ Read ↦ false | op ↦ true ])
+      settings.updates ≤ 1
 
 -- These options ask for a service: of a part, at the port of a number, with a chip file. It is no standard stream.
 pub record AsksToServe (rows : List Row) : Type 0 where

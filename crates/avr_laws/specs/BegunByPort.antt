@@ -7,7 +7,7 @@ use Rattle.avr_plan.specs.declared.settings.Port.TheVariants.{Stdio, Emulated, N
 use Rattle.avr_plan.specs.declared.settings.Settings.{Settings}
 use Rattle.avr_desk.specs.Record.{Bytes, Record}
 use Rattle.avr_laws.specs.AskedSettings.{AsksFor, AsksToServe}
-use Rattle.avr_laws.specs.AnyTape.{ReceivedSentFrames, after_received_bytes}
+use Rattle.avr_laws.specs.AnyTape.{after_sent_frames}
 use Rattle.avr_laws.specs.Kept.{HasGeometryOf, NoneForged, on_part}
 use Rattle.avr_laws.specs.KeptByPort.{ConnectionState, KeepsPlan}
 use Rattle.avr_laws.specs.Sheet.{IsVouched, SuitsPlan}
@@ -28,7 +28,7 @@ use Rattle.stk_host.specs.Transcript.{LinkState, Transcript, heard, sent}
 -- THE PLAN'S FIRST WRITE OPERATIONS WERE MADE, in order, and no others: perhaps none of them, perhaps all. The
 -- programmer keeps the rows that the sheet vouches for. It may be in any state, lose any command, and restart. Its
 -- chip's part has the geometry of the plan's part, and the plan asks for no other row. Without -F the chip has the
--- signature of the plan's part. The programmer received good frames that were sent, in order and each at most once,
+-- signature of the plan's part. The programmer executed some of the frames sent, in order and each at most once,
 -- and the link forges no frame.
 abbrev pub IsBegunByAny : {P : Type 0} → Part → Device P → (P → Memories) → (P → Type 0) → (P → Type 0)
     → (Mem → ℕ → ℕ) → Plan → Transcript → Type 0
@@ -36,19 +36,19 @@ IsBegunByAny {P = P} part m view IsIn IsReady becomes plan passed =
     IsPart part → HasGeometryOf plan.part part
     → (plan.switches.force ≡ false → part.signature ≡ plan.part.signature)
     → IsProgrammer part m view IsIn IsReady (IsVouched becomes part)
-    → (p : P) (got : List ℕ) (later : List (List ℕ)) (executions : List Execution) → IsIn p → FitsPart part (view p)
+    → (p : P) (executions : List Execution) → IsIn p → FitsPart part (view p)
     → SuitsPlan becomes (on_part part plan) (view p)
-    → ReceivedSentFrames got later (frames (sent passed)) executions
     → NoneForged m (frames (sent passed)) (heard passed) p executions []
-    → HasFirstOperations (on_part part plan) (view p) (view (after_received_bytes m got later p))
+    → HasFirstOperations (on_part part plan) (view p)
+    (view (after_sent_frames m (frames (sent passed)) executions p))
 
 -- The same of the emulated programmer, for any plan. Its chip is sound and of the plan's part.
 abbrev pub IsBegun : Plan → Transcript → Type 0
 IsBegun plan passed =
-    (p : Programmer) (got : List ℕ) (later : List (List ℕ)) (executions : List Execution) → IsSoundChip p.chip
-    → p.chip.part ≡ plan.part → ReceivedSentFrames got later (frames (sent passed)) executions
+    (p : Programmer) (executions : List Execution) → IsSoundChip p.chip → p.chip.part ≡ plan.part
     → NoneForged device (frames (sent passed)) (heard passed) p executions []
-    → HasFirstOperations plan (memories_of p.chip) (memories_of (after_received_bytes device got later p).chip)
+    → HasFirstOperations plan (memories_of p.chip)
+    (memories_of (after_sent_frames device (frames (sent passed)) executions p).chip)
 
 -- WITHOUT -F A CHIP OF ANOTHER SIGNATURE IS LEFT AS IT WAS, if the programmer keeps the rows that the sheet vouches for,
 -- in any state. The plan's part and the chip's meet `IsPart`. The chip may have any geometry, and the plan may ask for
@@ -58,10 +58,9 @@ abbrev pub IsSparedByAny : {P : Type 0} → Part → Device P → (P → Memorie
 IsSparedByAny {P = P} part m view IsIn IsReady becomes plan passed =
     IsPart plan.part → IsPart part → plan.switches.force ≡ false → (part.signature ≡ plan.part.signature → ⊥)
     → IsProgrammer part m view IsIn IsReady (IsVouched becomes part)
-    → (p : P) (got : List ℕ) (later : List (List ℕ)) (executions : List Execution) → IsIn p → FitsPart part (view p)
-    → ReceivedSentFrames got later (frames (sent passed)) executions
+    → (p : P) (executions : List Execution) → IsIn p → FitsPart part (view p)
     → NoneForged m (frames (sent passed)) (heard passed) p executions []
-    → view (after_received_bytes m got later p) ≡ view p
+    → view (after_sent_frames m (frames (sent passed)) executions p) ≡ view p
 
 -- By the port, and by what `Begun` says of a plan. Over standard streams nothing was sent unless there is a plan. At
 -- another port nothing passed over them, and at one that is not of the network the network was left unused.

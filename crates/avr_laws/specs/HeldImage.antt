@@ -1,16 +1,16 @@
 -- The image that a text holds: values, raw bytes, or records. Only what is well formed has a meaning here. Which fault
 -- another text has is said by its reader, in avr_image or avr_records.
-use Rattle.std.specs.Prelude.{◌≡◌, ◌<◌, ◌≤◌, ℕ, ◌+◌, ◌-◌, ◌*◌, ◌%◌, ◌==◌, ◌&&◌, ◌||◌, nat_le, nat_lt, List, [], ◌∷◌, ◌++◌, length, take, drop, map, sum, Option, Some, None, option_map, Result, Ok, true, if◌then◌else◌}
+use Rattle.std.specs.Prelude.{◌≡◌, ◌<◌, ◌≤◌, ℕ, ◌+◌, ◌-◌, ◌*◌, ◌%◌, ◌==◌, ◌&&◌, ◌||◌, nat_le, nat_lt, List, [], ◌∷◌, ◌++◌, length, take, drop, map, fold, sum, Option, Some, None, option_map, Result, Ok, true, if◌then◌else◌}
 use Rattle.std.specs.List.{list_all}
 use Rattle.hex.specs.Hex.{decode_of}
 use Rattle.hex.specs.declared.error.FromHexError.{FromHexError}
 use Rattle.avr_desk.specs.Record.{Bytes}
-use Rattle.avr_image.specs.Image.{from_zero, image_of_pairs}
+use Rattle.avr_image.specs.Image.{empty, from_zero, with_byte}
 use Rattle.avr_image.specs.Values.{pieces, value_of}
 use Rattle.avr_records.specs.Lines.{lines, trimmed_line}
 use Rattle.avr_records.specs.Meaning.{Meaning, Nothing, Data, Rebase, Counted, End}
 use Rattle.avr_records.specs.Reading.{places}
-use Rattle.avr_records.specs.Record.{longest, number}
+use Rattle.avr_records.specs.Record.{number}
 use Rattle.avr_records.specs.declared.kind.AddressBase.{AddressBase}
 use Rattle.avr_records.specs.declared.kind.AddressBase.TheVariants.{Linear, Segment}
 use Rattle.avr_records.specs.declared.kind.Found.{Found}
@@ -78,9 +78,9 @@ trimmed_line_meaning Ihex (mark ∷ digits) = if mark == 58 then ihex_line (deco
 trimmed_line_meaning Srec (mark ∷ digit ∷ digits) = if mark == 83 then srec_line digit (decode_of digits) else None
 trimmed_line_meaning kind line = None
 
--- What a line means, if it isn't too long.
+-- What a line means, if it has at most 600 bytes.
 abbrev pub line_meaning : Kind → Bytes → Option Meaning
-line_meaning kind line = if nat_lt longest (length line) then None else trimmed_line_meaning kind (trimmed_line line)
+line_meaning kind line = if nat_lt 600 (length line) then None else trimmed_line_meaning kind (trimmed_line line)
 
 -- The addresses and bytes that lines hold, up to an end record, under a base and after so many records of data. A
 -- record with a count has to state how many these are.
@@ -94,11 +94,12 @@ placed_bytes base count (Some (Rebase new) ∷ more) = placed_bytes new count mo
 placed_bytes base count (Some (Counted n) ∷ more) = if n == count then placed_bytes base count more else None
 placed_bytes base count (Some End ∷ more) = Some []
 
--- The image of a text's records, all of whose bytes are inside.
+-- The image of a text's records, all of whose bytes are inside. A later byte at an address wins.
 abbrev pub HoldsRecords : Kind → Bytes → ℕ → List (Option ℕ) → Type 0
 HoldsRecords kind text size image =
     (placed : List (ℕ × ℕ)) × (placed_bytes (Linear 0) 0 (map (line_meaning kind) (lines text)) ≡ Some placed)
-    × (list_all (λ place. nat_lt place.0 size) placed ≡ true) × (image ≡ image_of_pairs size placed)
+    × (list_all (λ place. nat_lt place.0 size) placed ≡ true)
+    × (image ≡ fold (λ (image : List (Option ℕ)) (place : ℕ × ℕ). with_byte image place.0 place.1) (empty size) placed)
 
 -- The image of a file's text. An ELF file has none.
 abbrev pub HoldsImageAs : Found → Bytes → ℕ → List (Option ℕ) → Type 0

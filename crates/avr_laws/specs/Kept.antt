@@ -3,9 +3,9 @@
 use Rattle.std.specs.Prelude.{◌≡◌, ℕ, false, not, ◌&&◌, List, [], ◌∷◌, ◌++◌, filter, take, if◌then◌else◌}
 use Rattle.avr_plan.specs.declared.settings.Switches.{Switches}
 use Rattle.avr_desk.specs.Named.{is_dash}
-use Rattle.avr_desk.specs.Record.{Bytes, Record, all_files}
+use Rattle.avr_desk.specs.Record.{Bytes, Record, all_uses, files_among}
 use Rattle.avr_desk.specs.declared.record.Writing.{Writing}
-use Rattle.avr_laws.specs.AnyTape.{ReceivedSentFrames, after_received_bytes}
+use Rattle.avr_laws.specs.AnyTape.{after_sent_frames}
 use Rattle.avr_laws.specs.NoForgedFrame.{AreNotForged, frame_of_reply}
 use Rattle.avr_part.specs.Sound.{IsSoundChip}
 use Rattle.avr_part.specs.Part.{Part}
@@ -94,7 +94,7 @@ dash_output (file ∷ files) = if is_dash file.name then file.bytes ++ dash_outp
 
 -- Between these records of a desk these files were created, in order, and no others; the output is that of `-`.
 pub record FilesAreSaved (files : List Writing) (old now : Record) : Type 0 where
-  pub created : all_files now ≡ all_files old ++ named_files files
+  pub created : files_among (all_uses now) ≡ files_among (all_uses old) ++ named_files files
   pub output : now.output ≡ old.output ++ dash_output files
 
 -- A run of this plan with status 0 led from these memories and this record of the desk to those.
@@ -125,12 +125,11 @@ pub record KeepsOnPart (part : Part) (plan : Plan) (before after : Memories) (ol
   -- without -F the chip has the signature of the plan's part
   pub signature : plan.switches.force ≡ false → part.signature ≡ plan.part.signature
 
--- WHAT STATUS 0 MEANS, by what passed over the link. Whatever the programmer was, and whatever it received before and
--- after its restarts, the plan was kept, if its chip has the geometry of the plan's part.
+-- WHAT STATUS 0 MEANS, by what passed over the link. Whatever the programmer was, whichever of the frames sent it
+-- executed, in order, and wherever it restarted, the plan was kept, if its chip has the geometry of the plan's part.
 abbrev pub IsKept : Plan → Transcript → Record → Record → Type 0
 IsKept plan passed old now =
-    (p : Programmer) (got : List ℕ) (later : List (List ℕ)) (executions : List Execution) → IsSoundChip p.chip
-    → HasGeometryOf plan.part p.chip.part → ReceivedSentFrames got later (frames (sent passed)) executions
+    (p : Programmer) (executions : List Execution) → IsSoundChip p.chip → HasGeometryOf plan.part p.chip.part
     → NoneForged device (frames (sent passed)) (heard passed) p executions []
     → KeepsOnPart p.chip.part plan (memories_of p.chip)
-    (memories_of (after_received_bytes device got later p).chip) old now
+    (memories_of (after_sent_frames device (frames (sent passed)) executions p).chip) old now

@@ -5,35 +5,34 @@ use Rattle.avr_plan.specs.Command.{avrstk}
 use Rattle.avr_plan.specs.declared.settings.Port.{Port}
 use Rattle.avr_plan.specs.declared.settings.Port.TheVariants.{Stdio, Emulated, Network, Served}
 use Rattle.avr_plan.specs.declared.settings.Settings.{Settings}
-use Rattle.avr_desk.specs.Record.{Bytes, Record, all_openings, with_replaced}
+use Rattle.avr_desk.specs.Record.{Bytes, Record, all_uses, openings_among, with_replaced}
 use Rattle.avr_desk.specs.declared.record.Opening.{Opening}
 use Rattle.avr_laws.specs.AskedPlan.{IsAsked, WasOpened}
 use Rattle.avr_laws.specs.AskedSettings.{AsksFor, AsksToServe}
-use Rattle.avr_laws.specs.ChipFound.{IsChipInFile}
+use Rattle.avr_laws.specs.ChipFound.{AreInFile, file_of_memories}
 use Rattle.avr_laws.specs.FilesRead.{read_whole}
 use Rattle.avr_laws.specs.Kept.{Keeps}
-use Rattle.avr_part.specs.ChipFile.{chip_file}
-use Rattle.avr_part.specs.State.{ChipState as Chip}
 use Rattle.avr_plan.specs.Plan.{Plan}
-use Rattle.stk_emu.specs.Effect.{memories_of}
+use Rattle.stk_emu.specs.Effect.{Memories}
 use Rattle.stk_host.specs.Transcript.{LinkState, Transcript}
 
--- What was found in the chip file is a chip of the plan's part; without a file the chip is a fresh one. The plan was
--- kept for this chip. The last use in the record is this file, put there whole with the chip that was left. The record
--- doesn't show whether the file was created or replaced.
+-- The plan was kept for the chip whose memories were found in the chip file; without a file the chip is a new one. The
+-- last use in the record is this file, put there whole with the memories after the run. The record doesn't show whether
+-- the file was created or replaced.
 pub record IsKeptInFile (file : Bytes) (found : Option Bytes) (plan : Plan) (old new : Record) : Type 0 where
-  pub chip : Chip
-  pub left : Chip
+  pub before : Memories
+  pub after : Memories
   pub ended : Record
-  pub was : IsChipInFile plan.part found chip
-  pub keeps : Keeps plan (memories_of chip) (memories_of left) old ended
-  pub saved : new ≡ with_replaced file (chip_file left) ended
+  pub was : AreInFile plan.part found before
+  pub keeps : Keeps plan before after old ended
+  pub saved : new ≡ with_replaced file (file_of_memories after) ended
 
 -- The settings and the files that were opened ask for a plan, and this holds of it. Those files and then `more` are all
 -- that was opened, in order.
 abbrev pub KeepsPlan : Settings → Record → Record → List Opening → (Plan → Type 0) → Type 0
 KeepsPlan settings old new more IsSo =
-    (plan : Plan) × (opened : List Opening) × (all_openings new ≡ all_openings old ++ (opened ++ more))
+    (plan : Plan) × (opened : List Opening)
+    × (openings_among (all_uses new) ≡ openings_among (all_uses old) ++ (opened ++ more))
     × IsAsked settings WasOpened opened plan × IsSo plan
 
 -- What happened to the one connection to this address: a link over it has this state, or there was none.

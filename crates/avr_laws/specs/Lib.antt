@@ -32,6 +32,7 @@ pub mod Reader
 pub mod EmulatedStates
 -- the program, port by port
 pub mod KeptByPort
+pub mod Recorded
 pub mod BegunByPort
 -- of the crates below, the definitions that public contracts cite
 pub use Rattle.avr_desk.specs.Fault

@@ -15,7 +15,7 @@ use Rattle.stk_emu.specs.Settled.{FitsPart}
 use Rattle.stk_emu.specs.StepData.{HoldsImage}
 use Rattle.stk_frame.specs.Cut.{frames}
 use Rattle.stk_host.specs.Transcript.{Transcript, heard, sent}
-use Rattle.avr_laws.specs.AnyTape.{ReceivedSentFrames, after_received_bytes}
+use Rattle.avr_laws.specs.AnyTape.{after_sent_frames}
 use Rattle.avr_laws.specs.Kept.{NoneForged}
 use Rattle.avr_laws.specs.Table.{IsProgrammer, IsRow, Row, ReadsFlash, ReadsEeprom, ReadsFuse, ReadsLock, ReadsSignature, ReadsCalibration, fuse_memory}
 
@@ -61,7 +61,7 @@ abbrev pub LastIsThere : {P : Type 0} → Device P → (P → Memories) → (P �
     → Type 0
 LastIsThere {P = P} m view IsIn Reads plan passed =
     IsPart plan.part → IsReader plan.part m view IsIn Reads
-    → (p : P) (got : List ℕ) (later : List (List ℕ)) (executions : List Execution) → IsIn p
-    → ReceivedSentFrames got later (frames (sent passed)) executions
+    → (p : P) (executions : List Execution) → IsIn p
     → NoneForged m (frames (sent passed)) (heard passed) p executions []
-    → LastAgree plan.part plan.switches Reads plan.tasks (view (after_received_bytes m got later p))
+    → LastAgree plan.part plan.switches Reads plan.tasks
+    (view (after_sent_frames m (frames (sent passed)) executions p))

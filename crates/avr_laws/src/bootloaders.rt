@@ -2,7 +2,7 @@
 
 ghost use Rattle.std.specs.Prelude.{◌≡◌, [], ◌∷◌, Some};
 ghost use Rattle.std.specs.List.{concat};
-ghost use Rattle.avr_laws.specs.AnyTape.{ReceivedSentFrames, after_received_bytes};
+ghost use Rattle.avr_laws.specs.AnyTape.{ReceivedSentFrames, after_sent_frames};
 ghost use Rattle.avr_laws.specs.Kept.{NoneForged};
 ghost use Rattle.avr_laws.specs.KeptByPort.{KeepsCommandLine};
 ghost use Rattle.avr_laws.specs.Reader.{IsReader, LastIsThere};
@@ -79,6 +79,6 @@ pub fn a_run_over_a_bootloader_meets_all_premises()
     ensures starts { FitsBoot loss_part boot_before }
     ensures came { ReceivedSentFrames (concat boot_frames) [] boot_frames boot_executions }
     ensures forged { NoneForged (bootloader loss_part) boot_frames boot_replies boot_before boot_executions [] }
-    ensures left { (after_received_bytes (bootloader loss_part) (concat boot_frames) [] boot_before).memories.flash
+    ensures left { (after_sent_frames (bootloader loss_part) boot_frames boot_executions boot_before).memories.flash
         ≡ 0xFF ∷ 0xFF ∷ 0xFF ∷ 0xFF ∷ 0x56 ∷ 0x78 ∷ 0xFF ∷ 0xFF ∷ [] }
 {}

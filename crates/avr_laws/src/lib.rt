@@ -36,7 +36,10 @@ pub use any_line::{
     what_a_run_reports_is_true_on_an_emulated_chip, what_was_reported_was_true,
     whatever_becomes_of_a_session_its_first_write_operations_were_done,
 };
-pub use any_programmer::{AnyProgrammer, the_emulated_programmer_keeps_the_table};
+pub use any_programmer::{
+    AnyProgrammer, a_programmer_is_as_the_frames_that_it_executed,
+    the_emulated_programmer_keeps_the_table,
+};
 pub use bootloaders::{
     AnyReader, a_program_with_status_0_left_what_it_compared_last,
     a_run_over_a_bootloader_meets_all_premises,

@@ -1,11 +1,11 @@
 //! The promise of the program: what its contract and the laws of runs state together.
 ghost use Rattle.std.specs.Prelude.{◌≡◌, []};
-ghost use Rattle.avr_desk.specs.Handles.{IsTrueRecord};
-ghost use Rattle.avr_desk.specs.Shown.{IsNewDesk, IsTrueSince as IsTrueDesk};
+ghost use Rattle.avr_desk.specs.Shown.{IsNewDesk};
 ghost use Rattle.avr_laws.specs.BegunByPort.{BeginsCommandLine, IsBegun, IsBegunByAny, IsSparedByAny};
 ghost use Rattle.avr_laws.specs.Kept.{IsKept};
 ghost use Rattle.avr_laws.specs.KeptByAny.{IsKeptByAny};
 ghost use Rattle.avr_laws.specs.KeptByPort.{KeepsCommandLine};
+ghost use Rattle.avr_laws.specs.Recorded.{RecordsFiles, RecordsOutput};
 ghost use Rattle.avr_tool.specs.Sockets.{IsOverAddress};
 ghost use Rattle.stk_host.specs.Links.{TranscriptIsTrueSince};
 
@@ -46,10 +46,9 @@ pub fn a_program_with_status_0_kept_its_plan<
         link.new.transcript desk.old.kept desk.new.kept }
     // A new desk's record of files, and the link's transcript, are what these gave and took.
     ensures files { IsNewDesk S.FileSystem desk.old
-        → IsTrueRecord S.FileSystem S.File.Read S.File.Write S.Input.Read desk.new.system desk.new.opened
-        desk.new.hold desk.new.kept }
+        → RecordsFiles S.FileSystem S.File.Read S.File.Write S.Input.Read desk.new }
     // The messages took what the record has of them. So did standard output, if no created file is the output, too.
-    ensures shows { IsTrueDesk S.FileSystem S.File.Read S.File.Write S.Input.Read O.Write M.Write desk.old desk.new }
+    ensures shows { RecordsOutput O.Write M.Write desk.old desk.new }
     ensures streams { TranscriptIsTrueSince R.remaining R.has_timed_out W.contents link.old link.new }
 {
     run_command_line(line, network, alloc, desk, link)

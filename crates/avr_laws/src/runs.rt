@@ -42,7 +42,7 @@ ghost use Rattle.stk_emu.specs.Wire.{exchanges_of_fates};
 ghost use Rattle.stk_emu.specs.Wired.{WiredState};
 ghost use Rattle.stk_frame.specs.Cut.{body_of, frames};
 ghost use Rattle.stk_emu.specs.Exchange.{Execution, Exchange};
-ghost use Rattle.avr_laws.specs.AnyTape.{ReceivedSentFrames, after_received_bytes};
+ghost use Rattle.avr_laws.specs.AnyTape.{ReceivedSentFrames, after_sent_frames};
 ghost use Rattle.avr_laws.specs.NoForgedFrame.{ForgesNoFrame};
 ghost use Rattle.stk_host.specs.Dialog.{Event, played, bytes_sent, frames_in, outputs};
 ghost use Rattle.stk_host.specs.Transcript.{Transcript, heard, sent};
@@ -113,7 +113,7 @@ pub fn a_run_over_a_bad_link_meets_all_premises()
         × HasGeometryOf loss_part old_chip.part }
     ensures came { ReceivedSentFrames received_first (received_later ∷ []) loss_frames loss_executions }
     ensures forged { NoneForged device loss_frames loss_replies loss_programmer loss_executions [] }
-    ensures left { (after_received_bytes device received_first (received_later ∷ []) loss_programmer).chip.flash
+    ensures left { (after_sent_frames device loss_frames loss_executions loss_programmer).chip.flash
         ≡ 0x12 ∷ 0x34 ∷ 0xFF ∷ 0xFF ∷ 0xFF ∷ 0xFF ∷ 0xFF ∷ 0xFF ∷ [] }
 {}
 
@@ -136,18 +136,16 @@ pub fn an_ended_run_and_one_with_status_0_are_as_one<T: AnyProgrammer>()
         → IsProgrammer T.part T.device T.view T.IsIn T.IsReady (IsVouched T.becomes T.part)
         → (has_erase (items plan) ≡ true → erase_keeps_eeprom T.part (T.view p) ≡ true
         → ItemsKeepEeprom T.part (items plan))
-        → (got : List ℕ) (later : List (List ℕ)) (executions : List Execution) → T.IsIn p → FitsPart T.part (T.view p)
+        → (executions : List Execution) → T.IsIn p → FitsPart T.part (T.view p)
         → SuitsPlan T.becomes (on_part T.part plan) (T.view p)
-        → ReceivedSentFrames got later (frames (sent first)) executions
         → NoneForged T.device (frames (sent first)) (heard first) p executions []
-        → (over : List ℕ) (more : List (List ℕ)) (others : List Execution) → T.IsIn q
-        → T.view q ≡ T.view (after_received_bytes T.device got later p) → FitsPart T.part (T.view q)
+        → (others : List Execution) → T.IsIn q
+        → T.view q ≡ T.view (after_sent_frames T.device (frames (sent first)) executions p) → FitsPart T.part (T.view q)
         → SuitsPlan T.becomes (on_part T.part plan) (T.view q)
-        → ReceivedSentFrames over more (frames (sent second)) others
         → NoneForged T.device (frames (sent second)) (heard second) q others []
-        → (T.view (after_received_bytes T.device over more q) ≡ effects T.part (items plan) (T.view p))
+        → (T.view (after_sent_frames T.device (frames (sent second)) others q) ≡ effects T.part (items plan) (T.view p))
         × (plan.switches.no_verify ≡ false → (mem : Mem) → HoldsImage (written_to T.part mem (asked_items plan))
-        (memory_in T.part mem (T.view (after_received_bytes T.device over more q)))) }
+        (memory_in T.part mem (T.view (after_sent_frames T.device (frames (sent second)) others q)))) }
 {}
 
 /// States for the emulated programmer what [`an_ended_run_and_one_with_status_0_are_as_one`] states, for any plan and
@@ -159,18 +157,18 @@ pub fn an_ended_run_and_one_with_status_0_are_as_one_on_an_emulated_chip()
         → All (IsFitted plan.part) plan.tasks → IsSoundChip p.chip → HasGeometryOf plan.part p.chip.part
         → (has_erase (items plan) ≡ true → erase_keeps_eeprom p.chip.part (memories_of p.chip) ≡ true
         → ItemsKeepEeprom p.chip.part (items plan))
-        → (got : List ℕ) (later : List (List ℕ)) (executions : List Execution)
+        → (executions : List Execution)
         → IsBytePrefixOf (sent first) (bytes_sent (played (session plan) 1 (heard first)).events)
-        → ReceivedSentFrames got later (frames (sent first)) executions
         → ForgesNoFrame device (session plan) 1 (heard first) p executions []
-        → (over : List ℕ) (more : List (List ℕ)) (others : List Execution) → IsSoundChip q.chip
-        → q.chip.part ≡ p.chip.part → memories_of q.chip ≡ memories_of (after_received_bytes device got later p).chip
-        → IsKept plan second old now → ReceivedSentFrames over more (frames (sent second)) others
+        → (others : List Execution) → IsSoundChip q.chip → q.chip.part ≡ p.chip.part
+        → memories_of q.chip ≡ memories_of (after_sent_frames device (frames (sent first)) executions p).chip
+        → IsKept plan second old now
         → NoneForged device (frames (sent second)) (heard second) q others []
-        → (memories_of (after_received_bytes device over more q).chip
+        → (memories_of (after_sent_frames device (frames (sent second)) others q).chip
         ≡ effects p.chip.part (items plan) (memories_of p.chip))
         × (plan.switches.no_verify ≡ false → (mem : Mem) → HoldsImage (written_to p.chip.part mem (asked_items plan))
-        (memory_in p.chip.part mem (memories_of (after_received_bytes device over more q).chip))) }
+        (memory_in p.chip.part mem
+        (memories_of (after_sent_frames device (frames (sent second)) others q).chip))) }
 {}
 
 /// States that no session over the emulated link has status 0 with wrong memories or output, changes a chip without a

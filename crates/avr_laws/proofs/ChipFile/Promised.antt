@@ -1,6 +1,7 @@
 -- A run over the emulator with status 0 leaves the images that the settings and files ask for in the chip file.
 use Rattle.std.proofs.Common.{◌≡◌, ◌∙◌, ap, subst, sym, refl, List, [], ◌++◌, false, rules}
 use Rattle.avr_plan.specs.declared.settings.Settings.{Settings}
+use Rattle.avr_desk.proofs.FileUses.Uses.{files_used}
 use Rattle.avr_desk.specs.Memory.{MemDeskState, Stock, memory_state, content_of_name}
 use Rattle.avr_desk.specs.Named.{is_dash, newest}
 use Rattle.avr_desk.specs.Record.{Bytes, ChangesRecord, Record, all_files, nothing_kept}
@@ -63,8 +64,11 @@ module _ (settings : Settings) (file : Bytes) (stock : Stock) (old new : MemDesk
   written = search (rules, these_saved, expected_writes r.plan (memories_of r.chip) (sym expected.status_is ∙ zero))
 
   created : all_files r.played_desk.kept ≡ named_files files
-  created = written.created ∙ ap (λ (before : List Writing). before ++ named_files files)
-      (loaded_files settings file stock old new 0 holds r ∙ ap all_files unused)
+  created =
+      sym (files_used r.played_desk.kept)
+      ∙ (written.created
+      ∙ ap (λ (before : List Writing). before ++ named_files files)
+      (files_used r.loaded_desk.kept ∙ (loaded_files settings file stock old new 0 holds r ∙ ap all_files unused)))
 
   kept : (name : Bytes) → (name ≡ file → ⊥)
       → contents_held stock new.kept name ≡ newest name (content_of_name stock [] name) (named_files files)

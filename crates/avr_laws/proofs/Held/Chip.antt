@@ -1,11 +1,12 @@
 -- A chip file holds the chip that is read from it, place by place.
-use Rattle.std.proofs.Common.{◌≡◌, ◌+◌, subst, ℕ, List, [], ◌∷◌, length, arith, Option, Some, None, length-append, rules}
+use Rattle.std.proofs.Common.{◌≡◌, ◌+◌, ap, refl, subst, ℕ, List, [], ◌∷◌, length, arith, Option, Some, None, length-append, rules}
 use Rattle.std.proofs.lemmas.List.{length-drop, length-take-le}
 use Rattle.avr_part.specs.ChipFile.{chip_file_size, state_from_file}
 use Rattle.avr_part.specs.Part.{Part}
 use Rattle.avr_part.specs.State.{ChipState as Chip, fresh_state}
 use Rattle.avr_part.proofs.ChipFiles.{eeprom_part, flash_part, fuse_part, written_again}
-use Rattle.avr_laws.specs.ChipFound.{IsChipInFile}
+use Rattle.stk_emu.specs.Effect.{Memories, memories_of}
+use Rattle.avr_laws.specs.ChipFound.{AreInFile, IsChipInFile}
 
 abbrev pub IsReadFrom : Part → Option (List ℕ) → Chip → Type 0
 IsReadFrom part None chip = chip ≡ fresh_state part
@@ -29,3 +30,25 @@ from_file part (Some bytes) s (is, flash_size, eeprom_size, same) =
     let lock = fuse_part s.flash s.eeprom fuses (at + 3) 3 (omega arith) in
     subst (λ (held : List ℕ). IsReadFrom part (Some held) s) is
     (simp length-append (omega (arith, flash_size, eeprom_size)), search rules)
+
+-- the same of the memories alone
+abbrev pub with_memories : Part → Memories → Chip
+with_memories part m = record (fresh_state part) {
+  flash = m.flash;
+  eeprom = m.eeprom;
+  lfuse = m.lfuse;
+  hfuse = m.hfuse;
+  efuse = m.efuse;
+  lock = m.lock;
+}
+
+pub memories_in_file : (part : Part) (found : Option (List ℕ)) (chip : Chip) → IsChipInFile part found chip
+    → AreInFile part found (memories_of chip)
+memories_in_file part None chip is = ap memories_of is
+memories_in_file part (Some bytes) chip (is, flash_size, eeprom_size, same) = (is, flash_size, eeprom_size)
+
+-- and conversely, by a chip with empty buffers
+pub chip_in_file : (part : Part) (found : Option (List ℕ)) (m : Memories) → AreInFile part found m
+    → IsChipInFile part found (with_memories part m)
+chip_in_file part None m are = ap (with_memories part) are
+chip_in_file part (Some bytes) m (is, flash_size, eeprom_size) = (is, flash_size, eeprom_size, refl)

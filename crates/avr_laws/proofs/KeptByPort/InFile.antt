@@ -3,7 +3,7 @@ use Rattle.std.proofs.Common.{◌≡◌, ◌∙◌, inl, inr, ap, subst, sym, re
 use Rattle.std.proofs.lemmas.Grind.{common_steps}
 use Rattle.std.proofs.lemmas.Bool.Decides.{nat_tests}
 use Rattle.avr_plan.specs.declared.settings.Settings.{Settings}
-use Rattle.avr_desk.proofs.FileUses.Uses.{openings_append}
+use Rattle.avr_desk.proofs.FileUses.Uses.{files_used, openings_append}
 use Rattle.avr_desk.proofs.Stages.Breaks.{openings_in, openings_shown}
 use Rattle.avr_desk.specs.Record.{Bytes, DeskState, ChangesRecord, Record, all_files, all_openings, with_replaced}
 use Rattle.avr_desk.specs.OutputEvents.{OutputEvent, Opens, after_events}
@@ -25,11 +25,11 @@ use Rattle.stk_host.specs.Transcript.{heard, sent}
 use Rattle.avr_laws.proofs.AnyWire.{came_to}
 use Rattle.avr_laws.proofs.ChipFile.Found.{found, found_kept}
 use Rattle.avr_laws.proofs.ChipFile.Left.{no_silence}
-use Rattle.avr_laws.proofs.Held.Chip.{IsReadFrom, in_file}
+use Rattle.avr_laws.proofs.Held.Chip.{IsReadFrom, in_file, memories_in_file}
 use Rattle.avr_laws.proofs.Outcomes.ByTasks.{made_by_tasks, tasks_agree}
 use Rattle.avr_laws.proofs.Outcomes.Saved.{WritesFiles, expected_writes, reading_writes, these_saved}
 use Rattle.avr_laws.proofs.Outcomes.Openings.{session_opens_none}
-use Rattle.avr_laws.proofs.Plans.Given.{since, went_asked}
+use Rattle.avr_laws.proofs.Plans.Given.{opened_by_uses, since, went_asked}
 use Rattle.avr_laws.proofs.Plans.OnlyReading.{only_reads}
 use Rattle.avr_laws.specs.ChipFound.{IsChipInFile}
 use Rattle.avr_laws.specs.FilesRead.{read_whole}
@@ -156,7 +156,8 @@ module _ (settings : Settings) (file : Bytes) (old new : DeskState) (r : RunsOve
 
   saved : FilesAreSaved files old.kept r.played_desk.kept
   saved = record {
-    created = session_saved.created ∙ ap (λ (first : List Writing). first ++ named_files files) begun.0;
+    created = session_saved.created ∙ ap (λ (first : List Writing). first ++ named_files files)
+        (files_used r.loaded_desk.kept ∙ (begun.0 ∙ sym (files_used old.kept)));
     output = session_saved.output ∙ ap (λ (bytes : Bytes). bytes ++ dash_output files) begun.1;
   }
 
@@ -169,13 +170,13 @@ module _ (settings : Settings) (file : Bytes) (old new : DeskState) (r : RunsOve
     (
       r.plan,
       plan_files,
-      opened,
+      opened_by_uses old.kept new.kept (plan_files ++ read_whole file gave.0 ∷ []) opened,
       went_asked settings r.plan old r.planned_desk r.made,
       record {
-        chip = r.chip;
-        left = left;
+        before = before;
+        after = memories_of left;
         ended = r.played_desk.kept;
-        was = gave.1.1;
+        was = memories_in_file r.plan.part gave.0 r.chip gave.1.1;
         keeps = record {
           made = made_by_tasks r.plan before (memories_of left) (came.0.done zero);
           agrees = tasks_agree r.plan before (came.0.done zero).agrees;

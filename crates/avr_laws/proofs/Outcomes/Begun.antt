@@ -23,9 +23,8 @@ use Rattle.stk_host.specs.Dialog.{Dialog, Event, Played, Emitted, prepend_events
 use Rattle.stk_host.specs.Play.{IsBytePrefixOf}
 use Rattle.stk_host.specs.Tape.{Tape, on_tape}
 use Rattle.stk_host.specs.Transcript.{LinkState, Transcript, heard, sent}
-use Rattle.avr_laws.proofs.Lines.AnyTape.{through_after}
 use Rattle.avr_laws.proofs.Lines.FirstFrames.{first_go_along}
-use Rattle.avr_laws.specs.AnyTape.{ReceivedSentFrames, after_received_bytes, after_sent_frames}
+use Rattle.avr_laws.specs.AnyTape.{after_sent_frames}
 use Rattle.avr_laws.specs.Kept.{HasGeometryOf, NoneForged, on_part}
 use Rattle.avr_part.specs.Part.{Part, IsPart}
 use Rattle.avr_tool.proofs.Lines.InTurn.{frames_prefix, sends_whole}
@@ -72,18 +71,15 @@ module _ (d : Dialog OutputEvent ℕ) (bodies : SendsValidBodies d) (tape : Tape
   first_frames : take count all ≡ frames bytes
   first_frames = search (rules, some, take-append-le, take_all)
 
-  -- the exchanges that lead to the programmer that received these frames
-  pub left_along : {P : Type 0} (m : Device P) (p : P) (got : List ℕ) (later : List (List ℕ))
-      (executions : List Execution) → ReceivedSentFrames got later (frames bytes) executions
+  -- the exchanges that lead to the programmer after these frames
+  pub left_along : {P : Type 0} (m : Device P) (p : P) (executions : List Execution)
       → NoneForged m (frames bytes) tape p executions [] → (exchanges : List Exchange)
-      × ((state_after m count d p exchanges).programmer ≡ after_received_bytes m got later p)
-  left_along m p got later executions came none =
+      × ((state_after m count d p exchanges).programmer ≡ after_sent_frames m (frames bytes) executions p)
+  left_along m p executions none =
       let along = first_go_along m d 1 tape p executions [] count bodies tt fewer
       (subst (λ (fs : List (List ℕ)). NoneForged m fs tape p executions []) (sym first_frames) none) in (
         along.0,
-        along.1
-            ∙ (ap (λ (fs : List (List ℕ)). after_sent_frames m fs executions p) first_frames
-            ∙ sym (through_after m got later (frames bytes) executions p came)),
+        along.1 ∙ ap (λ (fs : List (List ℕ)). after_sent_frames m fs executions p) first_frames,
       )
 
 -- the plan's first write operations, if the chip has the plan's geometry and, without -F, its signature
@@ -93,18 +89,15 @@ pub first_made : (plan : Plan) (part : Part) (sound : IsPart part) → HasGeomet
     → IsBytePrefixOf bytes (bytes_sent (played (session plan) 1 tape).events) → (p : real.P)
     → FitsPart part (real.memories p) → HasMemories real (real.memories p) p
     → AllWork real signature_steps (real.memories p) → ActionsWork real (work (on_part part plan)) (real.memories p)
-    → (got : List ℕ) (later : List (List ℕ)) (executions : List Execution)
-    → ReceivedSentFrames got later (frames bytes) executions
+    → (executions : List Execution)
     → NoneForged real.device (frames bytes) tape p executions []
     → HasFirstOperations (on_part part plan) (real.memories p)
-    (real.memories (after_received_bytes real.device got later p))
-first_made plan part sound fits own real fitted tape bytes prefix p sizes idle signs works got later executions came
-    none =
+    (real.memories (after_sent_frames real.device (frames bytes) executions p))
+first_made plan part sound fits own real fitted tape bytes prefix p sizes idle signs works executions none =
     let its_plan = on_part part plan in
     let its_tasks = tasks_fit plan part fits fitted in
     let along = left_along (session its_plan) (session_asks its_plan sound its_tasks) tape bytes
-    (prefix.0, prefix.1 ∙ same_bytes (session_alike plan part fits own) 1 tape) real.device p got later executions came
-    none in
+    (prefix.0, prefix.1 ∙ same_bytes (session_alike plan part fits own) 1 tape) real.device p executions none in
     subst (λ (q : real.P). HasFirstOperations its_plan (real.memories p) (real.memories q)) along.1
     ((session_leaves its_plan sound real (real.memories p) sizes its_tasks signs works p along.0 idle).during
     (length (frames bytes)))
@@ -112,16 +105,16 @@ first_made plan part sound fits own real fitted tape bytes prefix p sizes idle s
 -- so on the emulated chip
 pub emulated_begun : (plan : Plan) → All (IsFitted plan.part) plan.tasks → (passed : Transcript)
     → IsBytePrefixOf (sent passed) (bytes_sent (played (session plan) 1 (heard passed)).events) → IsBegun plan passed
-emulated_begun plan fitted passed prefix p got later executions is_sound part_is came none =
+emulated_begun plan fitted passed prefix p executions is_sound part_is none =
     let part = p.chip.part in
     let sound = is_sound.part in
     let m0 = memories_of p.chip in
     subst (λ (part : Part). HasFirstOperations (on_part part plan) m0
-    (memories_of (after_received_bytes device got later p).chip)) part_is
+    (memories_of (after_sent_frames device (frames (sent passed)) executions p).chip)) part_is
     (first_made plan part sound (same_geometry plan.part part part_is)
     (λ unforced. ap (λ (part : Part). part.signature) part_is) (emulated part sound) fitted (heard passed) (sent passed)
     prefix p (sound_fits p.chip is_sound) (sound_idle p is_sound) (all_work part sound signature_steps m0)
-    (actions_work part sound (work (on_part part plan)) m0) got later executions came none)
+    (actions_work part sound (work (on_part part plan)) m0) executions none)
 
 -- ---- what is begun so, by what passed over a link
 

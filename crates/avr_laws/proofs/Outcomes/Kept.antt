@@ -32,8 +32,8 @@ use Rattle.avr_tool.proofs.Lines.InTurn.{frames_sent, sends_whole}
 use Rattle.avr_tool.proofs.OverFaultyLink.FrameSizes.{session_asks}
 use Rattle.avr_tool.proofs.Plans.Fits.{work}
 use Rattle.avr_tool.proofs.Real.{ActionsWork, AfterBeginning, AllWork, HasMemories, Real}
-use Rattle.avr_laws.specs.AnyTape.{ReceivedSentFrames, after_received_bytes}
-use Rattle.avr_laws.specs.Kept.{HasGeometryOf, IsKept, KeepsOnPart, NoneForged, on_part}
+use Rattle.avr_laws.specs.AnyTape.{after_sent_frames}
+use Rattle.avr_laws.specs.Kept.{HasGeometryOf, IsKept, Keeps, KeepsOnPart, NoneForged, on_part}
 use Rattle.avr_laws.specs.KeptByPort.{KeepsPlan}
 use Rattle.avr_laws.specs.NoForgedFrame.{ForgesNoFrame, AreNotForged, frame_of_reply}
 use Rattle.avr_laws.proofs.Lines.NoForgedFrame.{no_forged_frame_authentic}
@@ -168,9 +168,7 @@ module _ (s : Settings) (plan : Plan) (x y : Devices) (r : IsRun s x y 0)
 
       -- ---- none of the frames was forged
 
-      module _ (got : List ℕ) (later : List (List ℕ))
-          (came : ReceivedSentFrames got later (frames (sent passed)) executions)
-          (none : NoneForged real.device (frames (sent passed)) (heard passed) p executions []) where
+      module _ (none : NoneForged real.device (frames (sent passed)) (heard passed) p executions []) where
         -- none of these, as a reply to those of a dialog that were sent first
         none_of : {E R : Type 0} (d : Dialog E R) (more : List (List ℕ))
             → frames (sent passed) ≡ frames_in (played d 1 tape).events ++ more
@@ -193,26 +191,27 @@ module _ (s : Settings) (plan : Plan) (x y : Devices) (r : IsRun s x y 0)
         first_forged : ForgesNoFrame real.device handshake 1 tape p executions []
         first_forged = none_of handshake sent_first.0 first_are
 
-        pub kept_on_part : KeepsOnPart part plan before (real.memories (after_received_bytes real.device got later p))
-            x.desk.kept y.desk.kept
+        pub kept_on_part : KeepsOnPart part plan before
+            (real.memories (after_sent_frames real.device (frames (sent passed)) executions p)) x.desk.kept y.desk.kept
         kept_on_part = record {
-          keeps = promise_for s x y r plan made_is silent its_plan (are_alike first_forged) its_tasks real sound p sizes
-              idle signs works
-              got later executions
-              (subst (λ (t : Transcript). ReceivedSentFrames got later (frames (sent t)) executions) these came)
+          keeps = subst (λ (t : Transcript). Keeps its_plan before
+              (real.memories (after_sent_frames real.device (frames (sent t)) executions p)) x.desk.kept y.desk.kept)
+              (sym these)
+              (promise_for s x y r plan made_is silent its_plan (are_alike first_forged) its_tasks real sound p sizes
+              idle signs works executions
               (none_of (session its_plan) [] (frames_alike its_plan (are_alike first_forged) its_bodies
-              ∙ sym (append-nil (frames_in (run (session its_plan)).events))));
+              ∙ sym (append-nil (frames_in (run (session its_plan)).events)))));
           signature = own first_forged;
         }
 
   -- ---- so it is on the emulated chip
 
   pub kept : IsKept plan passed x.desk.kept y.desk.kept
-  kept p got later executions sound fits came none =
+  kept p executions sound fits none =
       let part = p.chip.part in
       kept_on_part part sound.part fits (emulated part sound.part) p executions (sound_fits p.chip sound)
       (sound_idle p sound) (all_work part sound.part signature_steps (memories_of p.chip))
-      (actions_work part sound.part (work (on_part part plan)) (memories_of p.chip)) got later came none
+      (actions_work part sound.part (work (on_part part plan)) (memories_of p.chip)) none
 
 -- ---- whatever a call over a link and a desk came to, as avr_tool's `run` states it
 

@@ -24,7 +24,7 @@ use Rattle.stk_host.specs.Play.{IsPartOfFirst, IsPrefixOfEvents}
 use Rattle.stk_host.specs.Tape.{Reading, Tape, answer, on_tape}
 use Rattle.stk_host.specs.Transcript.{heard}
 use Rattle.stk_host.specs.declared.fault.HostFault.{HostFault}
-use Rattle.avr_laws.proofs.Plans.Given.{desk_asked, openings_joined, since, went_asked}
+use Rattle.avr_laws.proofs.Plans.Given.{desk_asked, opened_by_uses, openings_joined, since, went_asked}
 use Rattle.avr_laws.specs.KeptByPort.{KeepsPlan}
 
 -- ---- output that opens no file
@@ -157,7 +157,8 @@ pub run_keeps : (s : Settings) (plan : Plan) (openings : List Opening) (tape : T
 run_keeps s plan openings tape old new output_events IsSo made are kept so = (
   plan,
   openings_in (planned s openings).output_events,
-  (search (rules, since old new output_events kept, openings_joined, session_opens_none)),
+  opened_by_uses old.kept new.kept (openings_in (planned s openings).output_events ++ [])
+      (search (rules, since old new output_events kept, openings_joined, session_opens_none)),
   desk_asked s openings plan made,
   so,
 )
@@ -168,5 +169,11 @@ pub session_keeps : (s : Settings) (x y : Devices) (status : â„•) (IsSo : Plan â
 session_keeps s x y status IsSo with so =
     let first = since x.desk with.between with.made.output_events with.made.kept in
     let later = session_opened with.plan (devices x.link with.between) y status with.then_is in
-    let asked = went_asked s with.plan x.desk with.between with.made in
-    (with.plan, openings_in with.made.output_events, (search (rules, first, later, append-nil)), asked, so)
+    let asked = went_asked s with.plan x.desk with.between with.made in (
+      with.plan,
+      openings_in with.made.output_events,
+      opened_by_uses x.desk.kept y.desk.kept (openings_in with.made.output_events ++ [])
+          (search (rules, first, later, append-nil)),
+      asked,
+      so,
+    )

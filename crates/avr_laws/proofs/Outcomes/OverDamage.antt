@@ -29,6 +29,7 @@ use Rattle.avr_laws.specs.AnyTape.{executions_by_arrival}
 use Rattle.avr_laws.specs.Kept.{HasGeometryOf, KeepsOnPart, NoneForged, on_part}
 use Rattle.avr_laws.specs.Damaged.{Arrived, Arrival, BringsReplies, tape_of_arrivals}
 use Rattle.avr_laws.specs.NoForgedFrame.{ForgesNoFrame}
+use Rattle.avr_laws.proofs.Lines.AnyTape.{through_after}
 use Rattle.avr_laws.proofs.Lines.Damaged.{arrived_came, brings_no_frame}
 use Rattle.avr_laws.proofs.Outcomes.Alike.{AreAlike, same_frames}
 use Rattle.stk_host.specs.ReadSteps.{signature_steps}
@@ -116,11 +117,14 @@ module _ (s : Settings) (plan : Plan) (x y : Devices) (r : IsRun s x y 0)
   pub over_damage : KeepsOnPart p.chip.part plan (memories_of p.chip)
       (memories_of (after_frames device (frames got) p).chip) x.desk.kept y.desk.kept
   over_damage =
-      kept s plan x y r made_is silent p got [] executions sound fits
+      subst (λ (q : Programmer). KeepsOnPart p.chip.part plan (memories_of p.chip) (memories_of q.chip) x.desk.kept
+      y.desk.kept)
+      (sym (through_after device got [] (frames (sent y.link.transcript)) executions p
       (arrived_came (frames (sent y.link.transcript)) through got
       (subst (All IsPiece) (sym these) (all_pieces _ (sends_whole its 1 (tape s x y r) bodies)))
-      (subst (All IsGood) (sym these) (sends_good its 1 (tape s x y r) bodies)) arrived)
+      (subst (All IsGood) (sym these) (sends_good its 1 (tape s x y r) bodies)) arrived)))
+      (kept s plan x y r made_is silent p executions sound fits
       (subst (λ (fs : List (List ℕ)). NoneForged device fs (heard y.link.transcript) p executions []) own
       (subst (λ (t : Transcript). NoneForged device (frames_in (played (session plan) 1 (tape s x y r)).events ++ [])
       (heard t) p executions []) (sym (same s x y r plan made_is silent))
-      (its_none_forged device (session plan) 1 (tape s x y r) p executions [] forges_none)))
+      (its_none_forged device (session plan) 1 (tape s x y r) p executions [] forges_none))))

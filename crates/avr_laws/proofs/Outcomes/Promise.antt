@@ -9,7 +9,7 @@ use Rattle.avr_plan.specs.Plan.{Plan, IsFitted}
 use Rattle.avr_plan.specs.Planning.{planned}
 use Rattle.avr_session.specs.Runs.{Devices}
 use Rattle.avr_session.specs.Session.{session}
-use Rattle.avr_laws.specs.AnyTape.{GoesAlongExchanges, ReceivedSentFrames, after_received_bytes, after_sent_frames, exchanges_on_tape}
+use Rattle.avr_laws.specs.AnyTape.{GoesAlongExchanges, after_sent_frames, exchanges_on_tape}
 use Rattle.avr_tool.specs.ExpectedRun.{expected_run}
 use Rattle.avr_laws.specs.NoForgedFrame.{ForgesNoFrame}
 use Rattle.stk_emu.specs.Effect.{Memories}
@@ -40,7 +40,7 @@ use Rattle.avr_tool.specs.Outcome.{IsDone, IsExpectedRun}
 use Rattle.avr_tool.proofs.OverFaultyLink.FrameSizes.{session_asks}
 use Rattle.avr_tool.proofs.Lines.InTurn.{sends_whole, frames_sent}
 use Rattle.avr_tool.proofs.Memories.VerifiedRuns.{run_written}
-use Rattle.avr_laws.proofs.Lines.AnyTape.{goes_as, through_after}
+use Rattle.avr_laws.proofs.Lines.AnyTape.{goes_as}
 use Rattle.avr_laws.proofs.Lines.NoForgedFrame.{no_forged_frame_authentic}
 
 module _ (s : Settings) (x y : Devices) (r : IsRun s x y 0) where
@@ -123,15 +123,13 @@ module _ (s : Settings) (x y : Devices) (r : IsRun s x y 0) where
       module _ (fitted : All (IsFitted other.part) other.tasks) (real : Real other.part) (sound : IsPart other.part)
           (p : real.P) (sizes : FitsPart other.part (real.memories p)) (idle : HasMemories real (real.memories p) p)
           (signs : AllWork real signature_steps (real.memories p))
-          (works : ActionsWork real (work other) (real.memories p)) (got : List ℕ)
-          (later : List (List ℕ)) (executions : List Execution)
-          (came : ReceivedSentFrames got later (frames (sent r.during)) executions)
+          (works : ActionsWork real (work other) (real.memories p)) (executions : List Execution)
           (none : ForgesNoFrame real.device (session other) 1 tape p executions []) where
         abbrev m0 : Memories
         m0 = real.memories p
 
         abbrev q : real.P
-        q = after_received_bytes real.device got later p
+        q = after_sent_frames real.device (frames (sent r.during)) executions p
 
         abbrev exchanges : List Exchange
         exchanges = exchanges_on_tape (session other) 1 tape executions
@@ -152,9 +150,8 @@ module _ (s : Settings) (x y : Devices) (r : IsRun s x y 0) where
         stands : (state_after real.device count (session other) p exchanges).programmer ≡ q
         stands =
             goes.programmer count (omega arith)
-            ∙ (ap (λ (fs : List (List ℕ)). after_sent_frames real.device fs executions p)
+            ∙ ap (λ (fs : List (List ℕ)). after_sent_frames real.device fs executions p)
             (take_all count (frames_in done_other) (omega arith) ∙ frames_are)
-            ∙ sym (through_after real.device got later (frames (sent r.during)) executions p came))
 
         ended : ((state_after real.device count (session other) p exchanges).dialog ≡ Done 0)
             × (outputs done_other ≡ outputs_after real.device count (session other) p exchanges)

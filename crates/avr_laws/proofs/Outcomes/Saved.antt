@@ -7,7 +7,7 @@ use Rattle.avr_plan.specs.declared.settings.Switches.{Switches}
 use Rattle.avr_desk.proofs.FileUses.Uses.{files_absent, files_opened, files_used}
 use Rattle.avr_desk.proofs.Stages.Outputs.{after_append}
 use Rattle.avr_desk.specs.Named.{is_dash}
-use Rattle.avr_desk.specs.Record.{Bytes, DeskState, ChangesRecord, Record, all_files}
+use Rattle.avr_desk.specs.Record.{Bytes, DeskState, ChangesRecord, Record, all_files, all_uses, files_among}
 use Rattle.avr_desk.specs.OutputEvents.{OutputEvent, Opens, PrintsLine, CreatesFile, WritesFile, WritesOutput, after, after_events}
 use Rattle.avr_desk.specs.declared.record.Open.TheVariants.{ToRead}
 use Rattle.avr_desk.specs.declared.record.Opening.{Opening}
@@ -222,10 +222,15 @@ expected_writes plan m zero =
 
 -- ---- a whole run
 
+pub created_by_uses : (files : List Writing) (old now : Record) → all_files now ≡ all_files old ++ named_files files
+    → files_among (all_uses now) ≡ files_among (all_uses old) ++ named_files files
+created_by_uses files old now is =
+    files_used now ∙ (is ∙ ap (λ (first : List Writing). first ++ named_files files) (sym (files_used old)))
+
 pub these_saved : (output_events : List OutputEvent) (files : List Writing) (old now : DeskState)
     → WritesFiles output_events files → ChangesRecord (after_events output_events) old now
     → FilesAreSaved files old.kept now.kept
 these_saved output_events files old now writes passes = record {
-  created = ap all_files passes ∙ writes.created old.kept;
+  created = created_by_uses files old.kept now.kept (ap all_files passes ∙ writes.created old.kept);
   output = ap (λ (r : Record). r.output) passes ∙ writes.output old.kept;
 }

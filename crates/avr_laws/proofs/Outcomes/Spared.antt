@@ -25,7 +25,7 @@ use Rattle.stk_host.specs.Play.{IsBytePrefixOf}
 use Rattle.stk_host.specs.ReadSteps.{signature_steps}
 use Rattle.stk_host.specs.Steps.{StepOutcome}
 use Rattle.stk_host.specs.Transcript.{Transcript, heard, sent}
-use Rattle.avr_laws.specs.AnyTape.{ReceivedSentFrames, after_received_bytes}
+use Rattle.avr_laws.specs.AnyTape.{after_sent_frames}
 use Rattle.avr_laws.specs.Kept.{NoneForged}
 use Rattle.avr_laws.proofs.Outcomes.Begun.{left_along}
 use Rattle.avr_laws.proofs.Outcomes.OwnSignature.{accepted, later_actions, no_host_fault, session_is}
@@ -105,14 +105,13 @@ pub spared : (plan : Plan) → All (IsFitted plan.part) plan.tasks → IsPart pl
     → (part : Part) (sound : IsPart part) (real : Real part) → plan.switches.force ≡ false
     → (part.signature ≡ plan.part.signature → ⊥) → (p : real.P) → FitsPart part (real.memories p)
     → HasMemories real (real.memories p) p → AllWork real signature_steps (real.memories p)
-    → (got : List ℕ) (later : List (List ℕ)) (executions : List Execution)
-    → ReceivedSentFrames got later (frames (sent passed)) executions
+    → (executions : List Execution)
     → NoneForged real.device (frames (sent passed)) (heard passed) p executions []
-    → real.memories (after_received_bytes real.device got later p) ≡ real.memories p
-spared plan fitted here passed prefix part sound real unforced other p sizes idle signs got later executions came none =
+    → real.memories (after_sent_frames real.device (frames (sent passed)) executions p) ≡ real.memories p
+spared plan fitted here passed prefix part sound real unforced other p sizes idle signs executions none =
     let count = length (frames (sent passed)) in
     let along = left_along (session plan) (session_asks plan here fitted) (heard passed) (sent passed) prefix
-    real.device p got later executions came none in
+    real.device p executions none in
     subst (λ (q : real.P). real.memories q ≡ real.memories p) along.1
     (real.has (real.memories p) (state_after real.device count (session plan) p along.0).programmer
     (session_spares plan part sound real unforced other (real.memories p) sizes signs count p along.0 idle))

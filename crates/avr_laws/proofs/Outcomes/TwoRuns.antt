@@ -22,14 +22,14 @@ use Rattle.avr_tool.specs.Written.{written_to}
 use Rattle.avr_tool.proofs.OverExchanges.{its_sizes}
 use Rattle.avr_laws.specs.Again.{ItemsKeepEeprom}
 use Rattle.avr_laws.specs.AnyLink.{ReportsOverExchanges}
-use Rattle.avr_laws.specs.AnyTape.{ReceivedSentFrames, after_received_bytes, exchanges_on_tape}
+use Rattle.avr_laws.specs.AnyTape.{after_sent_frames, exchanges_on_tape}
 use Rattle.avr_laws.specs.BegunByPort.{IsBegunByAny}
 use Rattle.avr_laws.specs.KeptByAny.{IsKeptByAny}
 use Rattle.avr_laws.specs.Sheet.{IsVouched, SuitsPlan}
 use Rattle.avr_laws.specs.Table.{IsProgrammer}
 use Rattle.avr_laws.specs.Kept.{HasGeometryOf, IsKept, KeepsOnPart, NoneForged, on_part}
 use Rattle.avr_laws.specs.NoForgedFrame.{ForgesNoFrame}
-use Rattle.avr_laws.proofs.AnyLink.{end_bytes}
+use Rattle.avr_laws.proofs.AnyLink.{end_sent}
 use Rattle.avr_laws.proofs.Outcomes.Alike.{AreAlike, same_bytes}
 use Rattle.avr_laws.proofs.Outcomes.ByTasks.{is_done}
 use Rattle.avr_laws.proofs.Outcomes.Kept.{alike_forges_none}
@@ -65,23 +65,21 @@ module _ {P : Type 0} (part : Part) (m : Device P) (view : P → Memories) (IsIn
       → IsProgrammer part m view IsIn IsReady (IsVouched becomes part)
       → (has_erase (items plan) ≡ true → erase_keeps_eeprom part (view p) ≡ true
       → ItemsKeepEeprom part (items plan))
-      → (got : List ℕ) (later : List (List ℕ)) (executions : List Execution) → IsIn p → FitsPart part (view p)
+      → (executions : List Execution) → IsIn p → FitsPart part (view p)
       → SuitsPlan becomes (on_part part plan) (view p)
-      → ReceivedSentFrames got later (frames (sent first)) executions
       → NoneForged m (frames (sent first)) (heard first) p executions []
-      → (over : List ℕ) (more : List (List ℕ)) (others : List Execution) → IsIn q
-      → view q ≡ view (after_received_bytes m got later p) → FitsPart part (view q)
+      → (others : List Execution) → IsIn q
+      → view q ≡ view (after_sent_frames m (frames (sent first)) executions p) → FitsPart part (view q)
       → SuitsPlan becomes (on_part part plan) (view q)
-      → ReceivedSentFrames over more (frames (sent second)) others
       → NoneForged m (frames (sent second)) (heard second) q others []
-      → AsOne plan part (view p) (view (after_received_bytes m over more q))
-  as_one_by_any plan first second old now p q begun kept fitted sound fits meets keeping got later executions is_in
-      sizes suits came none over more others is_in_then left sizes_then suits_then came_then none_then =
-      let there = kept sound fits meets q over more others is_in_then sizes_then suits_then came_then none_then in
-      as_one plan part sound fits fitted (view p) (view q) (view (after_received_bytes m over more q)) sizes keeping old
-      now there
+      → AsOne plan part (view p) (view (after_sent_frames m (frames (sent second)) others q))
+  as_one_by_any plan first second old now p q begun kept fitted sound fits meets keeping executions is_in sizes
+      suits none others is_in_then left sizes_then suits_then none_then =
+      let there = kept sound fits meets q others is_in_then sizes_then suits_then none_then in
+      as_one plan part sound fits fitted (view p) (view q)
+      (view (after_sent_frames m (frames (sent second)) others q)) sizes keeping old now there
       (subst (HasFirstOperations (on_part part plan) (view p)) (sym left)
-      (begun sound fits there.signature meets p got later executions is_in sizes suits came none))
+      (begun sound fits there.signature meets p executions is_in sizes suits none))
 
 -- ---- at the emulated one
 
@@ -98,30 +96,28 @@ module _ (plan : Plan) (first second : Transcript) (old now : Record) (p q : Pro
   its_tasks = tasks_fit plan p.chip.part fits fitted
 
   -- what the two runs left
-  module _ (got : List ℕ) (later : List (List ℕ)) (executions : List Execution)
+  module _ (executions : List Execution)
       (prefix : IsBytePrefixOf (sent first) (bytes_sent (played (session plan) 1 (heard first)).events))
-      (came : ReceivedSentFrames got later (frames (sent first)) executions)
       (none : ForgesNoFrame device (session plan) 1 (heard first) p executions [])
-      (over : List ℕ) (more : List (List ℕ)) (others : List Execution) (sound_then : IsSoundChip q.chip)
-      (part_then : q.chip.part ≡ p.chip.part)
-      (left : memories_of q.chip ≡ memories_of (after_received_bytes device got later p).chip)
-      (kept : IsKept plan second old now) (came_then : ReceivedSentFrames over more (frames (sent second)) others)
+      (others : List Execution) (sound_then : IsSoundChip q.chip) (part_then : q.chip.part ≡ p.chip.part)
+      (left : memories_of q.chip ≡ memories_of (after_sent_frames device (frames (sent first)) executions p).chip)
+      (kept : IsKept plan second old now)
       (none_then : NoneForged device (frames (sent second)) (heard second) q others []) where
     abbrev after : Memories
-    after = memories_of (after_received_bytes device over more q).chip
+    after = memories_of (after_sent_frames device (frames (sent second)) others q).chip
 
     there : KeepsOnPart p.chip.part plan (memories_of q.chip) after old now
     there = subst (λ (part : Part). KeepsOnPart part plan (memories_of q.chip) after old now) part_then
-        (kept q over more others sound_then (subst (HasGeometryOf plan.part) (sym part_then) fits) came_then none_then)
+        (kept q others sound_then (subst (HasGeometryOf plan.part) (sym part_then) fits) none_then)
 
     -- so the first run, too, differs in printed lines alone from one for the chip's own part
     are_alike : AreAlike (session plan) (session its_plan)
     are_alike = session_alike plan p.chip.part fits there.signature
 
-    ended : ReportsOverExchanges its_plan p (after_received_bytes device got later p)
+    ended : ReportsOverExchanges its_plan p (after_sent_frames device (frames (sent first)) executions p)
         (exchanges_on_tape (session its_plan) 1 (heard first) executions) (sent first)
         (played (session its_plan) 1 (heard first)).events
-    ended = end_bytes its_plan p sound refl its_tasks got (sent first) later executions (heard first) came
+    ended = end_sent its_plan p sound refl its_tasks (sent first) executions (heard first)
         (alike_forges_none device (session plan) (session its_plan) 1 (heard first) p executions [] are_alike none)
         (subst (IsBytePrefixOf (sent first)) (same_bytes are_alike 1 (heard first)) prefix)
 

@@ -1,9 +1,10 @@
 -- What openings gave: at files in memory, and by the record of any desk.
-use Rattle.std.proofs.Common.{◌≡◌, ◌∙◌, ap, subst, List, [], ◌∷◌, ◌++◌, append-nil, refl, rules}
+use Rattle.std.proofs.Common.{◌≡◌, ◌∙◌, sym, ap, subst, List, [], ◌∷◌, ◌++◌, append-nil, refl, rules}
 use Rattle.avr_plan.specs.declared.settings.Settings.{Settings}
+use Rattle.avr_desk.proofs.FileUses.Uses.{openings_used}
 use Rattle.avr_desk.proofs.Stages.Breaks.{openings_in, openings_shown}
 use Rattle.avr_desk.specs.Memory.{Stock, content_of_name}
-use Rattle.avr_desk.specs.Record.{DeskState, ChangesRecord, all_openings}
+use Rattle.avr_desk.specs.Record.{DeskState, ChangesRecord, Record, all_openings, all_uses, openings_among}
 use Rattle.avr_desk.specs.OutputEvents.{OutputEvent, Opens, after_events}
 use Rattle.avr_desk.specs.StageRuns.{StageCompleted}
 use Rattle.avr_desk.specs.Stage.{Produced, StageResult}
@@ -57,6 +58,12 @@ openings_joined (event ∷ first) second = openings_joined first second
 pub since : (old new : DeskState) (outputs : List OutputEvent) → ChangesRecord (after_events outputs) old new
     → all_openings new.kept ≡ all_openings old.kept ++ openings_in outputs
 since old new outputs passes = ap all_openings passes ∙ openings_shown outputs old.kept
+
+-- the same by the uses
+pub opened_by_uses : (old new : Record) (opened : List Opening) → all_openings new ≡ all_openings old ++ opened
+    → openings_among (all_uses new) ≡ openings_among (all_uses old) ++ opened
+opened_by_uses old new opened is =
+    openings_used new ∙ (is ∙ ap (λ (before : List Opening). before ++ opened) (sym (openings_used old)))
 
 -- so a plan is the one that the settings and the files that were opened ask for
 pub desk_asked : (s : Settings) (openings : List Opening) (plan : Plan)

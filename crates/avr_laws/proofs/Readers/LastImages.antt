@@ -28,12 +28,12 @@ use Rattle.avr_tool.proofs.Lines.InTurn.{frames_sent, sends_whole}
 use Rattle.avr_tool.proofs.OverFaultyLink.FrameSizes.{session_asks}
 use Rattle.avr_tool.proofs.Plans.Fits.{AllFitActions, FitsAction, work, work_fits}
 use Rattle.avr_tool.specs.Headline.{IsRun, IsStopped}
-use Rattle.avr_laws.proofs.Lines.AnyTape.{goes_as, through_after}
+use Rattle.avr_laws.proofs.Lines.AnyTape.{goes_as}
 use Rattle.avr_laws.proofs.Lines.NoForgedFrame.{no_forged_frame_authentic}
 use Rattle.avr_laws.proofs.Outcomes.Kept.{none_forged}
 use Rattle.avr_laws.proofs.Outcomes.Promise.{keeps_plan, left_over, made, played_is, same, sent_is, tape as over_tape}
 use Rattle.avr_laws.proofs.Plans.Fitted.{plan_fitted}
-use Rattle.avr_laws.specs.AnyTape.{GoesAlongExchanges, ReceivedSentFrames, after_received_bytes, after_sent_frames, exchanges_on_tape}
+use Rattle.avr_laws.specs.AnyTape.{GoesAlongExchanges, after_sent_frames, exchanges_on_tape}
 use Rattle.avr_laws.specs.Kept.{NoneForged}
 use Rattle.avr_laws.specs.KeptByPort.{KeepsPlan}
 use Rattle.avr_laws.specs.NoForgedFrame.{ForgesNoFrame}
@@ -97,9 +97,8 @@ module _ (plan : Plan) (Reads : Mem → Type 0) (x : Memories)
 module _ (s : Settings) (x y : Devices) (r : IsRun s x y 0) (plan : Plan)
     (made_is : (planned s r.openings).stage_outcome ≡ Produced plan) (silent : x.link.transcript ≡ [])
     {P : Type 0} (sound : IsPart plan.part) (m : Device P) (view : P → Memories) (IsIn : P → Type 0)
-    (Reads : Mem → Type 0) (t : IsReader plan.part m view IsIn Reads) (p : P) (got : List ℕ) (later : List (List ℕ))
-    (executions : List Execution) (i : IsIn p)
-    (came : ReceivedSentFrames got later (frames (sent y.link.transcript)) executions)
+    (Reads : Mem → Type 0) (t : IsReader plan.part m view IsIn Reads) (p : P) (executions : List Execution)
+    (i : IsIn p)
     (none : NoneForged m (frames (sent y.link.transcript)) (heard y.link.transcript) p executions []) where
   abbrev events : List (Event OutputEvent)
   events = (played (session plan) 1 (over_tape s x y r)).events
@@ -135,13 +134,13 @@ module _ (s : Settings) (x y : Devices) (r : IsRun s x y 0) (plan : Plan)
   goes = goes_as m (session plan) 1 (over_tape s x y r) p executions bodies
       (no_forged_frame_authentic m (session plan) 1 (over_tape s x y r) p executions [] tt forges_none)
 
-  stands : (state_after m count (session plan) p exchanges).programmer ≡ after_received_bytes m got later p
+  stands : (state_after m count (session plan) p exchanges).programmer
+      ≡ after_sent_frames m (frames (sent y.link.transcript)) executions p
   stands =
       goes.programmer count (omega arith)
-      ∙ (ap (λ (fs : List (List ℕ)). after_sent_frames m fs executions p)
+      ∙ ap (λ (fs : List (List ℕ)). after_sent_frames m fs executions p)
       (take_all count (frames_in events) (omega arith)
       ∙ (frames_are ∙ sym (ap (λ (passed : Transcript). frames (sent passed)) these)))
-      ∙ sym (through_after m got later (frames (sent y.link.transcript)) executions p came))
 
   ended : (state_after m count (session plan) p exchanges).dialog ≡ Done 0
   ended = (goes.outcome 0 r.next (left_over s x y r)
@@ -149,7 +148,8 @@ module _ (s : Settings) (x y : Devices) (r : IsRun s x y 0) (plan : Plan)
 
   found : (done rest : List Action) (mem : Mem) (image : Image) → work plan ≡ done ++ (CompareImage mem image ∷ rest)
       → Reads mem → Each (ReadsAction Reads) rest
-      → HoldsImage image (memory_in plan.part mem (view (after_received_bytes m got later p)))
+      → HoldsImage image (memory_in plan.part mem
+      (view (after_sent_frames m (frames (sent y.link.transcript)) executions p)))
   found done rest mem image are reads others =
       subst (λ (q : P). HoldsImage image (memory_in plan.part mem (view q))) stands
       (session_agrees plan sound m view IsIn Reads t done (CompareImage mem image ∷ rest) are
@@ -157,8 +157,9 @@ module _ (s : Settings) (x y : Devices) (r : IsRun s x y 0) (plan : Plan)
       (subst (λ (all : List Action). AllFitActions plan.part all) are (work_fits plan fitted)))
       (reads, others) p i exchanges count ended).0
 
-  pub last_there : LastAgree plan.part plan.switches Reads plan.tasks (view (after_received_bytes m got later p))
-  last_there = last_agree plan Reads (view (after_received_bytes m got later p)) found
+  pub last_there : LastAgree plan.part plan.switches Reads plan.tasks
+      (view (after_sent_frames m (frames (sent y.link.transcript)) executions p))
+  last_there = last_agree plan Reads (view (after_sent_frames m (frames (sent y.link.transcript)) executions p)) found
 
 -- ---- whatever a call over a link and a desk came to
 
@@ -171,7 +172,7 @@ promised_last m view IsIn Reads s x y status (inl ran) zero silent =
     let plan : Plan = (made s x y r).0 in
     let made_is : (planned s r.openings).stage_outcome ≡ Produced plan = (made s x y r).1 in
     keeps_plan s x y r plan made_is silent (λ plan. LastIsThere m view IsIn Reads plan y.link.transcript)
-    (λ sound t p got later executions i came none.
-    last_there s x y r plan made_is silent sound m view IsIn Reads t p got later executions i came none)
+    (λ sound t p executions i none.
+    last_there s x y r plan made_is silent sound m view IsIn Reads t p executions i none)
 promised_last m view IsIn Reads s x y status (inr stopped) zero silent =
     absurd (let one = stopped.1 in omega (arith, one, zero))

@@ -31,7 +31,6 @@ use Rattle.avr_laws.proofs.Rows.Kept.{programmer}
 use Rattle.avr_laws.proofs.Rows.OtherSignature.{m328}
 use Rattle.avr_laws.proofs.Rows.PerfectLine.{perfect_transcript}
 use Rattle.avr_laws.proofs.Rows.Promise.{chip_fits_part, chip_is_sound, is_in, is_part, rows_kept}
-use Rattle.avr_laws.specs.AnyTape.{ReceivedSentFrames}
 use Rattle.avr_laws.specs.BegunByPort.{IsBegun, IsBegunByAny, IsSparedByAny, BeginsPlanAt}
 use Rattle.avr_laws.specs.EmulatedStates.{HasEmptyBuffers, HasPart, chip_memories}
 use Rattle.avr_laws.specs.Kept.{NoneForged}
@@ -71,10 +70,6 @@ fuse_begun_by_any =
 abbrev executions : List Execution
 executions = Executed ∷ Executed ∷ Executed ∷ Executed ∷ Executed ∷ Executed ∷ Executed ∷ Executed ∷ []
 
-came : ReceivedSentFrames (sent (passed 0x62)) [] (frames (sent (passed 0x62))) executions
-unfolding session opening handshake operation closing play attempts_or_fault attempt exchange answer
-came = record { good = refl }
-
 none_forged : NoneForged device (frames (sent (passed 0x62))) (heard (passed 0x62)) programmer executions []
 unfolding session opening handshake operation closing play attempts_or_fault attempt exchange answer
 none_forged = by_test device (frames (sent (passed 0x62))) (heard (passed 0x62)) programmer executions [] refl
@@ -88,14 +83,14 @@ first_of (suc (suc count)) is = omega (arith, is)
 pub another_byte_begun : IsBegun (writing 0xE2) (passed 0x62) → ⊥
 unfolding session opening handshake operation closing play attempts_or_fault attempt exchange answer
 another_byte_begun begun =
-    let made = begun programmer (sent (passed 0x62)) [] executions chip_is_sound refl came none_forged in
+    let made = begun programmer executions chip_is_sound refl none_forged in
     first_of made.count (ap (λ (m : Memories). m.lfuse) made.memories)
 
 pub another_byte_by_any : Any (writing 0xE2) (passed 0x62) → ⊥
 unfolding session opening handshake operation closing play attempts_or_fault attempt exchange answer
 another_byte_by_any begun =
-    let made = begun is_part refl (λ unforced. refl) rows_kept programmer (sent (passed 0x62)) [] executions is_in
-    chip_fits_part ((λ written. refl), tt) came none_forged in
+    let made = begun is_part refl (λ unforced. refl) rows_kept programmer executions is_in chip_fits_part
+    ((λ written. refl), tt) none_forged in
     first_of made.count (ap (λ (m : Memories). m.lfuse) made.memories)
 
 -- ---- a chip of another signature, without -F
@@ -132,8 +127,8 @@ another same = let last : 0x0F ≡ 0x14 = ap (λ (bytes : Bytes). slice_index by
 pub fuse_not_spared : Spares (of_m328 0xE2) (passed 0x62) → ⊥
 unfolding session opening handshake operation closing play attempts_or_fault attempt exchange answer
 fuse_not_spared spares =
-    let same = spares m328_is_part is_part refl another rows_kept programmer (sent (passed 0x62)) [] executions is_in
-    chip_fits_part came none_forged in
+    let same = spares m328_is_part is_part refl another rows_kept programmer executions is_in chip_fits_part
+    none_forged in
     let clash : 0x62 ≡ 0xFF = ap (λ (m : Memories). m.lfuse) same in
     omega (arith, clash)
 

@@ -25,7 +25,7 @@ use Rattle.stk_host.specs.Operations.{handshake, opening, closing, operation}
 use Rattle.stk_host.specs.Steps.{exchange, attempt, attempts_or_fault, play}
 use Rattle.stk_host.specs.Tape.{answer}
 use Rattle.avr_laws.proofs.Lines.NoneForgedTest.{by_test}
-use Rattle.avr_laws.specs.AnyTape.{ReceivedSentFrames, after_received_bytes}
+use Rattle.avr_laws.specs.AnyTape.{ReceivedSentFrames, after_sent_frames}
 use Rattle.avr_laws.specs.Kept.{NoneForged}
 use Rattle.avr_laws.specs.WorkedLoss.{loss_part}
 use Rattle.avr_laws.specs.Reader.{IsReader, ReadsOneOf}
@@ -177,7 +177,7 @@ pub none_is_forged : NoneForged (bootloader loss_part) boot_frames boot_replies 
 unfolding answer
 none_is_forged = by_test (bootloader loss_part) boot_frames boot_replies boot_before boot_executions [] refl
 
-pub flash_is : (after_received_bytes (bootloader loss_part) (concat boot_frames) [] boot_before).memories.flash
+pub flash_is : (after_sent_frames (bootloader loss_part) boot_frames boot_executions boot_before).memories.flash
     ≡ 0xFF ∷ 0xFF ∷ 0xFF ∷ 0xFF ∷ 0x56 ∷ 0x78 ∷ 0xFF ∷ 0xFF ∷ []
 flash_is = refl
 

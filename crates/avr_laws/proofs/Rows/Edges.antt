@@ -4,7 +4,7 @@ use Rattle.std.proofs.lemmas.List.{append_cancel_left}
 use Rattle.std.specs.Prelude.{codes, replicate, slice_index}
 use Rattle.avr_plan.specs.declared.update.Format.TheVariants.{Raw}
 use Rattle.avr_plan.specs.declared.planned.Task.{Task}
-use Rattle.avr_desk.specs.Record.{Bytes, Record, all_openings}
+use Rattle.avr_desk.specs.Record.{Bytes, Record, all_uses, openings_among}
 use Rattle.avr_desk.specs.declared.record.Opening.{Opening}
 use Rattle.avr_image.specs.Image.{from_zero}
 use Rattle.avr_part.specs.BuiltIn.{m328p}
@@ -12,7 +12,7 @@ use Rattle.avr_part.specs.Part.{Part}
 use Rattle.avr_plan.specs.Plan.{Plan}
 use Rattle.stk_emu.specs.Effect.{Memories}
 use Rattle.stk_frame.specs.Frame.{frame}
-use Rattle.avr_laws.proofs.Held.Chip.{from_file}
+use Rattle.avr_laws.proofs.Held.Chip.{chip_in_file, from_file, with_memories}
 use Rattle.avr_laws.proofs.Rows.OtherSignature.{m328}
 use Rattle.avr_laws.specs.AskedPlan.{AreTasksOf, HasImage, WasOpened}
 use Rattle.avr_laws.specs.Kept.{KeepsOnPart}
@@ -65,15 +65,16 @@ read_before IsSo keeps =
 -- ---- one more file was opened than the plan asks for
 
 pub another_opening : (IsSo : Plan → Type 0) (old new : Record) (more : Opening)
-    → all_openings new ≡ all_openings old ++ more ∷ [] → KeepsPlan worked_settings old new [] IsSo → ⊥
+    → openings_among (all_uses new) ≡ openings_among (all_uses old) ++ more ∷ []
+    → KeepsPlan worked_settings old new [] IsSo → ⊥
 another_opening IsSo old new more is keeps =
     let asked = keeps.3 in
     let first : asked.first ≡ [] = asked.are_parts.1 in
     let rest : asked.rest ≡ [] = search rules in
     let none : keeps.1 ≡ [] = asked.in_order ∙ (ap (λ (os : List Opening). os ++ asked.rest) first ∙ rest) in
-    let same : all_openings old ++ more ∷ [] ≡ all_openings old ++ [] =
-    sym is ∙ (keeps.2 ∙ ap (λ (os : List Opening). all_openings old ++ (os ++ [])) none) in
-    cc (append_cancel_left (all_openings old) (more ∷ []) [] same)
+    let same : openings_among (all_uses old) ++ more ∷ [] ≡ openings_among (all_uses old) ++ [] =
+    sym is ∙ (keeps.2 ∙ ap (λ (os : List Opening). openings_among (all_uses old) ++ (os ++ [])) none) in
+    cc (append_cancel_left (openings_among (all_uses old)) (more ∷ []) [] same)
 
 -- ---- a file of 4,194,304 bytes gives an image, and a longer one doesn't
 
@@ -93,7 +94,8 @@ plan = record { part = m328p; tasks = []; switches = worked_settings.switches }
 
 pub another_part : (name : Bytes) (old new : Record) → IsKeptInFile name (Some old_file) plan old new → ⊥
 another_part name old new kept =
-    let size = (from_file m328p (Some old_file) kept.chip kept.was).0 in omega (arith, size)
+    let found = chip_in_file m328p (Some old_file) kept.before kept.was in
+    let size = (from_file m328p (Some old_file) (with_memories m328p kept.before) found).0 in omega (arith, size)
 
 -- ---- another signature, without -F, also if the run is dry
 

@@ -3,7 +3,7 @@ use Rattle.std.proofs.Common.{◌≡◌, ◌∙◌, ap, sym, arith, ℕ, Bool, f
 use Rattle.std.proofs.lemmas.Bool.{false≢true}
 use Rattle.std.specs.Prelude.{codes, slice_index}
 use Rattle.avr_plan.specs.declared.update.Format.TheVariants.{Raw}
-use Rattle.avr_desk.specs.Record.{Bytes, Record, all_files}
+use Rattle.avr_desk.specs.Record.{Bytes, Record, all_uses, files_among}
 use Rattle.avr_desk.specs.declared.record.Opening.{Opening}
 use Rattle.avr_desk.specs.declared.record.Opening.TheVariants.{Found}
 use Rattle.avr_desk.specs.declared.record.Writing.{Writing}
@@ -66,9 +66,9 @@ abbrev first_byte : List Writing → ℕ
 first_byte [] = 0
 first_byte (file ∷ files) = slice_index file.bytes 0
 
-pub another_text : (m : Memories) (old now : Record) (byte : ℕ) → (m.lfuse ≡ byte → ⊥) → all_files old ≡ []
+pub another_text : (m : Memories) (old now : Record) (byte : ℕ) → (m.lfuse ≡ byte → ⊥) → files_among (all_uses old) ≡ []
     → FilesAreSaved (saved_files reading_plan m) old now
-    → all_files now ≡ record { name = codes "fuse"; bytes = byte ∷ [] } ∷ [] → ⊥
+    → files_among (all_uses now) ≡ record { name = codes "fuse"; bytes = byte ∷ [] } ∷ [] → ⊥
 another_text m old now byte differs empty saved is =
     let same : record { name = codes "fuse"; bytes = byte ∷ [] } ∷ []
     ≡ [] ++ named_files (record { name = codes "fuse"; bytes = m.lfuse ∷ [] } ∷ []) =
@@ -76,8 +76,8 @@ another_text m old now byte differs empty saved is =
     ∙ ap named_files (the_file_saved m))) in
     differs (sym (ap first_byte same))
 
-pub no_file : (m : Memories) (old now : Record) → all_files old ≡ []
-    → FilesAreSaved (saved_files reading_plan m) old now → all_files now ≡ [] → ⊥
+pub no_file : (m : Memories) (old now : Record) → files_among (all_uses old) ≡ []
+    → FilesAreSaved (saved_files reading_plan m) old now → files_among (all_uses now) ≡ [] → ⊥
 no_file m old now empty saved is =
     let same : [] ≡ [] ++ named_files (record { name = codes "fuse"; bytes = m.lfuse ∷ [] } ∷ []) =
     sym is ∙ (saved.created ∙ (ap (λ (files : List Writing). files ++ named_files (saved_files reading_plan m)) empty

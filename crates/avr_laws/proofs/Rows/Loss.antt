@@ -12,7 +12,7 @@ use Rattle.stk_host.specs.Operations.{handshake, opening, closing, operation}
 use Rattle.stk_host.specs.Steps.{exchange, attempt, attempts_or_fault, play}
 use Rattle.stk_host.specs.Tape.{answer}
 use Rattle.avr_laws.proofs.Lines.NoneForgedTest.{by_test}
-use Rattle.avr_laws.specs.AnyTape.{ReceivedSentFrames, after_received_bytes}
+use Rattle.avr_laws.specs.AnyTape.{ReceivedSentFrames, after_sent_frames}
 use Rattle.avr_laws.specs.AskedPlan.{AreTasksOf, WasOpened}
 use Rattle.avr_laws.specs.ChipFound.{IsChipInFile}
 use Rattle.avr_laws.specs.Kept.{NoneForged}
@@ -42,7 +42,7 @@ chip_is_sound = search (rules, is_part, All-cons, All-nil)
 pub chip_is_in_file : IsChipInFile loss_part (Some old_file) old_chip
 chip_is_in_file = (refl, refl, refl, refl)
 
-pub flash_is : (after_received_bytes device received_first (received_later ∷ []) loss_programmer).chip.flash
+pub flash_is : (after_sent_frames device loss_frames loss_executions loss_programmer).chip.flash
     ≡ 0x12 ∷ 0x34 ∷ 0xFF ∷ 0xFF ∷ 0xFF ∷ 0xFF ∷ 0xFF ∷ 0xFF ∷ []
 flash_is = refl
 

@@ -4,7 +4,7 @@ use Rattle.std.proofs.Common.{◌≡◌, ◌≢◌, ◌∙◌, ap, sym, arith, i
 use Rattle.std.proofs.lemmas.Bool.{true≢false}
 use Rattle.std.specs.Prelude.{codes, slice_index}
 use Rattle.avr_plan.specs.declared.update.Format.TheVariants.{Raw}
-use Rattle.avr_desk.specs.Record.{Bytes, Record, all_files}
+use Rattle.avr_desk.specs.Record.{Bytes, Record, all_uses, files_among}
 use Rattle.avr_desk.specs.declared.record.Writing.{Writing}
 use Rattle.avr_part.specs.BuiltIn.{m328p, t85}
 use Rattle.avr_part.specs.Part.{Part}
@@ -149,9 +149,9 @@ abbrev last_byte : List Writing → ℕ
 last_byte [] = 0
 last_byte (file ∷ files) = slice_index file.bytes 2
 
-pub another_signature : (m : Memories) (old now : Record) → all_files old ≡ []
+pub another_signature : (m : Memories) (old now : Record) → files_among (all_uses old) ≡ []
     → FilesAreSaved (saved_files (on_part m328p reading) m) old now
-    → all_files now ≡ record { name = codes "found"; bytes = m328.signature } ∷ [] → ⊥
+    → files_among (all_uses now) ≡ record { name = codes "found"; bytes = m328.signature } ∷ [] → ⊥
 another_signature m old now empty saved is =
     let same : record { name = codes "found"; bytes = m328.signature } ∷ []
     ≡ [] ++ named_files (record { name = codes "found"; bytes = m328p.signature } ∷ []) =

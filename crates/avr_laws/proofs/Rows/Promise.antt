@@ -19,7 +19,7 @@ use Rattle.avr_plan.specs.declared.settings.Settings.{Settings}
 use Rattle.avr_plan.specs.declared.settings.SettingsFault.{SettingsFault}
 use Rattle.avr_plan.specs.declared.update.Format.TheVariants.{Immediate}
 use Rattle.avr_plan.specs.declared.update.Op.TheVariants as op
-use Rattle.avr_desk.specs.Handles.{IsTrueRecord, IsTrueUse}
+use Rattle.avr_desk.specs.Handles.{IsTrueUse}
 use Rattle.avr_desk.specs.Journal.{SystemCalls, Opens, calls_of_record, no_calls}
 use Rattle.avr_desk.specs.OutputEvents.{after_events}
 use Rattle.avr_desk.specs.Record.{Bytes, DeskState, Record, all_openings, nothing_kept, showing, with_absent, with_replaced}
@@ -32,7 +32,6 @@ use Rattle.avr_desk.specs.declared.record.Opening.TheVariants.{Absent, Found}
 use Rattle.avr_desk.specs.declared.record.Writing.{Writing}
 use Rattle.avr_desk.specs.declared.system.OpenFile.TheVariants.{Nothing}
 use Rattle.avr_part.specs.BuiltIn.{built_in_parts, has_id, m328p}
-use Rattle.avr_part.specs.ChipFile.{chip_file}
 use Rattle.avr_part.specs.Part.{Part, IsPart}
 use Rattle.avr_part.specs.Sound.{IsSoundChip}
 use Rattle.avr_part.specs.State.{ChipState as Chip, fresh_state}
@@ -69,14 +68,14 @@ use Rattle.avr_laws.proofs.Asked.Settings.{serves_or_asks, settings_are, setting
 use Rattle.avr_laws.proofs.KnownFiles.LongerTape.{run_more}
 use Rattle.avr_laws.proofs.Lines.Damaged.{brings_no_frame}
 use Rattle.avr_laws.proofs.Outcomes.Kept.{its_none_forged, kept}
-use Rattle.avr_laws.proofs.Held.Chip.{from_file}
+use Rattle.avr_laws.proofs.Held.Chip.{chip_in_file, from_file, with_memories}
 use Rattle.avr_laws.proofs.Rows.Held.{one_value}
-use Rattle.avr_laws.proofs.Rows.Kept.{executed, programmer, reading_plan, worked_came, worked_forges_none}
+use Rattle.avr_laws.proofs.Rows.Kept.{executed, programmer, reading_plan, worked_forges_none}
 use Rattle.avr_laws.proofs.Rows.PerfectLine.{perfect_transcript, in_turn}
-use Rattle.avr_laws.specs.AnyTape.{ReceivedSentFrames, after_received_bytes}
+use Rattle.avr_laws.specs.AnyTape.{after_sent_frames}
 use Rattle.avr_laws.specs.AskedPlan.{GivesText, IsAsked, WasOpened}
 use Rattle.avr_laws.specs.AskedSettings.{AsksFor, AsksToServe}
-use Rattle.avr_laws.specs.ChipFound.{IsChipInFile}
+use Rattle.avr_laws.specs.ChipFound.{AreInFile, file_of_memories}
 use Rattle.avr_laws.specs.Damaged.{Arrival, FrameArrives, BringsReplies, tape_of_arrivals}
 use Rattle.avr_laws.specs.Kept.{FilesAreSaved, HasGeometryOf, IsKept, Keeps, KeepsOnPart, NoneForged, PlanAgrees, saved_files}
 use Rattle.avr_laws.specs.EmulatedStates.{HasEmptyBuffers, HasPart, chip_memories}
@@ -88,6 +87,7 @@ use Rattle.avr_laws.proofs.Table.Emulated.{emulated_meets}
 use Rattle.avr_laws.proofs.Table.Kept.{kept_by_any}
 use Rattle.avr_tool.proofs.Given.FirstSteps.{sound_fits, sound_idle}
 use Rattle.avr_laws.specs.KeptByPort.{ConnectionState, IsKeptInFile, KeepsCommandLine, KeepsPlan, KeepsPlanAt}
+use Rattle.avr_laws.specs.Recorded.{RecordsFiles, RecordsOutput}
 use Rattle.avr_laws.specs.Worked.{fuse_plan, worked_frames, worked_replies, worked_settings}
 use Rattle.avr_laws.proofs.Rows.Served.{begun}
 
@@ -155,10 +155,6 @@ fresh_is_sound part is =
 pub chip_is_sound : IsSoundChip (fresh_state m328p)
 chip_is_sound = fresh_is_sound m328p is_part
 
-came : ReceivedSentFrames (sent passed) [] (frames (sent passed)) executions
-unfolding session opening handshake operation closing play attempts_or_fault attempt exchange answer
-came = record { good = refl }
-
 -- the replies, one after the other
 abbrev arrivals : {E R : Type 0} → Dialog E R → ℕ → Programmer → List Arrival
 arrivals (Done r) n p = []
@@ -191,9 +187,8 @@ none_forged =
 
 -- all at once
 pub premises_hold : IsSoundChip programmer.chip × HasGeometryOf plan.part programmer.chip.part
-    × ReceivedSentFrames (sent passed) [] (frames (sent passed)) executions
     × NoneForged device (frames (sent passed)) (heard passed) programmer executions []
-premises_hold = (chip_is_sound, refl, came, none_forged)
+premises_hold = (chip_is_sound, refl, none_forged)
 
 -- ---- so does what it kept
 
@@ -201,10 +196,10 @@ abbrev fresh : Memories
 fresh = memories_of (fresh_state m328p)
 
 abbrev left : Chip
-left = (after_received_bytes device (sent passed) [] programmer).chip
+left = (after_sent_frames device (frames (sent passed)) executions programmer).chip
 
 pub kept_on_part : KeepsOnPart m328p plan fresh (memories_of left) nothing_kept reported.kept
-kept_on_part = run_is_kept programmer (sent passed) [] executions chip_is_sound refl came none_forged
+kept_on_part = run_is_kept programmer executions chip_is_sound refl none_forged
 
 pub plan_kept : Keeps plan fresh (memories_of left) nothing_kept reported.kept
 plan_kept = kept_on_part.keeps
@@ -229,8 +224,8 @@ plan_unkept old now keeps =
 pub write_unsent : (old now : Record) → IsKept plan (Sent worked_frames ∷ Got worked_replies ∷ []) old now → ⊥
 write_unsent old now kept =
     let keeps : KeepsOnPart m328p plan fresh
-    (memories_of (after_received_bytes device worked_frames [] programmer).chip) old now =
-    kept programmer worked_frames [] executed chip_is_sound refl worked_came worked_forges_none in
+    (memories_of (after_sent_frames device (frames worked_frames) executed programmer).chip) old now =
+    kept programmer executed chip_is_sound refl worked_forges_none in
     let byte : 255 ≡ 0xE2 = ap (λ (m : Memories). m.lfuse) keeps.keeps.made in omega (arith, byte)
 
 -- ---- by the table
@@ -267,17 +262,15 @@ plan_suits = ((λ written. refl), tt)
 
 pub kept_by_table : KeepsOnPart m328p plan fresh (memories_of left) nothing_kept reported.kept
 kept_by_table =
-    run_is_kept_by_any is_part refl rows_kept programmer (sent passed) [] executions is_in
-    chip_fits_part plan_suits came none_forged
+    run_is_kept_by_any is_part refl rows_kept programmer executions is_in chip_fits_part plan_suits none_forged
 
 pub write_unsent_to_any : (old now : Record)
     → IsKeptByAny m328p device chip_memories (HasPart m328p) (HasEmptyBuffers m328p) whole plan
     (Sent worked_frames ∷ Got worked_replies ∷ []) old now → ⊥
 write_unsent_to_any old now kept =
     let keeps : KeepsOnPart m328p plan fresh
-    (memories_of (after_received_bytes device worked_frames [] programmer).chip) old now =
-    kept is_part refl rows_kept programmer worked_frames [] executed is_in chip_fits_part plan_suits worked_came
-    worked_forges_none in
+    (memories_of (after_sent_frames device (frames worked_frames) executed programmer).chip) old now =
+    kept is_part refl rows_kept programmer executed is_in chip_fits_part plan_suits worked_forges_none in
     let byte : 255 ≡ 0xE2 = ap (λ (m : Memories). m.lfuse) keeps.keeps.made in omega (arith, byte)
 
 -- a plan that compares the calibration
@@ -317,11 +310,14 @@ plan_asked Gives = record {
   switches = refl;
 }
 
-pub no_chip_file : IsChipInFile m328p None (fresh_state m328p)
+pub no_chip_file : AreInFile m328p None fresh
 no_chip_file = refl
 
-pub short_chip_file : (chip : Chip) → IsChipInFile m328p (Some []) chip → ⊥
-short_chip_file chip is = let size : 0 ≡ 33796 = (from_file m328p (Some []) chip is).0 in omega (arith, size)
+pub short_chip_file : (m : Memories) → AreInFile m328p (Some []) m → ⊥
+short_chip_file m are =
+    let size : 0 ≡ 33796 =
+    (from_file m328p (Some []) (with_memories m328p m) (chip_in_file m328p (Some []) m are)).0 in
+    omega (arith, size)
 
 -- ---- over the emulator, without a chip file
 
@@ -332,12 +328,12 @@ abbrev loaded : Record
 loaded = with_absent file nothing_kept
 
 abbrev saved : Record
-saved = with_replaced file (chip_file left) loaded
+saved = with_replaced file (file_of_memories (memories_of left)) loaded
 
 pub chip_saved : IsKeptInFile file None plan nothing_kept saved
 chip_saved = record {
-  chip = fresh_state m328p;
-  left = left;
+  before = fresh;
+  after = memories_of left;
   ended = loaded;
   was = no_chip_file;
   keeps = record {
@@ -356,7 +352,7 @@ not_none (y ∷ xs) x e = cc
 pub chip_unsaved : (name : Bytes) (found : Option Bytes) (other : Plan) (old new : Record) → new.tried ≡ []
     → IsKeptInFile name found other old new → ⊥
 chip_unsaved name found other old new none kept =
-    not_none kept.ended.tried (record { name = name; bytes = chip_file kept.left })
+    not_none kept.ended.tried (record { name = name; bytes = file_of_memories kept.after })
     (sym (ap (λ (r : Record). r.tried) kept.saved) ∙ none)
 
 -- ---- streams: a side of a socket, or a stream, as the bytes that it will give and those that it took
@@ -491,19 +487,38 @@ made = Created (record { name = file; bytes = 0 ∷ [] })
 abbrev uses : Record
 uses = record nothing_kept { uses = absent ∷ made ∷ [] }
 
-pub record_true : IsTrueRecord system reads writes reads (calls_of_record uses) Nothing None uses
+pub record_true : RecordsFiles system reads writes reads
+    (record unused { system = calls_of_record uses; kept = uses })
 record_true =
-    search (
-      rules,
-      All-cons (IsTrueUse system reads writes reads),
-      All-nil (IsTrueUse system reads writes reads),
-      All-nil system.denies,
-    )
+    search (rules, All-cons (IsTrueUse system reads writes reads), All-nil (IsTrueUse system reads writes reads))
 
-pub call_unrecorded : IsTrueRecord system reads writes reads (record { calls = Opens file ∷ []; holds = 0 }) Nothing
-    None nothing_kept → ⊥
+pub call_unrecorded : RecordsFiles system reads writes reads
+    (record unused { system = record { calls = Opens file ∷ []; holds = 0 } }) → ⊥
 call_unrecorded truly =
     let none : 0 ≡ 1 = ap (λ (done : SystemCalls). length done.calls) truly.has_done in omega (arith, none)
+
+-- ---- messages: a line that their writer took, and one that it didn't
+
+abbrev printing : Bytes → Bytes → Shown SystemCalls (List ℕ) (List ℕ) (List ℕ) Bytes Bytes
+printing taken recorded = record {
+  system = no_calls;
+  output = [];
+  messages = taken;
+  failures = 0;
+  message_failures = 0;
+  last_error = None;
+  opened = Nothing;
+  hold = None;
+  kept = record nothing_kept { messages = recorded };
+}
+
+pub line_taken : (line : Bytes) → RecordsOutput writes writes (printing [] []) (printing line line)
+line_taken line = record { messages = (line, refl, refl); output = ([], refl, λ apart none. refl) }
+
+pub line_untaken : RecordsOutput writes writes (printing [] []) (printing [] (0 ∷ [])) → ⊥
+line_untaken shown =
+    let none : 1 ≡ 0 = ap (λ (bytes : Bytes). length bytes) (shown.messages.1 ∙ sym shown.messages.2) in
+    omega (arith, none)
 
 -- ---- each port
 

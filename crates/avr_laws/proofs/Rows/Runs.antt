@@ -37,7 +37,7 @@ use Rattle.stk_frame.specs.HostCommands.{program_page}
 use Rattle.stk_host.specs.Places.{load_flash}
 use Rattle.stk_host.specs.Transcript.{heard, sent}
 use Rattle.avr_laws.specs.Again.{chip_filled_with}
-use Rattle.avr_laws.specs.AnyTape.{ReceivedSentFrames, FramesByRestart, after_received_bytes, adding_received, received_frames}
+use Rattle.avr_laws.specs.AnyTape.{ReceivedSentFrames, FramesByRestart, adding_received, after_sent_frames, received_frames}
 use Rattle.avr_tool.specs.Items.{items, asked_items}
 use Rattle.avr_laws.specs.Kept.{NoneForged, named_files, saved_files}
 use Rattle.avr_tool.specs.Written.{IsWritten}
@@ -77,15 +77,16 @@ the_images = refl
 -- So a run with status 0 leaves them, if its link forges no frame.
 pub only_the_images : (s : Settings) (before now : Devices) (r : IsRun s before now 0)
     → (planned s r.openings).stage_outcome ≡ Produced plan → before.link.transcript ≡ []
-    → (p : Programmer) (got : List ℕ) (later : List (List ℕ)) (executions : List Execution) → IsSoundChip p.chip
+    → (p : Programmer) (executions : List Execution) → IsSoundChip p.chip
     → p.chip.part ≡ small → memories_of p.chip ≡ old
-    → ReceivedSentFrames got later (frames (sent now.link.transcript)) executions
     → NoneForged device (frames (sent now.link.transcript)) (heard now.link.transcript) p executions []
-    → memories_of (after_received_bytes device got later p).chip ≡ left (1 ∷ 2 ∷ 255 ∷ 255 ∷ [])
-only_the_images s before now r is silent p got later executions sound part held came none =
-    (kept_on_plan plan p.chip.part (memories_of p.chip) (memories_of (after_received_bytes device got later p).chip)
-    before.desk.kept now.desk.kept part (kept s plan before now r is silent p got later executions sound
-    (same_geometry small p.chip.part part) came none)).made
+    → memories_of (after_sent_frames device (frames (sent now.link.transcript)) executions p).chip
+    ≡ left (1 ∷ 2 ∷ 255 ∷ 255 ∷ [])
+only_the_images s before now r is silent p executions sound part held none =
+    (kept_on_plan plan p.chip.part (memories_of p.chip)
+    (memories_of (after_sent_frames device (frames (sent now.link.transcript)) executions p).chip)
+    before.desk.kept now.desk.kept part (kept s plan before now r is silent p executions sound
+    (same_geometry small p.chip.part part) none)).made
     ∙ ap (effects small (asked_items plan)) held
 
 abbrev Holds : List ℕ → Type 0

@@ -31,28 +31,28 @@ pub begun_by_any : {P : Type 0} (part : Part) (m : Device P) (view : P → Memor
     → IsBytePrefixOf (sent passed) (bytes_sent (played (session plan) 1 (heard passed)).events)
     → IsBegunByAny part m view IsIn IsReady becomes plan passed
 unfolding real_of
-begun_by_any part m view IsIn IsReady becomes plan fitted passed prefix sound fits own meets p got later executions
-    is_in sizes suits came none =
+begun_by_any part m view IsIn IsReady becomes plan fitted passed prefix sound fits own meets p executions is_in
+    sizes suits none =
     let V = IsVouched becomes part in
     first_made plan part sound fits own (real_of part sound m view IsIn IsReady V meets) fitted (heard passed)
     (sent passed) prefix p sizes (record { memories = refl; is = is_in })
     (steps_work part sound m view IsIn IsReady V meets signature_steps (view p)
     (signature_works becomes part (view p)))
     (actions_work part sound m view IsIn IsReady V meets (work (on_part part plan)) (view p)
-    (plan_works becomes (on_part part plan) (view p) suits)) got later executions came none
+    (plan_works becomes (on_part part plan) (view p) suits)) executions none
 
 pub spared_by_any : {P : Type 0} (part : Part) (m : Device P) (view : P → Memories) (IsIn IsReady : P → Type 0)
     (becomes : Mem → ℕ → ℕ) (plan : Plan) → All (IsFitted plan.part) plan.tasks → (passed : Transcript)
     → IsBytePrefixOf (sent passed) (bytes_sent (played (session plan) 1 (heard passed)).events)
     → IsSparedByAny part m view IsIn IsReady becomes plan passed
 unfolding real_of
-spared_by_any part m view IsIn IsReady becomes plan fitted passed prefix here sound unforced other meets p got later
-    executions is_in sizes came none =
+spared_by_any part m view IsIn IsReady becomes plan fitted passed prefix here sound unforced other meets p executions
+    is_in sizes none =
     let V = IsVouched becomes part in
     spared plan fitted here passed prefix part sound (real_of part sound m view IsIn IsReady V meets) unforced other p
     sizes (record { memories = refl; is = is_in })
     (steps_work part sound m view IsIn IsReady V meets signature_steps (view p)
-    (signature_works becomes part (view p))) got later executions came none
+    (signature_works becomes part (view p))) executions none
 
 pub reports_by_any : {P : Type 0} (part : Part) (m : Device P) (view : P → Memories) (IsIn IsReady : P → Type 0)
     (becomes : Mem → ℕ → ℕ) (plan : Plan) (k : ℕ) (p : P) (exchanges : List Exchange) → IsPart part

@@ -27,14 +27,14 @@ module _ {P : Type 0} (part : Part) (m : Device P) (view : P → Memories) (IsIn
       → (planned s r.openings).stage_outcome ≡ Produced plan → x.link.transcript ≡ []
       → IsKeptByAny part m view IsIn IsReady becomes plan y.link.transcript x.desk.kept y.desk.kept
   unfolding real_of
-  kept_by_any s plan x y r made_is silent sound fits meets p got later executions is_in sizes suits came none =
+  kept_by_any s plan x y r made_is silent sound fits meets p executions is_in sizes suits none =
       let V = IsVouched becomes part in
       kept_on_part s plan x y r made_is silent part sound fits (real_of part sound m view IsIn IsReady V meets) p
       executions sizes (record { memories = refl; is = is_in })
       (steps_work part sound m view IsIn IsReady V meets signature_steps (view p)
       (signature_works becomes part (view p)))
       (actions_work part sound m view IsIn IsReady V meets (work (on_part part plan)) (view p)
-      (plan_works becomes (on_part part plan) (view p) suits)) got later came none
+      (plan_works becomes (on_part part plan) (view p) suits)) none
 
   -- whatever a call over a link and a desk came to, as avr_tool's `run` states it
   pub promised_by_any : (s : Settings) (x y : Devices) (status : ℕ) → (IsRun s x y status ⊎ IsStopped s x y status)

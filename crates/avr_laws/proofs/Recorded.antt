@@ -1,0 +1,72 @@
+-- What a true record of a desk shows.
+use Rattle.std.proofs.Common.{◌≡◌, ◌∙◌, sym, ap, subst, refl, ℕ, false, List, [], ◌∷◌, ◌++◌, Option, Some, None}
+use Rattle.std.specs.Prelude.{flat_map}
+use Rattle.std.specs.List.{list_any}
+use Rattle.std.specs.Option.{option_map_or}
+use Rattle.std.specs.declared.io.Read.{Ghosts as Reads}
+use Rattle.std.specs.declared.io.Write.{Ghosts as Writes}
+use Rattle.avr_desk.proofs.FileUses.Uses.{files_used}
+use Rattle.avr_desk.specs.Handles.{IsTrueRecord}
+use Rattle.avr_desk.specs.Journal.{FileCall, SystemCalls, all_calls, calls_of, calls_of_record, count_of}
+use Rattle.avr_desk.specs.Named.{is_dash}
+use Rattle.avr_desk.specs.OpenFile.{is_output}
+use Rattle.avr_desk.specs.Record.{Bytes, Record, all_uses}
+use Rattle.avr_desk.specs.Shown.{IsTrueSince, Shown}
+use Rattle.avr_desk.specs.declared.file_system.FileSystem.{Ghosts}
+use Rattle.avr_desk.specs.declared.record.FileUse.{FileUse}
+use Rattle.avr_desk.specs.declared.record.Writing.{Writing}
+use Rattle.avr_desk.specs.declared.system.OpenFile.{OpenFile}
+use Rattle.avr_desk.specs.declared.system.OpenFile.TheVariants.{Nothing, Input, ToRead, ToWrite, Output}
+use Rattle.avr_laws.specs.Recorded.{RecordsFiles, RecordsOutput}
+
+-- ---- files
+
+calls_same : (uses : List FileUse) → all_calls uses ≡ flat_map calls_of uses
+calls_same [] = refl
+calls_same (used ∷ uses) = ap (λ (calls : List FileCall). calls_of used ++ calls) (calls_same uses)
+
+count_same : (held : Option Bytes) → count_of held ≡ option_map_or (λ (name : Bytes). 1) held 0
+count_same None = refl
+count_same (Some name) = refl
+
+abbrev done_by : List FileCall → ℕ → SystemCalls
+done_by calls holds = record { calls = calls; holds = holds }
+
+done_same : (r : Record) → calls_of_record r
+    ≡ done_by (flat_map calls_of (all_uses r)) (option_map_or (λ (name : Bytes). 1) r.held 0)
+done_same r =
+    ap (λ (calls : List FileCall). done_by calls (count_of r.held)) (calls_same (all_uses r))
+    ∙ ap (done_by (flat_map calls_of (all_uses r))) (count_same r.held)
+
+pub files_recorded : {S F I H O E : Type 0} (system : Ghosts S F I H) (reads : Reads F) (writes : Writes F)
+    (input : Reads I) (d : Shown S F H I O E)
+    → IsTrueRecord system reads writes input d.system d.opened d.hold d.kept → RecordsFiles system reads writes input d
+files_recorded system reads writes input d truly = record {
+  uses = truly.uses;
+  current = truly.current;
+  has_done = subst (λ (done : SystemCalls). system.has_done done d.system) (done_same d.kept) truly.has_done;
+}
+
+-- ---- messages and output
+
+apart_from_output : {F I : Type 0} (opened : OpenFile F I) → (opened ≡ Output → ⊥) → is_output opened ≡ false
+apart_from_output Output apart = absurd (apart refl)
+apart_from_output Nothing apart = refl
+apart_from_output (Input now) apart = refl
+apart_from_output (ToRead now) apart = refl
+apart_from_output (ToWrite now) apart = refl
+
+pub output_recorded : {S F I H O E : Type 0} (system : Ghosts S F I H) (reads : Reads F) (writes : Writes F)
+    (input : Reads I) (output_of : Writes O) (messages_of : Writes E) (old new : Shown S F H I O E)
+    → IsTrueSince system reads writes input output_of messages_of old new → RecordsOutput output_of messages_of old new
+output_recorded system reads writes input output_of messages_of old new truly = record {
+  messages = (truly.message_bytes, truly.messages, truly.messages_taken);
+  output = (
+    truly.output_bytes,
+    truly.output,
+    λ apart none.
+        (truly.out
+        (ap (list_any (λ (file : Writing). is_dash file.name)) (sym (files_used new.kept)) ∙ none)
+        (apart_from_output old.opened apart)).1,
+  );
+}
