@@ -1,6 +1,5 @@
 -- Lines and bytes that are written piece by piece.
 pub mod SentBytes
 pub mod FailureCounts
-pub mod Digits
 pub mod Pieces
 pub mod ReportedAs

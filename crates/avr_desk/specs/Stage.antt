@@ -21,9 +21,8 @@ pub record StageResult (A : Type 0) : Type 0 where
 
 -- all events, the line of a refusal last
 abbrev pub events_with_refusal : {A : Type 0} → List OutputEvent → StageOutcome A → List OutputEvent
-events_with_refusal output_events (Produced a) = output_events
-events_with_refusal output_events (Refused line) = output_events ++ PrintsLine line ∷ []
-events_with_refusal output_events NotReadToEnd = output_events
+events_with_refusal events (Refused line) = events ++ PrintsLine line ∷ []
+events_with_refusal events outcome = events
 
 -- all events of a stage's result
 abbrev pub all_events_of : {A : Type 0} → StageResult A → List OutputEvent
@@ -35,17 +34,16 @@ Stage A = List Opening → StageResult A
 
 -- the result with these events before its own
 abbrev pub with_events_before : {A : Type 0} → List OutputEvent → StageResult A → StageResult A
-with_events_before output_events p = record p { output_events = output_events ++ p.output_events }
+with_events_before events p = record p { output_events = events ++ p.output_events }
 
 -- after these events: the next stage if there is a result, else the same end
 abbrev pub continued_stage : {A B : Type 0} → List OutputEvent → List Opening → (A → Stage B) → StageOutcome A
     → StageResult B
-continued_stage output_events openings_left go_on (Produced a) =
-    with_events_before output_events (go_on a openings_left)
-continued_stage output_events openings_left go_on (Refused line) =
-    record { output_events = output_events; stage_outcome = Refused line; openings_left = openings_left }
-continued_stage output_events openings_left go_on NotReadToEnd =
-    record { output_events = output_events; stage_outcome = NotReadToEnd; openings_left = openings_left }
+continued_stage events openings go_on (Produced a) = with_events_before events (go_on a openings)
+continued_stage events openings go_on (Refused line) =
+    record { output_events = events; stage_outcome = Refused line; openings_left = openings }
+continued_stage events openings go_on NotReadToEnd =
+    record { output_events = events; stage_outcome = NotReadToEnd; openings_left = openings }
 
 -- one stage, then the one that its result chooses
 infixl 10 ◌>>=◌
@@ -56,8 +54,7 @@ abbrev pub ◌>>=◌ : {A B : Type 0} → Stage A → (A → Stage B) → Stage 
 
 -- a stage that only has these events
 abbrev pub output_stage : List OutputEvent → Stage ⊤
-output_stage output_events openings =
-    record { output_events = output_events; stage_outcome = Produced tt; openings_left = openings }
+output_stage events openings = record { output_events = events; stage_outcome = Produced tt; openings_left = openings }
 
 -- a stage without events: a result, or the line of its refusal
 abbrev pub result_stage : {A : Type 0} → Result A Bytes → Stage A

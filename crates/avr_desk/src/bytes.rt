@@ -20,9 +20,8 @@ impl Bytes {
     pub fn new(alloc: Global) -> Bytes
         ensures { result ≡ [] }
     {
-        Bytes {
-            items: Vec::new(alloc),
-        }
+        let items = Vec::new(alloc);
+        Bytes { items }
     }
 
     /// Copies `bytes` into a new list.

@@ -1,4 +1,4 @@
-ghost use Rattle.std.specs.Prelude.{◌≡◌, ◌≤◌, ◌-◌, ◌==◌, length, IfOk};
+ghost use Rattle.std.specs.Prelude.{◌≡◌, ◌≤◌, ◌-◌, ◌==◌, length, IfErr, IfOk, is_err};
 ghost use Rattle.avr_desk.specs.Failing.{FailsWhenDue, count_after, failing, of_inner};
 ghost use Rattle.avr_desk.specs.Record.{ChangesRecord, after_open, after_create, after_hold, after_read, Replaces, released, HasOpen, is_to_read, is_to_write};
 ghost use Rattle.avr_desk.specs.Fault.{CountsFailure, WriteCounts, IsCall};
@@ -48,9 +48,10 @@ impl<D> FailingDesk<D> {
         &self.inner
     }
 
-    /// Counts a call. Returns whether it is the one that fails.
-    fn is_due(&mut self) -> bool
-        ensures due { result ≡ (self.old.due == 1) }
+    /// Counts a call, and fails if it is the one that fails by plan.
+    fn count_call(&mut self) -> Result<(), DeskFault>
+        ensures due { is_err result ≡ (self.old.due == 1) }
+        ensures fault { IfErr result (λ fault. fault ≡ DeskFault.Failed) }
         ensures same { self.new ≡ record self.old { due = self.old.due - 1; planned = self.new.planned } }
         ensures planned { self.new.planned ≡ count_after self.old self.old.planned }
         ensures rises { self.old.planned ≤ self.new.planned }
@@ -59,8 +60,9 @@ impl<D> FailingDesk<D> {
         self.due = self.due.saturating_sub(1);
         if due {
             self.planned = self.planned.saturating_add(1);
+            return Err(DeskFault::Failed);
         }
-        due
+        Ok(())
     }
 }
 
@@ -77,9 +79,7 @@ impl<D: Desk> Desk for FailingDesk<D> {
         ensures when_due { FailsWhenDue File D.view self.old self.new (CountsFailure File) result }
         ensures stays { Preserves D.started_as self.old.inner self.new.inner }
     {
-        if self.is_due() {
-            return Err(DeskFault::Failed);
-        }
+        self.count_call()?;
         self.inner.open(name)
     }
 
@@ -88,9 +88,7 @@ impl<D: Desk> Desk for FailingDesk<D> {
         ensures call { IsCall (failing D.view) (of_inner D.started_as) (CountsFailure File) self.old self.new result }
         ensures when_due { FailsWhenDue File D.view self.old self.new (CountsFailure File) result }
     {
-        if self.is_due() {
-            return Err(DeskFault::Failed);
-        }
+        self.count_call()?;
         self.inner.create(name)
     }
 
@@ -101,9 +99,7 @@ impl<D: Desk> Desk for FailingDesk<D> {
         ensures call { IsCall (failing D.view) (of_inner D.started_as) (CountsFailure File) self.old self.new result }
         ensures when_due { FailsWhenDue File D.view self.old self.new (CountsFailure File) result }
     {
-        if self.is_due() {
-            return Err(DeskFault::Failed);
-        }
+        self.count_call()?;
         self.inner.read(buf)
     }
 
@@ -112,9 +108,7 @@ impl<D: Desk> Desk for FailingDesk<D> {
         ensures has_file { HasOpen is_to_write (D.view self.old.inner) result }
         ensures when_due { FailsWhenDue File D.view self.old self.new (WriteCounts File bytes.now) result }
     {
-        if self.is_due() {
-            return Err(DeskFault::Failed);
-        }
+        self.count_call()?;
         self.inner.write(bytes)
     }
 
@@ -122,9 +116,7 @@ impl<D: Desk> Desk for FailingDesk<D> {
         ensures write { IsWrite (failing D.view) (of_inner D.started_as) Output bytes.now self.old self.new result }
         ensures when_due { FailsWhenDue Output D.view self.old self.new (WriteCounts Output bytes.now) result }
     {
-        if self.is_due() {
-            return Err(DeskFault::Failed);
-        }
+        self.count_call()?;
         self.inner.out(bytes)
     }
 
@@ -132,9 +124,9 @@ impl<D: Desk> Desk for FailingDesk<D> {
         ensures write { IsWrite (failing D.view) (of_inner D.started_as) Messages bytes.now self.old self.new result }
         ensures when_due { FailsWhenDue Messages D.view self.old self.new (WriteCounts Messages bytes.now) result }
     {
-        if self.is_due() {
+        if let Err(fault) = self.count_call() {
             self.message_failures = self.message_failures.saturating_add(1);
-            return Err(DeskFault::Failed);
+            return Err(fault);
         }
         self.inner.err(bytes)
     }
@@ -146,9 +138,7 @@ impl<D: ChipDesk> ChipDesk for FailingDesk<D> {
         ensures call { IsCall (failing D.view) (of_inner D.started_as) (CountsFailure File) self.old self.new result }
         ensures when_due { FailsWhenDue File D.view self.old self.new (CountsFailure File) result }
     {
-        if self.is_due() {
-            return Err(DeskFault::Failed);
-        }
+        self.count_call()?;
         self.inner.hold(name)
     }
 
@@ -165,9 +155,7 @@ impl<D: ChipDesk> ChipDesk for FailingDesk<D> {
         ensures call { IsCall (failing D.view) (of_inner D.started_as) (CountsFailure File) self.old self.new result }
         ensures when_due { FailsWhenDue File D.view self.old self.new (CountsFailure File) result }
     {
-        if self.is_due() {
-            return Err(DeskFault::Failed);
-        }
+        self.count_call()?;
         self.inner.check_name(name)
     }
 
@@ -176,9 +164,7 @@ impl<D: ChipDesk> ChipDesk for FailingDesk<D> {
         ensures call { IsCall (failing D.view) (of_inner D.started_as) (CountsFailure File) self.old self.new result }
         ensures when_due { FailsWhenDue File D.view self.old self.new (CountsFailure File) result }
     {
-        if self.is_due() {
-            return Err(DeskFault::Failed);
-        }
+        self.count_call()?;
         self.inner.replace(name, bytes)
     }
 }

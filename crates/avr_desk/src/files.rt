@@ -14,16 +14,16 @@ const PIECE: usize = 4096;
 pub enum FileFault {
     /// The desk has no such file.
     #[error("cannot be opened")]
-    Absent,
+    Absent = 1,
     /// The desk failed to open the file.
     #[error("cannot be opened")]
-    NotOpened,
+    NotOpened = 2,
     /// The desk failed to read the file.
     #[error("cannot be read")]
-    NotRead,
+    NotRead = 3,
     /// Allocation for the bytes failed.
     #[error("out of memory")]
-    Memory,
+    Memory = 4,
 }
 
 impl FileFault {
@@ -31,12 +31,7 @@ impl FileFault {
     pub fn number(&self) -> u8
         ensures { result ≡ file_fault_number self.now }
     {
-        match self {
-            FileFault::Absent => 1,
-            FileFault::NotOpened => 2,
-            FileFault::NotRead => 3,
-            FileFault::Memory => 4,
-        }
+        *self as u8
     }
 }
 

@@ -1,5 +1,4 @@
-ghost use Rattle.std.specs.Prelude.{◌≡◌, ◌<◌, ◌∷◌, [], length, OnErr, IfOk, map};
-ghost use Rattle.byteorder.specs.Endian.{big_bytes};
+ghost use Rattle.std.specs.Prelude.{◌≡◌, ◌<◌, ◌*◌, length, OnErr, IfOk, map};
 ghost use Rattle.avr_desk.specs.Fault.{CountsFailure, IsCall};
 ghost use Rattle.avr_desk.specs.Lines.{digits, spaced_digits, text_of, line, information, warning, error};
 ghost use Rattle.avr_desk.specs.OutputEvents.{IsPrinted};
@@ -30,28 +29,16 @@ pub enum Piece<'a> {
     Number(u32),
 }
 
-/// Returns a byte as two upper-case hexadecimal digits.
+/// Returns each byte as two upper-case hexadecimal digits.
 #[tactic(auto, unfolding(crate::specs::Lines::digits))]
-fn digits(byte: u8) -> [u8; 2]
-    ensures { result ≡ digits (byte ∷ []) }
+fn digits<const N: usize>(bytes: &[u8]) -> [u8; N]
+    requires { N ≡ 2 * length bytes.now }
+    ensures { result ≡ digits bytes.now }
 {
-    let mut digits = [0; 2];
-    let _ = hex::encode_to_slice(&[byte], &mut digits);
-    let [high, low] = digits;
-    [high.to_ascii_uppercase(), low.to_ascii_uppercase()]
-}
-
-fn address_digits(address: u32) -> [u8; 8]
-    ensures { result ≡ digits (big_bytes 4 address) }
-{
-    let mut bytes = [0; 4];
-    BigEndian::write_u32(&mut bytes, address);
-    let [first, second, third, fourth] = bytes;
-    let [a, b] = digits(first);
-    let [c, d] = digits(second);
-    let [e, f] = digits(third);
-    let [g, h] = digits(fourth);
-    [a, b, c, d, e, f, g, h]
+    let mut digits = [0; N];
+    let _ = hex::encode_to_slice(bytes, &mut digits);
+    digits.make_ascii_uppercase();
+    digits
 }
 
 /// Returns three bytes as digits, with blanks between them.
@@ -59,9 +46,9 @@ fn spaced(signature: [u8; 3]) -> [u8; 8]
     ensures { result ≡ spaced_digits signature }
 {
     let [first, second, third] = signature;
-    let [a, b] = digits(first);
-    let [c, d] = digits(second);
-    let [e, f] = digits(third);
+    let [a, b] = digits::<2>(&[first]);
+    let [c, d] = digits::<2>(&[second]);
+    let [e, f] = digits::<2>(&[third]);
     [a, b, b' ', c, d, b' ', e, f]
 }
 
@@ -72,7 +59,7 @@ fn text<'a>(piece: &'a Piece<'_>, hex: &'a mut [u8; 8], decimal: &'a mut Buffer)
     match piece {
         Piece::Text(text) => text.as_bytes(),
         Piece::Byte(byte) => {
-            hex[..2].copy_from_slice(&digits(*byte));
+            hex[..2].copy_from_slice(&digits::<2>(&[*byte]));
             &hex[..2]
         }
         Piece::Signature(bytes) => {
@@ -80,7 +67,9 @@ fn text<'a>(piece: &'a Piece<'_>, hex: &'a mut [u8; 8], decimal: &'a mut Buffer)
             hex.as_slice()
         }
         Piece::Address(address) => {
-            *hex = address_digits(*address);
+            let mut bytes = [0; 4];
+            BigEndian::write_u32(&mut bytes, *address);
+            *hex = digits(&bytes);
             hex.as_slice()
         }
         Piece::Number(number) => decimal.format(*number).as_bytes(),
@@ -111,8 +100,8 @@ fn print_line<D: Desk>(desk: &mut D, mark: &str, pieces: &[Piece<'_>]) -> Result
     }
     write_all(desk, Stream::Messages, mark.as_bytes())?;
     for piece in pieces {
-        let (mut hex, mut decimal) = ([0; 8], Buffer::new());
-        write_all(desk, Stream::Messages, text(piece, &mut hex, &mut decimal))?;
+        let (hex, decimal) = (&mut [0; 8], &mut Buffer::new());
+        write_all(desk, Stream::Messages, text(piece, hex, decimal))?;
     }
     write_all(desk, Stream::Messages, b"\n")
 }

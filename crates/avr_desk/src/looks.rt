@@ -11,13 +11,16 @@ use std::io::ErrorKind::{InvalidInput, PermissionDenied, TooManyLinks, Unsupport
 
 /// Which file it is, as long as the file exists. Its length and the time of the last write, in nanoseconds, tell
 /// whether somebody has written to it.
-#[derive(Clone, Copy)]
+#[derive(Clone, Copy, PartialEq)]
 pub(crate) struct Identity {
     pub(crate) device: u64,
     pub(crate) number: u64,
     pub(crate) length: u64,
     pub(crate) written: u64,
 }
+
+/// What a look at a name found: which file, or none.
+pub(crate) type Look = Option<Identity>;
 
 /// A call that not every file system can do, or that not every user may do. Some of its errors count as success:
 /// docs/DECISIONS lists them.
@@ -29,7 +32,7 @@ pub(crate) enum Attempt {
 }
 
 /// Returns whether two looks found the same file, or none.
-pub(crate) fn is_same_file(one: Option<Identity>, other: Option<Identity>) -> bool
+pub(crate) fn is_same_file(one: Look, other: Look) -> bool
     ensures { result ≡ is_same_file one other }
 {
     match (one, other) {
@@ -40,15 +43,10 @@ pub(crate) fn is_same_file(one: Option<Identity>, other: Option<Identity>) -> bo
 }
 
 /// Returns whether two looks found the same file, which nobody has written to in between, or none.
-pub(crate) fn is_unchanged(one: Option<Identity>, other: Option<Identity>) -> bool
+pub(crate) fn is_unchanged(one: Look, other: Look) -> bool
     ensures { result ≡ is_unchanged one other }
 {
-    match (one, other) {
-        (Some(a), Some(b)) => {
-            is_same_file(one, other) && a.length == b.length && a.written == b.written
-        }
-        _ => is_same_file(one, other),
-    }
+    one == other
 }
 
 /// Returns `None` in place of an error of this kind.
@@ -77,7 +75,7 @@ pub(crate) fn locked<T: Drop>(file: T, tried: Result<(), TryLockError>) -> io::R
 /// Returns the opened file if it is the one that was seen, unchanged. The error is `NotFound` only if two looks found none,
 /// because an error about an open file doesn't mean that the file is absent.
 pub(crate) fn opened<T: Drop>(
-    seen: Option<Identity>,
+    seen: Look,
     file: Option<T>,
     there: Option<io::Result<Identity>>,
 ) -> io::Result<T>
@@ -118,12 +116,7 @@ pub(crate) fn forgiving(call: Attempt, given: io::Result<()>) -> io::Result<()>
 
 /// Returns whether a file created by a name may be the held one: the name is that of the held place, or leads to the
 /// file seen there. Or it is a link that leads nowhere while the place is empty.
-pub(crate) fn leads(
-    seen: Option<Identity>,
-    there: Option<Identity>,
-    is_link: bool,
-    is_place: bool,
-) -> bool
+pub(crate) fn leads(seen: Look, there: Look, is_link: bool, is_place: bool) -> bool
     ensures { result ≡ leads seen there is_link is_place }
 {
     match there {

@@ -75,12 +75,13 @@ fn is_end(count: usize, room: usize) -> bool
     count == 0 && room > 0
 }
 
-/// Adds the file that was open, and then `last`, to the uses, which have room for both.
-fn close(uses: &mut Vec<FileUse>, current: Open, last: Option<FileUse>)
+/// Opens `next`. The uses, which have room for both, get the file that was open, and then `last`.
+fn open_next(uses: &mut Vec<FileUse>, current: &mut Open, next: Open, last: Option<FileUse>)
     requires { vec_len uses.old + 2 ≤ vec_capacity uses.old }
-    ensures { uses.new.items ≡ (uses.old.items ++ use_of current) ++ option_to_list last }
+    ensures opened { current.new ≡ next }
+    ensures closed { uses.new.items ≡ (uses.old.items ++ use_of current.old) ++ option_to_list last }
 {
-    match current {
+    match mem::replace(current, next) {
         Open::Closed => {}
         Open::ToRead(reading) => uses.push_reserved(FileUse::Opened(Opening::Found(reading))),
         Open::ToWrite(writing) => uses.push_reserved(FileUse::Created(writing)),
@@ -209,6 +210,7 @@ impl MemDesk {
     }
 }
 
+#[tactic(auto, using(crate::proofs::Desks::InMemory::same_true))]
 impl Desk for MemDesk {
     ghost use Rattle.avr_desk.specs.Record.{after_open, after_create, after_read, after_write, after_out, after_err, bytes_taken, is_to_read, is_to_write};
     ghost use Rattle.avr_desk.specs.Fault.{CountsFailure, WriteCounts, IsCall};
@@ -223,7 +225,6 @@ impl Desk for MemDesk {
 
     ghost started_as = { HoldsTrue };
 
-    #[tactic(auto, using(crate::proofs::Desks::InMemory::same_true))]
     fn open(&mut self, name: &str) -> Result<(), DeskFault>
         ensures kept { self.new ≡ record (updated (after_open name.now result self.old.kept) self.old self.new)
             { opened = self.new.opened } }
@@ -240,26 +241,23 @@ impl Desk for MemDesk {
             return Err(self.fail());
         };
         let Some(bytes) = self.contents(name) else {
-            let absent = FileUse::Opened(Opening::Absent(kept_name));
-            let closed = mem::replace(&mut self.current, Open::Closed);
-            close(&mut self.uses, closed, Some(absent));
+            let absent = Some(FileUse::Opened(Opening::Absent(kept_name)));
+            open_next(&mut self.uses, &mut self.current, Open::Closed, absent);
             return Err(DeskFault::NotFound);
         };
         let Ok(opened) = Bytes::copied(self.alloc, bytes) else {
             return Err(self.fail());
         };
-        let reading = Reading {
+        let next = Open::ToRead(Reading {
             name: kept_name,
             bytes: Bytes::new(self.alloc),
             ended: false,
-        };
-        let closed = mem::replace(&mut self.current, Open::ToRead(reading));
-        close(&mut self.uses, closed, None);
+        });
+        open_next(&mut self.uses, &mut self.current, next, None);
         self.opened = opened;
         Ok(())
     }
 
-    #[tactic(auto, using(crate::proofs::Desks::InMemory::same_true))]
     fn create(&mut self, name: &str) -> Result<(), DeskFault>
         ensures kept { self.new ≡ updated (after_create name.now result self.old.kept) self.old self.new }
         ensures call { IsCall memory_state HoldsTrue (CountsFailure File) self.old self.new result }
@@ -270,12 +268,10 @@ impl Desk for MemDesk {
         let Ok(file) = Writing::copied(self.alloc, name, &[]) else {
             return Err(self.fail());
         };
-        let closed = mem::replace(&mut self.current, Open::ToWrite(file));
-        close(&mut self.uses, closed, None);
+        open_next(&mut self.uses, &mut self.current, Open::ToWrite(file), None);
         Ok(())
     }
 
-    #[tactic(auto, using(crate::proofs::Desks::InMemory::same_true))]
     fn read(&mut self, buf: &mut [u8]) -> Result<usize, DeskFault>
         ensures count { IfOk result (λ n. n ≡ min (length buf.old) (length (unread_bytes self.old))) }
         ensures gives { IfOk result (λ n. take n buf.new ≡ take n (unread_bytes self.old)) }
@@ -307,7 +303,6 @@ impl Desk for MemDesk {
         Ok(bytes.len())
     }
 
-    #[tactic(auto, using(crate::proofs::Desks::InMemory::same_true))]
     fn out(&mut self, bytes: &[u8]) -> Result<usize, DeskFault>
         ensures all { IfOk result (λ n. n ≡ length bytes.now) }
         ensures kept { self.new ≡ updated (after_out (bytes_taken bytes.now result) self.old.kept) self.old self.new }
@@ -319,7 +314,6 @@ impl Desk for MemDesk {
         Ok(bytes.len())
     }
 
-    #[tactic(auto, using(crate::proofs::Desks::InMemory::same_true))]
     fn err(&mut self, bytes: &[u8]) -> Result<usize, DeskFault>
         ensures all { IfOk result (λ n. n ≡ length bytes.now) }
         ensures kept { self.new ≡ record (updated (after_err (bytes_taken bytes.now result) self.old.kept) self.old
@@ -334,6 +328,7 @@ impl Desk for MemDesk {
     }
 }
 
+#[tactic(auto, using(crate::proofs::Desks::InMemory::same_true))]
 impl ChipDesk for MemDesk {
     ghost use Rattle.avr_desk.specs.Record.{Replaces, after_hold, with_none_held, with_replaced};
     ghost use Rattle.avr_desk.specs.Fault.{CountsFailure, IsCall};
@@ -343,7 +338,6 @@ impl ChipDesk for MemDesk {
     ghost use Rattle.ghosts.specs.Preserves.{Preserves};
     ghost use Rattle.avr_desk.specs.declared.stream.Stream.TheVariants.{File};
 
-    #[tactic(auto, using(crate::proofs::Desks::InMemory::same_true))]
     fn hold(&mut self, name: &str) -> Result<bool, DeskFault>
         ensures free { IfOk result (λ b. b ≡ not (holds name.now self.old.kept)) }
         ensures kept { self.new ≡ updated (after_hold name.now result self.old.kept) self.old self.new }
@@ -362,7 +356,6 @@ impl ChipDesk for MemDesk {
         Ok(false)
     }
 
-    #[tactic(auto, using(crate::proofs::Desks::InMemory::same_true))]
     fn release(&mut self)
         ensures kept { self.new ≡ record self.old { kept = with_none_held self.old.kept } }
         ensures stays { Preserves HoldsTrue self.old self.new }
@@ -371,7 +364,6 @@ impl ChipDesk for MemDesk {
         self.journal = self.journal.then(&Call::Released);
     }
 
-    #[tactic(auto, using(crate::proofs::Desks::InMemory::same_true))]
     fn replace(&mut self, name: &str, bytes: &[u8]) -> Result<(), DeskFault>
         ensures kept { self.new ≡ updated
             (if is_ok result then with_replaced name.now bytes.now self.old.kept else self.old.kept) self.old self.new }
@@ -384,8 +376,8 @@ impl ChipDesk for MemDesk {
         let Ok(file) = Writing::copied(self.alloc, name, bytes) else {
             return Err(self.fail());
         };
-        let closed = mem::replace(&mut self.current, Open::Closed);
-        close(&mut self.uses, closed, Some(FileUse::Created(file)));
+        let replaced = Some(FileUse::Created(file));
+        open_next(&mut self.uses, &mut self.current, Open::Closed, replaced);
         self.held = None;
         self.journal = self.journal.then(&Call::Tried(name.as_bytes(), bytes));
         Ok(())

@@ -43,12 +43,9 @@ impl<'a> Message<'a> {
         requires { length pieces.now ≤ MOST_PIECES }
         ensures { result ≡ map text_of pieces.now }
     {
-        let mut held = [Piece::Text(""); MOST_PIECES];
-        held[..pieces.len()].copy_from_slice(pieces);
-        Message {
-            pieces: held,
-            count: pieces.len(),
-        }
+        let (mut all, count) = ([Piece::Text(""); MOST_PIECES], pieces.len());
+        all[..count].copy_from_slice(pieces);
+        Message { pieces: all, count }
     }
 
     /// Creates a message of one text.

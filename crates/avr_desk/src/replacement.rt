@@ -6,7 +6,7 @@
 //! replace, it gets NAME as a second name, which never takes the place of another file.
 ghost use Rattle.std.specs.Prelude.{◌≡◌, ◌⊎◌, [], IfOk, MatchResult, OnOk, Option, Some};
 ghost use Rattle.avr_desk.specs.Handles.{IsHeldBy};
-ghost use Rattle.avr_desk.specs.Journal.{ChangesCalls, CrashLeavesNoMore, CrashMayAlsoLeave, IsUncounted, TakesHold, with_calls, made};
+ghost use Rattle.avr_desk.specs.Journal.{ChangesCalls, CrashLeavesNoMore, CrashMayAlsoLeave, IsUncounted, with_calls, made};
 ghost use Rattle.avr_desk.specs.Record.{Bytes};
 ghost use Rattle.ghosts.specs.Preserves.{Preserves};
 
@@ -22,21 +22,6 @@ pub struct Replacement<F: Folder> {
     seen: Option<F::Seen>,
     parent: F::Parent,
     ghost saw: { ∥ F.saw held seen ∥₁ },
-}
-
-/// Locks a place. Returns `None` if another process has locked it.
-fn hold_place<F: Folder>(folder: &mut F, place: F::Place) -> io::Result<Option<F::Held>>
-    ensures holds { TakesHold F.has_done (λ held. F.held_name held ≡ F.name_of place) (F.denies (F.name_of place))
-        (F.fails (F.name_of place)) folder.old folder.new result }
-    ensures leaves { CrashMayAlsoLeave F.left (F.name_of place) (F.began (F.name_of place)) folder.old folder.new }
-{
-    let Some(file) = folder.open_lock(&place)? else {
-        return Ok(None);
-    };
-    let Some(lock) = folder.lock(&place, file)? else {
-        return Ok(None);
-    };
-    folder.confirm(place, lock)
 }
 
 impl<F: Folder> Replacement<F> {
@@ -59,13 +44,11 @@ impl<F: Folder> Replacement<F> {
         ensures stays { IsUncounted F.has_done F.left folder.old folder.new }
     {
         let mut file = folder.make(&self.held, &self.seen)?;
-        match self.fill(folder, &mut file, bytes) {
-            Ok(()) => Ok(file),
-            Err(error) => {
-                folder.discard(&self.held, file);
-                Err(error)
-            }
+        if let Err(error) = self.fill(folder, &mut file, bytes) {
+            folder.discard(&self.held, file);
+            return Err(error);
         }
+        Ok(file)
     }
 
     /// Waits until the new name of a file is on the disk.
@@ -161,7 +144,13 @@ impl<F: Folder> FileSystem for F {
     fn hold_named(&mut self, name: &str) -> io::Result<Option<Replacement<F>>> {
         let place = self.find(name)?;
         let parent = self.open_parent(&place)?;
-        let Some(held) = hold_place(self, place)? else {
+        let Some(file) = self.open_lock(&place)? else {
+            return Ok(None);
+        };
+        let Some(lock) = self.lock(&place, file)? else {
+            return Ok(None);
+        };
+        let Some(held) = self.confirm(place, lock)? else {
             return Ok(None);
         };
         match self.see(&held) {

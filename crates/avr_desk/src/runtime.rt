@@ -1,8 +1,8 @@
-ghost use Rattle.std.specs.Prelude.{◌≡◌, ⊤, IfOk, string_bytes};
+ghost use Rattle.std.specs.Prelude.{⊤, string_bytes};
 
 use crate::folder::Folder;
 use crate::looks::{
-    Attempt, Identity, first_mode, forgiving, given, is_forgiven, is_same_file, is_unchanged,
+    Attempt, Identity, Look, first_mode, forgiving, given, is_forgiven, is_same_file, is_unchanged,
     leads, locked, opened, permissions_after, unless,
 };
 use std::alloc::Global;
@@ -21,19 +21,11 @@ const NEW: &str = ".avrstk-new";
 /// A file. An empty write waits until it is on the disk, if the file system can sync it. A read that finds the end
 /// closes it, so that it isn't open when another file gets its name.
 #[derive(Drop)]
-pub struct Synced {
-    file: Option<File>,
-}
-
-impl Synced {
-    pub(crate) fn new(file: File) -> Synced {
-        Synced { file: Some(file) }
-    }
-}
+pub struct Synced(Option<File>);
 
 impl Write for Synced {
     fn write(&mut self, bytes: &[u8]) -> io::Result<usize> {
-        match &mut self.file {
+        match &mut self.0 {
             Some(file) if bytes.is_empty() => {
                 forgiving(Attempt::Sync, file.sync_all()).and(Ok(0))
             }
@@ -49,12 +41,12 @@ impl Write for Synced {
 
 impl Read for Synced {
     fn read(&mut self, buf: &mut [u8]) -> io::Result<usize> {
-        let Some(file) = &mut self.file else {
+        let Some(file) = &mut self.0 else {
             return Ok(0);
         };
         let read = file.read(buf);
         if matches!(read, Ok(0)) && !buf.is_empty() {
-            self.file = None;
+            self.0 = None;
         }
         read
     }
@@ -90,25 +82,13 @@ fn own_identity(file: &File) -> io::Result<Identity> {
     Ok(identity(&file.metadata()?))
 }
 
-fn identity_of(found: &Option<Metadata>) -> Option<Identity> {
+fn identity_of(found: &Option<Metadata>) -> Look {
     found.as_ref().map(identity)
 }
 
 /// Returns which file was found, if any.
-fn identified(found: io::Result<Metadata>) -> io::Result<Option<Identity>> {
+fn identified(found: io::Result<Metadata>) -> io::Result<Look> {
     Ok(identity_of(&unless(ErrorKind::NotFound, found)?))
-}
-
-/// Returns the place of a name that leads to this path.
-fn place_of(alloc: Global, name: &str, path: String) -> io::Result<Place>
-    ensures { IfOk result (λ place. string_bytes place.name ≡ name.now) }
-{
-    Ok(Place {
-        name: String::from_str(alloc, name)?,
-        lock: [path.as_str(), LOCK].concat(alloc)?,
-        new: [path.as_str(), NEW].concat(alloc)?,
-        path,
-    })
 }
 
 /// Returns the path of the file that a name leads to, so that a link stays. Fails if a link leads nowhere.
@@ -117,16 +97,6 @@ fn target<R: Files>(rt: &R, alloc: Global, name: &str) -> io::Result<String> {
         return Ok(rt.canonicalize(alloc, name)?.into_string());
     }
     Ok(String::from_str(alloc, name)?)
-}
-
-/// Fails if a name leads to a file that runs make beside a chip, and remove.
-fn check_unreserved<R: Files>(rt: &R, alloc: Global, name: &str) -> io::Result<()> {
-    let target = target(rt, alloc, name);
-    let path = target.as_ref().map_or(name, |path| path.as_str());
-    if path.ends_with(LOCK) || path.ends_with(NEW) {
-        return Err(io::Error::from(ErrorKind::ResourceBusy));
-    }
-    Ok(())
 }
 
 /// Returns the folder of a path.
@@ -181,18 +151,6 @@ fn open_regular<R: Files<File = File>>(rt: &R, path: &str) -> io::Result<Option<
     }
 }
 
-/// Returns the opened file if it is the one that was seen, unchanged.
-fn seen_file(seen: &Option<Metadata>, file: io::Result<File>) -> io::Result<Synced> {
-    let file = unless(ErrorKind::NotFound, file)?;
-    let there = file.as_ref().map(own_identity);
-    opened(identity_of(seen), file, there).map(Synced::new)
-}
-
-/// Returns which file was opened, and its owner and mode.
-fn metadata_of(file: io::Result<File>) -> io::Result<Option<Metadata>> {
-    Ok(Some(file?.metadata()?))
-}
-
 /// Returns whether a link was found.
 fn is_link(found: io::Result<Metadata>) -> io::Result<bool> {
     let found = unless(ErrorKind::NotFound, found)?;
@@ -203,17 +161,6 @@ fn is_link(found: io::Result<Metadata>) -> io::Result<bool> {
 fn is_at<R: Files>(rt: &R, file: &File, path: &str) -> io::Result<bool> {
     let own = own_identity(file)?;
     Ok(is_same_file(Some(own), identified(rt.symlink_metadata(path))?))
-}
-
-/// Fails if a name leads to the held place, or to the file that was seen there.
-fn check_free(rt: &impl Files, name: &str, held: &Held, seen: &Option<Metadata>) -> io::Result<()> {
-    let there = identified(rt.metadata(name))?;
-    let is_link = is_link(rt.symlink_metadata(name))?;
-    let is_place = is_one_place(rt, name, held.place.path.as_str())?;
-    if leads(identity_of(seen), there, is_link, is_place) {
-        return Err(io::Error::from(ErrorKind::ResourceBusy));
-    }
-    Ok(())
 }
 
 /// Fails if a name leads to the lock file of a place, or to the path of its new file. An empty file is put there for a
@@ -231,30 +178,6 @@ fn check_apart<R: Files<File = File>>(rt: &R, name: &str, place: &Place) -> io::
         return Err(io::Error::from(ErrorKind::ResourceBusy));
     }
     Ok(())
-}
-
-/// Fails unless what was seen is still at the place, and the new file still has its name.
-fn check_kept(rt: &impl Files, held: &Held, seen: &Option<Metadata>, new: &File) -> io::Result<()> {
-    let first = held.place.new.as_str();
-    let path = held.place.path.as_str();
-    let is_own = is_at(rt, new, first)?;
-    // Renaming a file to its own name changes nothing, but waits for what others have begun in the folder. So the
-    // last look, right before the new file gets the name, sees what they did.
-    rt.rename(first, first)?;
-    if is_own && is_unchanged(identity_of(seen), identified(rt.symlink_metadata(path))?) {
-        return Ok(());
-    }
-    Err(io::Error::from(ErrorKind::AlreadyExists))
-}
-
-/// Gives the place to the new file, only if nothing is there.
-fn link_or_rename<R: Files>(rt: &R, place: &Place) -> io::Result<()> {
-    let (new, path) = (place.new.as_str(), place.path.as_str());
-    // If the file system has no hard links, only the look before keeps another file from being replaced.
-    match rt.hard_link(new, path) {
-        Err(error) if is_forgiven(Attempt::Link, error.kind()) => rt.rename(new, path),
-        linked => linked,
-    }
 }
 
 /// Gives a new file the old one's group, owner and permissions, as far as the system allows.
@@ -337,12 +260,17 @@ impl<'a, R: Files<File = File> + Input + Alloc<A = Global>> Folder for &'a R {
     }
 
     fn open(&mut self, name: &str) -> io::Result<Synced> {
-        check_unreserved(*self, self.alloc(), name)?;
-        fs::open(*self, name).map(Synced::new)
+        // Runs make these files beside a chip, and remove them.
+        let target = target(*self, self.alloc(), name);
+        let path = target.as_ref().map_or(name, |path| path.as_str());
+        if path.ends_with(LOCK) || path.ends_with(NEW) {
+            return Err(io::Error::from(ErrorKind::ResourceBusy));
+        }
+        Ok(Synced(Some(fs::open(*self, name)?)))
     }
 
     fn create(&mut self, name: &str) -> io::Result<Synced> {
-        fs::create(*self, name).map(Synced::new)
+        Ok(Synced(Some(fs::create(*self, name)?)))
     }
 
     fn close(&mut self, file: Synced) {
@@ -351,7 +279,13 @@ impl<'a, R: Files<File = File> + Input + Alloc<A = Global>> Folder for &'a R {
 
     fn find(&mut self, name: &str) -> io::Result<Place> {
         let alloc = self.alloc();
-        place_of(alloc, name, target(*self, alloc, name)?)
+        let path = target(*self, alloc, name)?;
+        Ok(Place {
+            name: String::from_str(alloc, name)?,
+            lock: [path.as_str(), LOCK].concat(alloc)?,
+            new: [path.as_str(), NEW].concat(alloc)?,
+            path,
+        })
     }
 
     fn open_parent(&mut self, place: &Place) -> io::Result<Option<File>> {
@@ -383,14 +317,17 @@ impl<'a, R: Files<File = File> + Input + Alloc<A = Global>> Folder for &'a R {
 
     fn see(&mut self, held: &Held) -> io::Result<Option<Metadata>> {
         let (files, path) = (*self, held.place.path.as_str());
-        match regular(files.metadata(path)) {
-            Ok(Some(_)) => metadata_of(open_both_ways(files, path)),
-            otherwise => otherwise,
+        if regular(files.metadata(path))?.is_none() {
+            return Ok(None);
         }
+        Ok(Some(open_both_ways(files, path)?.metadata()?))
     }
 
     fn open_seen(&mut self, held: &Held, seen: &Option<Metadata>) -> io::Result<Synced> {
-        seen_file(seen, open_both_ways(*self, held.place.path.as_str()))
+        let path = held.place.path.as_str();
+        let file = unless(ErrorKind::NotFound, open_both_ways(*self, path))?;
+        let there = file.as_ref().map(own_identity);
+        Ok(Synced(Some(opened(identity_of(seen), file, there)?)))
     }
 
     fn check_not_held(
@@ -399,8 +336,14 @@ impl<'a, R: Files<File = File> + Input + Alloc<A = Global>> Folder for &'a R {
         held: &Held,
         seen: &Option<Metadata>,
     ) -> io::Result<()> {
-        check_free(*self, name, held, seen)?;
-        check_apart(*self, name, &held.place)
+        let rt = *self;
+        let there = identified(rt.metadata(name))?;
+        let is_link = is_link(rt.symlink_metadata(name))?;
+        let is_place = is_one_place(rt, name, held.place.path.as_str())?;
+        if leads(identity_of(seen), there, is_link, is_place) {
+            return Err(io::Error::from(ErrorKind::ResourceBusy));
+        }
+        check_apart(rt, name, &held.place)
     }
 
     fn make(&mut self, held: &Held, seen: &Option<Metadata>) -> io::Result<File> {
@@ -411,16 +354,13 @@ impl<'a, R: Files<File = File> + Input + Alloc<A = Global>> Folder for &'a R {
             .create_new(true)
             .mode(first_mode(seen.is_some()))
             .open(*self, path)?;
-        let Some(old) = seen else {
-            return Ok(file);
-        };
-        match copy_owner_and_mode(&file, old) {
-            Ok(()) => Ok(file),
-            Err(error) => {
+        if let Some(old) = seen {
+            if let Err(error) = copy_owner_and_mode(&file, old) {
                 self.discard(held, file);
-                Err(error)
+                return Err(error);
             }
         }
+        Ok(file)
     }
 
     fn write(&mut self, file: &mut File, bytes: &[u8]) -> io::Result<()> {
@@ -437,7 +377,15 @@ impl<'a, R: Files<File = File> + Input + Alloc<A = Global>> Folder for &'a R {
         seen: &Option<Metadata>,
         file: &File,
     ) -> io::Result<()> {
-        check_kept(*self, held, seen, file)
+        let (first, path) = (held.place.new.as_str(), held.place.path.as_str());
+        let is_own = is_at(*self, file, first)?;
+        // Renaming a file to its own name changes nothing, but waits for what others have begun in the folder. So the
+        // last look, right before the new file gets the name, sees what they did.
+        fs::rename(*self, first, first)?;
+        if is_own && is_unchanged(identity_of(seen), identified(self.symlink_metadata(path))?) {
+            return Ok(());
+        }
+        Err(io::Error::from(ErrorKind::AlreadyExists))
     }
 
     fn discard(&mut self, held: &Held, file: File) {
@@ -446,7 +394,12 @@ impl<'a, R: Files<File = File> + Input + Alloc<A = Global>> Folder for &'a R {
     }
 
     fn place_new(&mut self, held: &Held, file: File) -> io::Result<File> {
-        link_or_rename(*self, &held.place)?;
+        let (new, path) = (held.place.new.as_str(), held.place.path.as_str());
+        // If the file system has no hard links, only the look before keeps another file from being replaced.
+        match self.hard_link(new, path) {
+            Err(error) if is_forgiven(Attempt::Link, error.kind()) => fs::rename(*self, new, path)?,
+            linked => linked?,
+        }
         Ok(file)
     }
 
