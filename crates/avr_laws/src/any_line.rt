@@ -47,7 +47,7 @@ ghost use Rattle.avr_laws.specs.Table.{IsProgrammer};
 use super::any_programmer::AnyProgrammer;
 
 /// States that at each moment the memories are what the plan's first write operations make, in order, over any link
-/// that forges no frame. These are the completed ones, and perhaps one more.
+/// that forges no frame. These are the completed ones, and perhaps one more. The programmer is the emulated one.
 // Proof: avr_tool's `session_makes` (OverFaultyLink/WriteOperationOrder), by `makes_items`
 // (OverFaultyLink/WriteOperations).
 pub fn a_run_does_its_write_operations_in_order()
@@ -63,10 +63,13 @@ pub fn a_run_sends_at_most_four_times_its_commands()
     ensures { (plan : Plan) → SendsAtMost IsPartOfEvent (4 * commands_in (run_steps plan)) (session plan) }
 {}
 
-/// States that each report of a run is true of the chip at that moment, whatever the status, over a link that forges no
-/// frame. So each line of a run that failed later can be trusted. What was reported as written has been done to the
-/// chip, and what was verified is in it. What was read and saved is what the chip has, and a reported difference
-/// exists. It holds for any programmer that keeps the rows of the table, if its chip has the plan's part.
+/// States that each report of a run is true of the chip at that moment, whatever the status, at any programmer that
+/// keeps the rows, if its chip has the plan's part. So each line about the chip can be trusted, also if the run failed
+/// later. What was reported as written has been done to the chip, and what was verified is in it. What was read and
+/// saved is what the chip has, and a reported difference exists. The line of a failed step and `done` say nothing of
+/// the chip.
+///
+/// It holds along any exchanges, as over a link that forges no frame. The plan needs only rows that are vouched for.
 // Proof: `reports_by_any` (Table/AnyStatus), by `session_reports` (Reports/Truth).
 pub fn what_a_run_reports_is_true<T: AnyProgrammer>()
     ensures { (plan : Plan) (k : ℕ) (p : T.State) (exchanges : List Exchange)
@@ -137,9 +140,9 @@ pub fn a_session_over_a_wire_can_be_believed()
 {}
 
 /// States that a session over a link that forges no frame makes the plan's first write operations and true reports,
-/// whatever state the programmer is in. The link may lose, spoil, cut, delay and hold anything, and repeat replies.
-/// Each command has an exchange: what was read in reply, and whether the programmer executed it or restarted. All that
-/// the session does follows from its exchanges.
+/// whatever state the emulated programmer is in. The link may lose, spoil, cut, delay and hold anything, and repeat
+/// replies. Each command has an exchange: what was read in reply, and whether the programmer executed it or restarted.
+/// All that the session does follows from its exchanges.
 ///
 /// `bytes` states this in bytes. The programmer may have got any bytes whose good frames are some of those sent, in
 /// order, each at most once: a frame that arrives twice is forged. On the tape that came back each good frame that the
@@ -177,8 +180,8 @@ pub fn a_session_over_any_link()
 {}
 
 /// States that a session over a new link that forges no frame makes the plan's first write operations, also if it
-/// breaks off. These are the ones completed by what was received, and at most one more. Its output is the expected
-/// run's, up to the line of a failed step. This holds also if the link fails.
+/// breaks off. These are the ones completed by what was received, and at most one more. The programmer is the emulated
+/// one. The session's output is the expected run's, up to the line of a failed step. This holds also if the link fails.
 // Proof: `over_any_run` (AnyLink); its write operations are avr_tool's `session_makes`
 // (OverFaultyLink/WriteOperationOrder).
 pub fn whatever_becomes_of_a_session_its_first_write_operations_were_done()

@@ -20,9 +20,10 @@ ghost use Rattle.stk_emu.specs.declared.fate.Fate.{Fate};
 ghost use Rattle.stk_emu.specs.Exchange.{Execution};
 ghost use Rattle.stk_emu.specs.DialogOverExchanges.{state_after, outputs_after, SendsValidBodies};
 
-/// States that a conversation follows from its exchanges (what became of each command and its reply), if no reply that
-/// it takes is forged. Its output and result are those of a run command by command over these exchanges, one for each
-/// frame sent. So is the programmer's state, if the good frames that it received are some of those sent, in order.
+/// States that a conversation with the emulated programmer follows from its exchanges (what became of each command and
+/// its reply), if no reply that it takes is forged. Its output and result are those of a run command by command over
+/// these exchanges, one for each frame sent. So is the programmer's state, if the good frames that it received are some
+/// of those sent, in order.
 pub fn over_any_tape_a_conversation_follows_its_exchanges<E, R>()
     ensures goes { (d : Dialog E R) (n : ℕ) (tape : Tape) (p : Programmer) (executions : List Execution)
         → SendsValidBodies d → RepliesAreAuthentic device d n tape p executions
@@ -32,8 +33,9 @@ pub fn over_any_tape_a_conversation_follows_its_exchanges<E, R>()
         ≡ after_sent_frames device sent executions p }
 {}
 
-/// States that over a link that forges no frame each reply taken is what the programmer sent to that command, or a
-/// refusal. The reply taken has the number of its command, and of the last 256 frames sent only that command has it.
+/// States that over a link that forges no frame each reply taken is what the emulated programmer sent to that command,
+/// or a refusal. The reply taken has the number of its command, and of the last 256 frames sent only that command has
+/// it.
 // Proof: `no_forged_frame_authentic` (Lines/NoForgedFrame).
 pub fn a_link_that_forges_no_frame_is_authentic<E, R>()
     ensures { (d : Dialog E R) (n : ℕ) (tape : Tape) (p : Programmer) (executions : List Execution)

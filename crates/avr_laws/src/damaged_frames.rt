@@ -22,8 +22,9 @@ ghost use Rattle.avr_laws.specs.Damaged.{Arrived, Arrival, BringsReplies, tape_o
 ghost use Rattle.avr_laws.specs.Kept.{HasGeometryOf, KeepsOnPart};
 ghost use Rattle.avr_laws.specs.NoForgedFrame.{ForgesNoFrame};
 
-/// States that a link forges no frame, under conditions, if it only loses or delays whole frames and changes at most
-/// one byte of each. That byte isn't of the start, the size or the token, so the XOR is wrong.
+/// States that a link to the emulated programmer forges no frame, under conditions, if it only loses or delays whole
+/// frames and changes at most one byte of each. That byte isn't of the start, the size or the token, so the XOR is
+/// wrong.
 ///
 /// `programmer`: the good frames that arrive are those that arrived whole. `host`: at each command what comes are
 /// replies to the last 256 frames sent and refusals, damaged or not, of fewer than 4,096 bytes up to the awaited reply.
@@ -37,9 +38,9 @@ pub fn a_link_that_damages_one_byte_forges_no_frame<E, R>()
         [] }
 {}
 
-/// States that with status 0 the chip is as the plan makes it, under conditions, if the link only loses or delays
-/// frames and changes at most one byte of each. If the run was verified, it holds the images. Of the frames sent, in
-/// order, each arrived whole, damaged or not at all. The replies came as in
+/// States that with status 0 an emulated chip is as the plan makes it, under conditions, if the link only loses or
+/// delays frames and changes at most one byte of each. If the run was verified, it holds the images. Of the frames
+/// sent, in order, each arrived whole, damaged or not at all. The replies came as in
 /// [`a_link_that_damages_one_byte_forges_no_frame`].
 ///
 /// The chip has the sizes and pages of the plan's part, and EESAVE at the same bit of the high fuse. Its id and

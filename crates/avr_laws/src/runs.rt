@@ -61,7 +61,7 @@ use stk_host::Link;
 /// row. It may be in any state. It received any bytes whose good frames are some of those sent, also after it restarted,
 /// and no reply was forged. Then the memories of its chip are what the plan's writes make of them, and all that the plan
 /// compares agreed. If the run was verified, each memory holds its images. Elsewhere it holds what it held before, or
-/// the FF of an erase. Each file that a memory was read into has the text of what the chip held then.
+/// the FF of an erase. Each file that a memory was read into got the text of what the chip held then.
 ///
 /// The chip has the sizes and pages of the plan's part, and EESAVE at the same bit of the high fuse. Its id and
 /// signature may be others: the plan that was kept is the one for the chip's own part. Without `-F` status 0 means that
@@ -101,9 +101,9 @@ pub fn status_0_means_the_images_on_an_emulated_chip<D: Desk, L: Link>(
     run(alloc, settings, desk, link)
 }
 
-/// States that all premises of status 0 hold together in a worked run over a bad link, which ended with status 0. The
-/// link brought a reply late, damaged a command and lost another one, and the programmer restarted. The image is what a
-/// file holds, and the chip that of a chip file.
+/// States that all premises of status 0 on an emulated chip hold together in a worked run over a bad link, which ended
+/// with status 0. The link brought a reply late, damaged a command and lost another one, and the programmer restarted.
+/// The image is what a file holds, and the chip that of a chip file.
 // Proof: the lemmas of Rows/Loss.
 pub fn a_run_over_a_bad_link_meets_all_premises()
     ensures image { AreTasksOf WasOpened loss_part loss_updates loss_plan.tasks (all_openings image_read) }
@@ -117,9 +117,10 @@ pub fn a_run_over_a_bad_link_meets_all_premises()
         ≡ 0x12 ∷ 0x34 ∷ 0xFF ∷ 0xFF ∷ 0xFF ∷ 0xFF ∷ 0xFF ∷ 0xFF ∷ [] }
 {}
 
-/// States that a broken-off run and the same run with status 0 leave what one run leaves, if no frame is forged, except
-/// for one fuse case. The first may have ended with any status, been killed, or lost its link. The programmer may then
-/// be in any state, as long as its chip holds what the first run left. It is one that keeps the rows of the table.
+/// States that at any programmer that keeps the rows a broken-off run and the same run with status 0 leave what one
+/// run leaves, except for one fuse case. No frame is forged. The first may have ended with any status, been killed, or
+/// lost its link. The programmer may then be in any state, as long as its chip holds what the first run left. Each time
+/// the plan needs only rows that are vouched for.
 ///
 /// `IsBegunByAny` is what law `whatever_the_status_first_write_operations_were_made` states of the first run, and
 /// `IsKeptByAny` what [`status_0_means_the_images`] states of the second. The chip has the sizes and pages of the
