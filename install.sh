@@ -9,7 +9,7 @@
 #                                           it made, by the manifest share/avrstk/manifest
 #     ./install.sh --help                   prints this text
 #
-# A file that is there and that no version installed is never replaced or removed, and no file outside PREFIX is written
+# A file that is there and that no version installed is never replaced or removed, and nothing outside PREFIX is installed
 # or removed: links that lead out of it are refused. The environment variable AVRSTK names another program to install.
 # With DESTDIR, for packages, all files go under $DESTDIR/PREFIX, without the manifest, and replace those there.
 set -euo pipefail

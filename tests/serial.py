@@ -455,7 +455,7 @@ def no_firmware():
     why.update(dict.fromkeys(JOINED, joined))
     why.update(
         {"lib.elf": "is an ar archive, not firmware"},
-        **dict.fromkeys(["note.ELF", "a.out"], "is not ELF, as its name says"),
+        **dict.fromkeys(["note.ELF", "a.out"], "is not ELF, despite its name"),
     )
     others = {"lib.elf": PACKED["lib.a"][0], "note.ELF": room.read("blink.hex"), "a.out": b"\x0c\x94\0\0"}
     contents = {**TEXTS, **EMPTY, **JOINED, **others, **{name: held for name, (held, _) in PACKED.items()}}
@@ -745,7 +745,7 @@ def retries_that_are_refused():
         return status, own[0].partition("may not repair this one: ")[2]
 
     two = ["-U", "flash:w:blink.hex:i", "-U", "flash:w:late.hex:i"]
-    check_equal("--retry without avrstk_session", ran(*two), (1, "it writes a page of flash twice"))
+    check_equal("--retry without avrstk_session", ran(*two), (1, "it may write a page of flash twice"))
     # (what prints the pages of a plan is beside avrstk)
     (room.folder / "avrstk_session").symlink_to(SESSION)
     for words, why in table("retries"):
@@ -782,6 +782,11 @@ def the_part_of_the_chip():
     for more in [["-P", "emu:chip.bin"], [*CLASSIC, "-P", os.devnull]]:
         status, _, told, own = run([*words, *more])
         check(f"{more}", (status, told) == (1, b"") and own[-1].startswith("-p auto is for a device"), own)
+    each = ["--each", "eeprom@512={n}", "--counter", "untaken", "--from", "5"]
+    _, _, _, own, _ = over(["-p", "auto", *each], board_of("part t85"))
+    has = "--each: eeprom of t85 has 512 bytes: nothing was written"
+    check_equal("a text outside the chip's EEPROM", own, ["the chip is t85 (1E 93 0B)", has])
+    check("no number was taken", not (room.folder / "untaken").exists())
 
 
 def screen(text):
@@ -918,11 +923,13 @@ def backups():
     def refused(answer):
         return frame(answer[1], b"\x1c\xc0") if answer[5] == 0x1C else written(answer)
 
+    only_leaving = "everything was done; only the last command got no reply. Power-cycle the board"
     fails = [
-        ({"answer": refused}, ["--backup", "gone"], loader),
+        ({"answer": refused}, ["--backup", "gone"], f"{loader}; no backup is kept"),
         ({"answer": refused}, ["--restore", "a backup"], loader),
         ({"talk": b"x"}, ["--backup", "gone", "-b", "x"], "-b x: not a speed"),
         (silent(0x16), ["--backup", "gone"], "no further valid reply"),
+        (silent(0x11), ["--backup", "gone"], f"{only_leaving}; no backup is kept"),
         (
             board_of("part t85"),
             ["-p", "t85", "--restore", "a backup"],
@@ -969,7 +976,7 @@ def warnings():
         own = run(["-p", part, "-P", "emu:no.bin", *words.split()])[3]
         room.clear()
         check(f"{part} {words}", bool(own) == bool(wanted) and all(it.startswith(wanted) for it in own), own)
-    hides = "flash is erased, or the lock hides it: -U lock:r:-:h prints the lock, whose bit 1 is 0 then"
+    hides = "flash is erased, or the lock hides it (then -U lock:r:-:h prints a lock whose bit 1 is 0)"
     for words, told in ("", [hides]), ("-A", []), ("-q -q", []):
         check_equal(f"erased {words}", over(["-p", "m328p", *words.split(), "-U", "flash:r:none.hex:i"])[3], told)
 

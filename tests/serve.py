@@ -681,7 +681,7 @@ def logs_that_take_no_more():
     room.put("log", b"x" * 10)
     rows = [
         ("/dev/full", [], "No space left on device"),
-        ("log", ["--log-limit", "100"], "it is as long as --log-limit allows"),
+        ("log", ["--log-limit", "100"], "it would be longer than --log-limit allows"),
     ]
     for name, words, why in rows:
         with Serving("--log", name, *words) as server, server.call() as client:

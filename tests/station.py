@@ -281,7 +281,11 @@ def into_images():
             (number, f"0{2 * number - 1}0{2 * number}"),
         )
     status, _, messages = run(["-p", "m328p", "-P", "emu:3.bin", *rows, "--counter", "rows"])
-    check_equal("no third row", (status, messages), (1, ["avrstk-serial: --rows rows.csv: all its 2 rows are given"]))
+    check_equal(
+        "no third row",
+        (status, messages),
+        (1, ["avrstk-serial: --rows rows.csv has 2 rows, and the next number is greater"]),
+    )
 
 
 COUNTED = [*EACH, "--counter", "counter", "--from", "0"]
@@ -393,7 +397,7 @@ def signals():
             messages = station.communicate(timeout=PATIENCE)[1].decode().splitlines()
         check_equal(f"{number.name}: the status", station.returncode, 1)
         for name in names:
-            state = f"ended by {number.name}: the chip is erased or partly written, and may be held in reset"
+            state = f"ended by {number.name}: the chip may be erased or partly written, and held in reset"
             check(
                 f"{number.name}: {name}",
                 any(row.startswith(f"{name}: avrstk-serial: {state}") for row in messages),

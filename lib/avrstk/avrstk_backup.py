@@ -40,7 +40,10 @@ def back_up(words: Words, folder: str, runs: Callable[[], int]) -> int:
         raise Fault(f"--backup {folder}: {fault.strerror}: {UNOPENED}")
     try:
         words.updates = [Update(f"{memory}:r:{folder}/{memory}.{end}") for memory, end in FILES.items()]
-        status = runs()
+        try:
+            status = runs()
+        except Fault as fault:
+            raise Fault(f"{fault}; no backup is kept")
         if not status and not bytes_of(folder, "lock")[0] & 2:
             raise Fault(f"the chip is {LOCKED}: no backup is kept")
         is_whole = not status

@@ -87,7 +87,7 @@ class Counter:
             return self.least
         # (after the greatest number the file has one more)
         if not re.fullmatch("[0-9]{1,16}\n", text):
-            raise Fault(f"--counter {self.given} has no number in its first line")
+            raise Fault(f"--counter {self.given} is not one line with a number")
         return max(int(text), self.least or 0)
 
     def take(self, most: int, why: str) -> int:
@@ -155,6 +155,8 @@ class Each:
         self.file, self.specs = rows, [Spec(given, ["n", *self.names]) for given in words.each_given]
         self.counter = Counter(counter, None if least is None else int(least))
         self.base: list[Update] | None = None
+        # what a refusal says of the chip
+        self.end = UNOPENED
         self.number: int | None = None
 
     def row(self, number: int) -> dict[str, str]:
@@ -164,7 +166,7 @@ class Each:
         """Returns the greatest number, and what is wrong with a later one."""
         if self.rows is None:
             return MOST, f"--counter {self.counter.given}: all numbers up to {MOST} are given"
-        return len(self.rows), f"--rows {self.file}: all its {len(self.rows)} rows are given"
+        return len(self.rows), f"--rows {self.file} has {len(self.rows)} rows, and the next number is greater"
 
     def judge(self, words: Words) -> None:
         """Puts the next number into the images, so that they can be judged. It isn't taken yet."""
@@ -211,10 +213,10 @@ class Each:
         size = words.field(f"{memory}_size")
         ends = [at + len(held) for at, held in pieces]
         if size and max(ends) > size:
-            raise Fault(f"--each: {memory} of {words.part} has {size} bytes: {UNOPENED}")
+            raise Fault(f"--each: {memory} of {words.part} has {size} bytes: {self.end}")
         for end, (at, _) in zip(ends, pieces[1:]):
             if end > at:
-                raise Fault(f"--each: two texts have a byte at {memory}@0x{at:X}: {UNOPENED}")
+                raise Fault(f"--each: two texts have a byte at {memory}@0x{at:X}: {self.end}")
 
     def reported(self) -> dict[str, object]:
         """Returns the fields of a report."""

@@ -113,7 +113,7 @@ class Log:
             if len(held) <= self.room and not self.rest:
                 self.rest, self.room, self.lost = held[os.write(self.file, held) :], self.room - len(held), 0
                 return
-            why = "its reader is too slow" if self.rest else "it is as long as --log-limit allows"
+            why = "its reader is too slow" if self.rest else "it would be longer than --log-limit allows"
         except OSError as fault:
             why = "its reader is too slow" if isinstance(fault, BlockingIOError) else str(fault.strerror)
         self.lost += 1
@@ -142,7 +142,7 @@ class Traffic:
         self.lateness = seconds("--late", last.get("--late", "0:1"))
         seed = last.get("--seed", str(random.randrange(1_000_000)))
         if not re.fullmatch("[0-9]{1,18}", seed):
-            raise Fault(f"--seed {seed}: not a number")
+            raise Fault(f"--seed {seed}: not a number of at most 18 digits")
         chance = random.Random(seed).random
         given = [(option, value) for option, value in options if option in FAULTS]
         self.given = [f"{option} {value}" for option, value in given]

@@ -23,6 +23,7 @@ ONE_IMAGE = "give one image that begins at 0 and leaves out no page"
 POWER_CYCLE = "power-cycle the board"
 UNCHANGED = "the chip is unchanged"
 TAKES = "flash (a bootloader, too), and EEPROM unless the fuse bit EESAVE is 0"
+HIDDEN = "or the lock hides it (then -U lock:r:-:h prints a lock whose bit 1 is 0)"
 LOCKED = f"a lock protects it: only an erase (-e) removes the lock, and clears all of {TAKES}"
 ANOTHER = "If this is a programmer, it can't erase: use another one"
 LOADER = "a bootloader can't erase the chip"
@@ -60,7 +61,7 @@ def state_of(run: Outcome) -> str:
         return UNCHANGED
     if not CHANGING & sent:
         return f"{UNCHANGED}, and may be held in reset: {POWER_CYCLE}"
-    return f"the chip is erased or partly written, and may be held in reset: {again(run.words)}"
+    return f"the chip may be erased or partly written, and held in reset: {again(run.words)}"
 
 
 def again(words: Words) -> str:
@@ -108,7 +109,7 @@ def hint(run: Outcome, number: int | None) -> str:
         why = f"the device sends data, but no valid reply: its application is running, or {speed} is wrong"
         return f"{why}. Check {others}"
     if error == "no answer" and run.left_at_error:
-        return f"everything above was done; only the last command got no reply. {POWER_CYCLE.capitalize()}"
+        return f"everything was done; only the last command got no reply. {POWER_CYCLE.capitalize()}"
     if error == "no answer" and run.commands <= {SIGN_ON, LEAVE}:
         return f"no valid reply; {UNCHANGED}. Check: {speed}; that no serial monitor has the port open; {others}"
     return matched(REPLIED, error, words, speed=speed, state=state) or state
@@ -150,7 +151,7 @@ def no_part(words: Words, _: Match[str] | None) -> str:
     if re.match("uno|nano|pro|mega|leonardo|micro", name):
         boards = "m328p for Uno, Nano and Pro Mini, m2560 for Mega 2560, m32u4 for Leonardo, Micro and Pro Micro"
         return f"-p takes the chip's name, not the board's: {boards}"
-    auto = "" if words.part else ", and -p auto takes whichever is there"
+    auto = "" if words.part or words.has_port else ", and -p auto takes whichever is there"
     return f"-p '?' lists the parts{auto}; others need a part file (--parts)"
 
 
@@ -243,7 +244,8 @@ def differs(words: Words, found: Match[str]) -> str:
             return "bits that this part lacks read 0, not 1: is -p right?"
         return f"only bits that the part doesn't have differ: give {memory}:{'w' if writes else 'v'}:0x{held:02X}:m"
     if not writes:
-        return f"{memory} holds something else than {compared}"
+        is_hidden = memory in ("flash", "eeprom") and not words.is_bootloader
+        return f"{memory} holds something else than {compared}" + f", {HIDDEN}" * is_hidden
     if memory in FUSES:
         return unlike_fuse(words, memory, wanted, held)
     if is_after_lock(words, memory):

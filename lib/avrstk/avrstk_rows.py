@@ -440,7 +440,7 @@ class Rows:
         if self.undo and old and not self.is_all:
             place = self.cell, old[self.cell : self.cell + self.part["eeprom_page"]]
             if self.programmer.ask(*self.writing("eeprom", *place))[1:2] == b"\0":
-                self.undo = ""
+                self.undo, self.chip = "", {**self.chip, "eeprom": old}
         self.programmer.ask(LEAVE)
 
     def left(self) -> str:

@@ -9,8 +9,8 @@ from avrstk_backup import asking, back_up, restored
 from avrstk_each import Each
 from avrstk_report import Report, fault_of, write
 from avrstk_rows import try_rows
-from avrstk_hints import LEAVE, NO_CHIP, NO_SIGNATURES, ONE_IMAGE, SIGN_ON, Outcome, hint, may_erase_kept
-from avrstk_hints import overwritten, state_of
+from avrstk_hints import HIDDEN, LEAVE, NO_CHIP, NO_SIGNATURES, ONE_IMAGE, POWER_CYCLE, SAME, SIGN_ON, Outcome, hint
+from avrstk_hints import may_erase_kept, overwritten, state_of
 from avrstk_station import station
 from avrstk_version1 import SPEEDS, Bridge
 from avrstk_words import FORMATS, FUSES, UNOPENED, Update, Words, long_name, parts_of
@@ -45,8 +45,8 @@ REFUSED = {
     "-T": "-T is not supported: read with -U MEMORY:r:-:h and write with -U MEMORY:w:FILE",
     "-y": "-y is not supported: erase cycles are not counted in EEPROM",
     "-Y": "-Y is not supported: erase cycles are not counted in EEPROM",
-    "--serve": "--serve is for a programmer without a device: give it to avrstk",
-    "--chip": "--chip is for a programmer without a device: give it to avrstk",
+    "--serve": "--serve is for the emulated programmer: give it to avrstk",
+    "--chip": "--chip is for the emulated programmer: give it to avrstk",
 }
 
 # AVRDUDE's names of programmers with this protocol on a serial device, and of others that users often ask for
@@ -112,14 +112,14 @@ def unrepaired(words: Words) -> str | None:
     written: set[str] = set()
     for update in words.updates:
         if update.is_stream():
-            return f"{update.file} can't be written twice"
+            return f"{'standard output' if update.file == '-' else update.file} can't be written twice"
         if update.operation == "v" and update.memory not in written:
             return f"it compares {update.memory}, which it didn't write before"
         if update.operation == "w":
             if "lock" in written:
                 return "it writes after the lock"
             if update.memory == "flash" and "flash" in written and overlaps(words.plan().pages):
-                return "it writes a page of flash twice"
+                return "it may write a page of flash twice"
             written.add(update.memory)
     lost = overwritten(words)
     if lost:
@@ -532,9 +532,11 @@ def judge(words: Words) -> None:
     if not re.fullmatch(r"[0-9]{1,2}", words.retry):
         raise Fault(f"--retry {words.retry}: not a number from 0 to 99")
     if not words.has_port and not os.path.exists("/proc/net"):
-        raise Fault("there is no /proc: who calls can't be told then")
+        raise Fault("there is no /proc, which shows whether a caller of this run's port is avrstk")
     if int(words.retry):
-        unfit = "avrstk's own ports are run once" if words.has_port else unrepaired(words)
+        if words.has_port:
+            raise Fault(f"--retry is for a serial device, not -P {words.device}")
+        unfit = unrepaired(words)
         if unfit:
             raise Fault(f"--retry: the same command again may not repair this one: {unfit}")
 
@@ -650,7 +652,7 @@ def judge_bootloader(words: Words) -> None:
         raise Fault(f"{is_for}, which can't erase the chip: {', and '.join(cures)}. {programmer}; {UNOPENED}")
     for update in words.updates if words.is_version1 else []:
         if update.memory not in ("flash", "signature"):
-            why = f"{is_for}, which has flash alone: use a programmer"
+            why = f"{is_for}, which has only flash and the signature: use a programmer"
             raise Fault(f"-U {update.given}: {why}; {UNOPENED}")
     if words.is_wiring:
         judge_pieces(words, UNOPENED)
@@ -682,7 +684,7 @@ def joined(writes: list[Update], pages: list[tuple[int, int]]) -> str:
     words = ["(", *words, ")"] if len(words) > 2 and fill else words
     line = " ".join(map(shlex.quote, ["srec_cat", *words, *fill, "-o", "joined.hex", "-Intel"]))
     below = "; BELOW.hex has what is to stay below" * ("BELOW.hex" in words)
-    told = f"Type {line}, and give joined.hex, whose gaps are FF{below}"
+    told = f"Type {line}, and give joined.hex{', whose gaps are FF' * bool(fill)}{below}"
     return told if all(kinds) else ONE_IMAGE.capitalize()
 
 
@@ -799,6 +801,9 @@ def ask(
         raise Fault(f"the device refuses command 1C, as a bootloader does: {risk}; nothing was written")
     if outcome.status:
         messages.put(b"".join(lines))
+        if outcome.left_at_error and outcome.error == "no answer" and not ended_by() and not words.has_port:
+            why = "the session before the run got no reply to its last command; nothing was written"
+            raise Fault(f"{why}. {POWER_CYCLE.capitalize()}, and {SAME}")
         if not words.has_port:
             raise Fault(hint(outcome, ended_by()))
     return outcome, b"".join(lines).decode()
@@ -900,6 +905,10 @@ def execute(words: Words) -> int:
     if words.part == "auto":
         sent |= detect(words)
         judge_part(words, "nothing was written")
+        if words.each:
+            # (only now the size of a memory is known, and no number is taken yet)
+            words.each.end = "nothing was written"
+            words.each.judge(words)
     risk = risk_of_loader(words)
     if risk and not sent:
         # (what avrstk refuses opens no device)
@@ -922,7 +931,7 @@ def execute(words: Words) -> int:
     if outcome.status and not words.has_port:
         raise Fault(hint(outcome, ended_by()))
     if not outcome.status and words.backup is None and "flash: 0 bytes read" in words.report.lines:
-        words.note("flash is erased, or the lock hides it: -U lock:r:-:h prints the lock, whose bit 1 is 0 then")
+        words.note("flash is erased" + f", {HIDDEN}" * (not words.is_bootloader))
     return outcome.status
 
 

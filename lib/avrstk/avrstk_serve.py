@@ -401,7 +401,7 @@ def door_of(places: list[str], options: Mapping[str, str], idle: float | None, c
     """Returns what clients call: a port or a link."""
     if "--pty" in options:
         if places or "--listen" in options:
-            raise Fault("a port and --pty: give one of the two")
+            raise Fault("--pty is in place of a port and --listen: leave those out")
         # (a command may look for it in another folder)
         return Link(os.path.abspath(options["--pty"]) if command else options["--pty"])
     if len(places) != 1:
@@ -436,7 +436,7 @@ def fails(*command: str) -> bool:
 def main(help_text: str) -> int:
     at = sys.argv.index("--") if "--" in sys.argv else len(sys.argv)
     client, program = sys.argv[at + 1 :], stray(sys.argv[1:at])
-    if sys.argv[-1] == "--":
+    if sys.argv[at:] == ["--"]:
         raise Fault("no command after --")
     if program and not client:
         raise Fault(f"{program}: a command comes after --")

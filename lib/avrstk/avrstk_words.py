@@ -136,10 +136,14 @@ class Words:
         self.speeds = known if baud is None else (int(baud),) if re.fullmatch(r"0*[1-9][0-9]{0,8}", baud) else ()
         self.given = [value for name, value in options if name == "-U"]
         self.updates = [Update(update) for update in self.given]
-        for name, excluded in [("--backup", "-U -e --each --restore"), ("--restore", "-U -e -D -V -n -F")]:
+        excluded_by = [
+            ("--backup", "reads all memories", "-U -e --each --restore"),
+            ("--restore", "is for all memories, and verifies", "-U -e -D -V -n -F"),
+        ]
+        for name, what, excluded in excluded_by:
             found = [option for option in excluded.split() if name in last and option in last]
             if found:
-                raise Fault(f"{name} is for all memories, and verifies: leave out {' and '.join(found)}")
+                raise Fault(f"{name} {what}: leave out {' and '.join(found)}")
             if name in last and self.is_bootloader:
                 raise Fault(f"{name} needs a programmer, not a bootloader")
         self.flags = [name for name, _ in options if name in FLAGS]
@@ -377,12 +381,12 @@ class Update:
         if packed:
             return f"is {packed}, not firmware"
         if self.file.lower().endswith(OF_ELF):
-            return "is not ELF, as its name says"
+            return "is not ELF, despite its name"
         if RECORD.match(front) or not (is_text(front, 20) or self.memory == "flash" and is_text(front.strip(b"\0"), 2)):
             return None
         cure = "give it as raw bytes (:r) only if its characters are meant"
         if self.memory in FUSES:
-            cure = f"give its value, as {self.memory}:w:0xNN:m"
+            cure = f"give its value, as {self.memory}:{self.operation}:0xNN:m"
         return f"is text without records: {cure}"
 
     def fault_of_elf(self, held: bytes) -> str | None:
