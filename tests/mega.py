@@ -225,9 +225,8 @@ def asked_first():
     )
     far = "-U {}: a bootloader reads other addresses above 255: use a programmer"
     asked = {f"flash:w:{name}.hex:i": order for name in ("late", "gap")}
-    asked.update(
-        {update: far.format(update) for update in ("eeprom:w:long.bin:r", "eeprom:r:back.bin:r", "eeprom:v:long.bin:r")}
-    )
+    for update in "eeprom:w:long.bin:r", "eeprom:r:back.bin:r", "eeprom:v:long.bin:r":
+        asked[update] = far.format(update)
     cases = [(["-D", "-V", "-U", update], why) for update, why in asked.items()]
     cases.append((["-q", "-q", "-D", *updates("flash:w:a.hex:i", "flash:w:late.hex:i")], order))
     with Board(old) as board:

@@ -107,7 +107,10 @@ class Board:
             if self.stopped.wait(0.005):
                 return
         self.opened = 1
-        self.talks() if self.talk else self.answers()
+        if self.talk:
+            self.talks()
+        else:
+            self.answers()
 
     def talks(self):
         while is_open(self.line) and not self.stopped.wait(0.05):
@@ -158,6 +161,8 @@ class Bootloader:
 
     def __init__(self, flash, takes_lock=False):
         self.flash, self.takes_lock = bytearray(flash), takes_lock
+        # where the next block begins, and how much is erased, since the last call
+        self.address = self.erased = 0
 
     def call(self):
         ours, caller = socket.socketpair()
@@ -375,9 +380,10 @@ def archive(opened):
     """Returns the bytes of a tar or zip archive with a file."""
     held = io.BytesIO()
     with opened(held) as packed:
-        packed.writestr("main.hex", "") if isinstance(packed, zipfile.ZipFile) else packed.addfile(
-            tarfile.TarInfo("main.hex")
-        )
+        if isinstance(packed, zipfile.ZipFile):
+            packed.writestr("main.hex", "")
+        else:
+            packed.addfile(tarfile.TarInfo("main.hex"))
     return held.getvalue()
 
 
@@ -445,6 +451,34 @@ def piped(words, content, **more):
         os.close(reader)
 
 
+def texts_and_firmware():
+    """A text from a pipe is refused for flash. EEPROM may hold one, and firmware may have strings."""
+    # (a log whose end or beginning was never written; EEPROM may hold a text that a NUL ends)
+    for raw in [b"make: all is made\n" + bytes(4000), bytes(500) + b"make: all is made\n", b"SN00042\0"]:
+        found = piped([*NO_CHIP, "-U", "flash:w:-"], raw)
+        check_equal(
+            f"{raw[:20]}: flash",
+            found,
+            (
+                1,
+                b"",
+                b"",
+                [f"- is text without records: give it as raw bytes (:r) only if its characters are meant: {UNOPENED}"],
+            ),
+        )
+    found = piped([*NO_CHIP, "-U", "eeprom:w:-"], raw)
+    check_equal("a text in EEPROM", (found[0], room.read("no.bin")[32_768:][: len(raw)]), (0, raw))
+    status, *_ = run([*NO_CHIP, "-U", "eeprom:w:m.c:r"])
+    check_equal("a text as raw bytes", (status, room.read("no.bin")[32_768:][: len(TEXTS["m.c"])]), (0, TEXTS["m.c"]))
+    # (vectors, and strings right behind them)
+    tiny = (
+        bytes.fromhex("0EC028C027C026C025C024C023C022C021C020C01FC01EC01DC01CC01BC0") + b"Temperature too high\r\n" * 60
+    )
+    for name, raw in [("tiny.bin", tiny), ("jumps.bin", bytes.fromhex("0C945C00") * 26 + tiny[30:])]:
+        found = piped([*NO_CHIP, "-U", "flash:w:-"], raw)
+        check(f"{name} is firmware", (found[0], room.read("no.bin")[: len(raw)]) == (0, raw), found)
+
+
 def no_firmware():
     """A text without records, an archive, a page and an image without a byte are refused, also from a pipe; a text as
     raw bytes (:r) is not."""
@@ -473,30 +507,7 @@ def no_firmware():
         cases, side_by_side(lambda case: piped([*NO_CHIP, *case[0]], case[1]), cases)
     ):
         check_equal(f"{words} {name}", found, (1, b"", b"", [f"{shown} {why[name]}: {UNOPENED}"]))
-    # (a log whose end or beginning was never written; EEPROM may hold a text that a NUL ends)
-    for raw in [b"make: all is made\n" + bytes(4000), bytes(500) + b"make: all is made\n", b"SN00042\0"]:
-        found = piped([*NO_CHIP, "-U", "flash:w:-"], raw)
-        check_equal(
-            f"{raw[:20]}: flash",
-            found,
-            (
-                1,
-                b"",
-                b"",
-                [f"- is text without records: give it as raw bytes (:r) only if its characters are meant: {UNOPENED}"],
-            ),
-        )
-    found = piped([*NO_CHIP, "-U", "eeprom:w:-"], raw)
-    check_equal("a text in EEPROM", (found[0], room.read("no.bin")[32_768:][: len(raw)]), (0, raw))
-    status, *_ = run([*NO_CHIP, "-U", "eeprom:w:m.c:r"])
-    check_equal("a text as raw bytes", (status, room.read("no.bin")[32_768:][: len(TEXTS["m.c"])]), (0, TEXTS["m.c"]))
-    # (vectors, and strings right behind them)
-    tiny = (
-        bytes.fromhex("0EC028C027C026C025C024C023C022C021C020C01FC01EC01DC01CC01BC0") + b"Temperature too high\r\n" * 60
-    )
-    for name, raw in [("tiny.bin", tiny), ("jumps.bin", bytes.fromhex("0C945C00") * 26 + tiny[30:])]:
-        found = piped([*NO_CHIP, "-U", "flash:w:-"], raw)
-        check(f"{name} is firmware", (found[0], room.read("no.bin")[: len(raw)]) == (0, raw), found)
+    texts_and_firmware()
     wanted = [f"/dev/zero has more than 67,108,864 bytes: {UNOPENED}"]
     check_equal("what never ends", run([*NO_CHIP, "-U", "flash:w:/dev/zero:r"]), (1, b"", b"", wanted))
 
@@ -881,40 +892,13 @@ def few_lines():
     board.end()
 
 
-def backups():
-    """--backup reads all memories, and --restore writes and compares them, whatever the chip's EEPROM and lock are. A
-    folder of a run that fails doesn't stay."""
-    old = bytes(number % 241 for number in range(700)).ljust(32_768, b"\xff") + bytes(
-        number % 239 for number in range(200)
-    ).ljust(1024, b"\xff")
+def status_and_lines(words, board):
+    """Runs these options over a board. Returns the status, and the script's own lines."""
+    return over(["-p", "m328p", *words], board)[::3]
 
-    def told(words, board):
-        return over(["-p", "m328p", *words], board)[::3]
 
-    for fuses, name in [("E2D1FDFF", "a backup"), ("62D907FE", "-x")]:
-        room.put("old.bin", old + bytes.fromhex(fuses))
-        status, output, _, own, _ = over(["-p", "m328p", "--wait", "0.4", "--backup", name], {"chip": "old.bin"})
-        words = shlex.split(output.decode())
-        check(f"{name}: its command", words[:5] == ["avrstk-serial", "--wait", "0.4", "-p", "m328p"], output)
-        check_equal(
-            f"{name}: there is none yet",
-            told(["--backup", name], {}),
-            (1, [f"--backup {name}: File exists: {UNOPENED}"]),
-        )
-        # (this high fuse keeps EEPROM at an erase. This lock forbids all but an erase)
-        for chip in [b"\xe1\xd7\xfa\xfc", b"\xff" * 4]:
-            room.put("new.bin", bytes(33_792) + chip)
-            programmer = Boards({}, {}, chip="new.bin")
-            found = run([str(programmer.device) if word.startswith("/dev/") else word for word in words[1:]])
-            check_equal(f"{name}: restored", (found[0], programmer.end() == old + bytes.fromhex(fuses)), (0, True))
-        programmer = Boards({}, silent(0x15), {}, chip="new.bin")
-        found = run(
-            [*(str(programmer.device) if word.startswith("/dev/") else word for word in words[1:]), "--retry", "1"]
-        )
-        check_equal(f"{name}: restored again", (found[0], programmer.end() == old + bytes.fromhex(fuses)), (0, True))
-    room.put("old.bin", b"\xff" * 33_796)
-    for words in [["--backup", "none"], ["--restore", "none"]]:
-        check_equal("an erased chip", run(["-p", "m328p", "-P", "emu:old.bin", *words])[0], 0)
+def backups_that_fail():
+    """A failed backup leaves no folder. A chip of another part, or a folder with faults, is not restored."""
     loader = "a bootloader can't write fuses and the lock, or read the calibration: use a programmer"
 
     def written(answer):
@@ -943,7 +927,7 @@ def backups():
     locked = "locked, so its flash and EEPROM can't be read"
     fails.append(({"chip": "locked.bin"}, ["--backup", "gone"], f"the chip is {locked}: no backup is kept"))
     for board, words, why in fails:
-        status, own = told(words, board)
+        status, own = status_and_lines(words, board)
         check(f"{words}: {why}", status == 1 and own[-1].startswith(why) and not (room.folder / "gone").exists(), own)
     for file, text, why in [
         ("lock.txt", b"0xfc", f"none is of a chip that was {locked}"),
@@ -951,8 +935,39 @@ def backups():
     ]:
         kept = room.read(f"none/{file}")
         room.put(f"none/{file}", text)
-        check_equal(why, told(["--restore", "none"], {"talk": b"x"}), (1, [f"{why}: {UNOPENED}"]))
+        check_equal(why, status_and_lines(["--restore", "none"], {"talk": b"x"}), (1, [f"{why}: {UNOPENED}"]))
         room.put(f"none/{file}", kept)
+
+
+def backups():
+    """--backup reads all memories, and --restore writes and compares them, whatever the chip's EEPROM and lock are. A
+    folder of a run that fails doesn't stay."""
+    flash, eeprom = bytes(number % 241 for number in range(700)), bytes(number % 239 for number in range(200))
+    old = flash.ljust(32_768, b"\xff") + eeprom.ljust(1024, b"\xff")
+    for fuses, name in [("E2D1FDFF", "a backup"), ("62D907FE", "-x")]:
+        room.put("old.bin", old + bytes.fromhex(fuses))
+        status, output, _, own, _ = over(["-p", "m328p", "--wait", "0.4", "--backup", name], {"chip": "old.bin"})
+        words = shlex.split(output.decode())
+        check(f"{name}: its command", words[:5] == ["avrstk-serial", "--wait", "0.4", "-p", "m328p"], output)
+        check_equal(
+            f"{name}: there is none yet",
+            status_and_lines(["--backup", name], {}),
+            (1, [f"--backup {name}: File exists: {UNOPENED}"]),
+        )
+        # (this high fuse keeps EEPROM at an erase. This lock forbids all but an erase)
+        for chip in [b"\xe1\xd7\xfa\xfc", b"\xff" * 4]:
+            room.put("new.bin", bytes(33_792) + chip)
+            programmer = Boards({}, {}, chip="new.bin")
+            found = run([str(programmer.device) if word.startswith("/dev/") else word for word in words[1:]])
+            check_equal(f"{name}: restored", (found[0], programmer.end() == old + bytes.fromhex(fuses)), (0, True))
+        programmer = Boards({}, silent(0x15), {}, chip="new.bin")
+        words = [str(programmer.device) if word.startswith("/dev/") else word for word in words[1:]]
+        found = run([*words, "--retry", "1"])
+        check_equal(f"{name}: restored again", (found[0], programmer.end() == old + bytes.fromhex(fuses)), (0, True))
+    room.put("old.bin", b"\xff" * 33_796)
+    for words in [["--backup", "none"], ["--restore", "none"]]:
+        check_equal("an erased chip", run(["-p", "m328p", "-P", "emu:old.bin", *words])[0], 0)
+    backups_that_fail()
     for folder in ["a backup", "none", "-x"]:
         shutil.rmtree(room.folder / folder)
 
@@ -992,14 +1007,51 @@ def asked(words, *each):
 
     programmer = Boards(*map(noting, each))
     status, _, printed, own = run(["-p", "m2560", "-P", str(programmer.device), *words, "--json", name])
-    return (
-        status,
-        printed,
-        [row.replace(str(programmer.device), "DEVICE") for row in own],
-        programmer.end(),
-        done,
-        report_of(name),
+    own = [row.replace(str(programmer.device), "DEVICE") for row in own]
+    return status, printed, own, programmer.end(), done, report_of(name)
+
+
+def asked_and_done():
+    """A programmer that was asked makes the run. The question is no part of its lines, its retries and its updates."""
+    # (a verification reads all of flash)
+    words = {"-D -V -U flash:w:late.hex:i": 2, "-q -q -D -V -U flash:w:blink.hex:i -U flash:w:late.hex:i": 2}
+    words.update({"-U eeprom:w:long.bin:r": 2, "-n -U eeprom:r:long.out:r": 2, "-V -U flash:w:late.hex:i": 1})
+    words.update({"-D -V -U flash:w:blink.hex:i": 1, "-D -n -V -U flash:w:late.hex:i": 1, "-V -U lock:w:0xFC:m": 1})
+    words.update({"-c wiring -D -V -U flash:w:blink.hex:i": 1})
+    wanted = [emulated(*without(without(options.split(), "-c"), "wiring"), part="m2560") for options in words]
+    found = side_by_side(unpaused(lambda case: asked(case[0].split(), *[{}] * case[1])), words.items())
+    for (options, count), chip, (status, printed, own, held, done, report) in zip(words.items(), wanted, found):
+        check_equal(
+            f"{options}: asked or not", (status, own, done.count(0x11), 0x1C in done), (0, [], count, count > 1)
+        )
+        check(f"{options}: the run's own lines alone", b"calibration" not in printed, printed)
+        check_equal(f"{options}: the chip, and retries", (held == chip, report["retries"]), (True, 0))
+    status, printed, own, _, done, report = asked(
+        ["-U", "eeprom:r:back.bin:r", "-U", "calibration:r:byte.txt:h"], {}, silent(0x16)
     )
+    counts = [update["read"] for update in report["updates"]]
+    check_equal("what was asked is no update", (status, counts, done.count(0x1C)), (1, [None, None], 1))
+
+
+def asked_over_a_port():
+    """A device behind a port is asked, too."""
+    how = {"cwd": room.folder, "env": os.environ | {"AVRSTK": str(PROGRAM)}, "stdout": subprocess.PIPE}
+    for more, status, wanted in [
+        ([], 0, []),
+        (["--mega"], 1, ["the device refuses command 1C, as a bootloader does: "]),
+    ]:
+        command = [TOP / "avrstk-serve", "0", "-p", "m2560", "--chip", "net.bin", *more]
+        with subprocess.Popen(command, **how) as served:
+            port = int(served.stdout.readline().rpartition(b":")[2])
+            found = run(["-p", "m2560", "-P", f"net:127.0.0.1:{port}", "-D", "-V", "-U", "flash:w:late.hex:i"])
+            served.terminate()
+        check(
+            f"net: {more}",
+            found[0] == status and [line[:49] for line in found[3]] == [line[:49] for line in wanted],
+            found,
+        )
+        check(f"net: {more}: the chip", (room.read("net.bin")[0x4000:0x4004] == b"late") == (status == 0))
+        (room.folder / "net.bin").unlink()
 
 
 def asked_first():
@@ -1027,45 +1079,12 @@ def asked_first():
     check_equal(
         "no number was taken, and no file was made", (room.read("counter"), room.read("long.out")), (b"7\n", None)
     )
-    # (a verification reads all of flash)
-    words = {"-D -V -U flash:w:late.hex:i": 2, "-q -q -D -V -U flash:w:blink.hex:i -U flash:w:late.hex:i": 2}
-    words.update({"-U eeprom:w:long.bin:r": 2, "-n -U eeprom:r:long.out:r": 2, "-V -U flash:w:late.hex:i": 1})
-    words.update({"-D -V -U flash:w:blink.hex:i": 1, "-D -n -V -U flash:w:late.hex:i": 1, "-V -U lock:w:0xFC:m": 1})
-    words.update({"-c wiring -D -V -U flash:w:blink.hex:i": 1})
-    wanted = [emulated(*without(without(options.split(), "-c"), "wiring"), part="m2560") for options in words]
-    found = side_by_side(unpaused(lambda case: asked(case[0].split(), *[{}] * case[1])), words.items())
-    for (options, count), chip, (status, printed, own, held, done, report) in zip(words.items(), wanted, found):
-        check_equal(
-            f"{options}: asked or not", (status, own, done.count(0x11), 0x1C in done), (0, [], count, count > 1)
-        )
-        check(f"{options}: the run's own lines alone", b"calibration" not in printed, printed)
-        check_equal(f"{options}: the chip, and retries", (held == chip, report["retries"]), (True, 0))
-    status, printed, own, _, done, report = asked(
-        ["-U", "eeprom:r:back.bin:r", "-U", "calibration:r:byte.txt:h"], {}, silent(0x16)
-    )
-    counts = [update["read"] for update in report["updates"]]
-    check_equal("what was asked is no update", (status, counts, done.count(0x1C)), (1, [None, None], 1))
-    how = {"cwd": room.folder, "env": os.environ | {"AVRSTK": str(PROGRAM)}, "stdout": subprocess.PIPE}
-    for more, status, wanted in [
-        ([], 0, []),
-        (["--mega"], 1, ["the device refuses command 1C, as a bootloader does: "]),
-    ]:
-        command = [TOP / "avrstk-serve", "0", "-p", "m2560", "--chip", "net.bin", *more]
-        with subprocess.Popen(command, **how) as served:
-            port = int(served.stdout.readline().rpartition(b":")[2])
-            found = run(["-p", "m2560", "-P", f"net:127.0.0.1:{port}", "-D", "-V", "-U", "flash:w:late.hex:i"])
-            served.terminate()
-        check(
-            f"net: {more}",
-            found[0] == status and [line[:49] for line in found[3]] == [line[:49] for line in wanted],
-            found,
-        )
-        check(f"net: {more}: the chip", (room.read("net.bin")[0x4000:0x4004] == b"late") == (status == 0))
-        (room.folder / "net.bin").unlink()
+    asked_and_done()
+    asked_over_a_port()
 
 
-def images_that_are_read_once():
-    """An image is read once, also from a pipe, and may have several memories. Messages name the user's files."""
+def images_in_pipes():
+    """An image is read once from a named pipe, and from a shell's pipe that two updates and two attempts share."""
     wanted, text = flashed(), room.read("blink.hex")
     os.mkfifo(room.folder / "pipe")
     writer = threading.Thread(target=lambda: room.put("pipe", text), daemon=True)
@@ -1083,6 +1102,12 @@ def images_that_are_read_once():
     os.close(reader)
     again = ["no answer: the same command again, 1 of 1"]
     check_equal("a shell's pipe, twice", (status, own, board.end() == wanted), (0, again, True))
+
+
+def images_that_are_read_once():
+    """An image is read once, also from a pipe, and may have several memories. Messages name the user's files."""
+    images_in_pipes()
+    text = room.read("blink.hex")
     status, _, printed, own = piped([*NO_CHIP, "-U", "flash:w:-:i", "-U", "eeprom:w:-:i"], hex_of([(0, bytes(600))]))
     check_equal("two memories", (status, set(room.read("no.bin")[:600] + room.read("no.bin")[32_768:][:600])), (0, {0}))
     for content, wanted in [
@@ -1136,7 +1161,8 @@ def over_a_bootloader():
         board.end()
         line = re.search(r"Type (.*), and give joined.hex", own[-1])
         if not line or not shutil.which("srec_cat"):
-            leave_out("the joined image", "srec_cat is not installed") if line else None
+            if line:
+                leave_out("the joined image", "srec_cat is not installed")
             continue
         subprocess.run(["sh", "-c", line[1]], cwd=room.folder, check=True)
         names = [name for name in held if shlex.quote(name) in line[1]]
@@ -1216,7 +1242,8 @@ def hints():
         check(f"{name}: it ends by itself soon", seconds < 40, seconds)
         is_right = (status, len(own)) == (1, 1) and wanted in own[0] and message.encode() in others
         check(f"{name}: {wanted}: {message}", is_right, (status, others, own))
-        check_equal(f"{name}: the chip", chip, b"\xff" * CHIP_FILE) if name == "silent" else None
+        if name == "silent":
+            check_equal(f"{name}: the chip", chip, b"\xff" * CHIP_FILE)
     status, _, printed, own, _ = over(["-p", "m328p", "-U", "lfuse:r:-:h"], closed=">&-")
     stays = "everything reported above was done. The chip stays in programming mode: power-cycle the board"
     wanted = [f"standard output is closed or full; {stays}"]
@@ -1305,42 +1332,8 @@ def odd_elf(segments, sections, sizes=(32, 40), length=100):
     return struct.pack("<16s2H5I6H", *head) + b"".join(tables) + b".big\0".ljust(max(length, 4_096), b"\0")
 
 
-def elf_files():
-    """Flash and EEPROM get from an ELF file what avr-objcopy takes from it, and fuses and the lock their bytes."""
-    if not shutil.which("avr-gcc"):
-        return leave_out("ELF", "avr-gcc is not installed")
-    linked("main.elf", ELF)
-    others = [word for name in ["eeprom", "fuse", "lock", "signature"] for word in ("-R", f".{name}")]
-
-    def take(*words):
-        subprocess.run(["avr-objcopy", "-O", "binary", *words], cwd=room.folder, check=True)
-
-    take(*others, "main.elf", "flash.bin")
-    take("-j", ".eeprom", "main.elf", "eeprom.bin")
-    flash, eeprom = room.read("flash.bin"), room.read("eeprom.bin")
-    check("what avr-objcopy takes", (len(flash) >= 703, eeprom) == (True, b"\4\xff\5"), (flash, eeprom))
-    wanted = flash.ljust(32_768, b"\xff") + eeprom.ljust(1024, b"\xff") + bytes.fromhex("E2D1FDFC")
-    memories = ["flash", "eeprom", "lfuse", "hfuse", "efuse", "lock"]
-    words = [
-        "-p",
-        "m328p",
-        "--retry",
-        "1",
-        "-q",
-        *(word for memory in memories for word in ("-U", f"{memory}:w:main.elf")),
-    ]
-    board = Boards(silent(0x15), {})
-    status, _, printed, own = run([*words, "-P", str(board.device)])
-    again = ["no answer: the same command again, 1 of 1"]
-    check_equal("all, by a second attempt", (status, own, board.end()), (0, again, wanted))
-    words = [word for memory in memories for word in ("-U", f"{memory}:v:main.elf:e")]
-    room.put("wanted.bin", wanted)
-    status, _, printed, own = run(["-p", "m328p", "-P", "emu:wanted.bin", *words])
-    check_equal("each is compared", (status, printed.count(b" verified")), (0, 6))
-    check_equal("its line", own, ["main.elf is read as ELF (:e)"] * 6)
-    linked("high.elf", '.text\n.byte 7\n.section .high, "ax"\n.byte 8, 9\n', "-Wl,--section-start=.high=0x1FFFF")
-    status, *_ = run(["-p", "m2560", "-P", "emu:high.bin", "-qq", "-U", "flash:w:high.elf"])
-    check_equal("over 64 kB", (status, room.read("high.bin")[0x1FFFE:0x20002]), (0, b"\xff\x08\x09\xff"))
+def put_odd_elf_files():
+    """Puts ELF files into the room that are refused, or are for other chips. main.elf is there."""
     linked("odd.elf", ELF + '.section .odd, "a"\n.byte 1, 2\n', "-Wl,--section-start=.odd=0x850000")
     linked("none.elf", ".text\n.byte 1\n")
     mine = '.section .mine, "a"\n.byte 1\n'
@@ -1358,6 +1351,10 @@ def elf_files():
     room.put("sum.elf", odd_elf(1, 999, length=8_000))
     linked("main.o", ELF, "-c")
     room.put("cut.elf", room.read("main.elf")[:700])
+
+
+def elf_files_that_are_refused():
+    """Each row of a table is refused soon, and in little memory."""
     for text, why in table("elf"):
         started = start([*NO_CHIP, "-U", text])
         printed = started.stderr.read().decode()
@@ -1366,6 +1363,10 @@ def elf_files():
         end = ";" if " is made for " in why else ":"
         check_equal(text, (started.returncode, printed), (1, f"avrstk-serial: {why}{end} {UNOPENED}\n"))
         check(f"{text}: a second, 100 MB", used.ru_utime < 1 and used.ru_maxrss < 100_000, used)
+
+
+def elf_files_for_other_chips():
+    """An ELF file names its chip. -F takes it for another one, and -p auto doesn't."""
     for text in ["flash:w:tiny.elf", "eeprom:w:mega.elf"]:
         status, _, _, own = run([*NO_CHIP, "-F", "-U", text])
         check(f"{text} -F", (status, own[0].startswith("warning: ")) == (0, True), own)
@@ -1378,6 +1379,40 @@ def elf_files():
     check_equal("its own chip", run(["-p", "attiny85", "-P", "emu:tiny.bin", "-U", "flash:w:tiny.elf"])[0], 0)
     high = run(["-p", "t85", "-P", "emu:tiny.bin", "-U", "flash:w:high.elf"])
     check_equal("too high", high[2], lines("error: high.elf: address 0001FFFF out of range"))
+
+
+def elf_files():
+    """Flash and EEPROM get from an ELF file what avr-objcopy takes from it, and fuses and the lock their bytes."""
+    if not shutil.which("avr-gcc"):
+        return leave_out("ELF", "avr-gcc is not installed")
+    linked("main.elf", ELF)
+    others = [word for name in ["eeprom", "fuse", "lock", "signature"] for word in ("-R", f".{name}")]
+
+    def take(*words):
+        subprocess.run(["avr-objcopy", "-O", "binary", *words], cwd=room.folder, check=True)
+
+    take(*others, "main.elf", "flash.bin")
+    take("-j", ".eeprom", "main.elf", "eeprom.bin")
+    flash, eeprom = room.read("flash.bin"), room.read("eeprom.bin")
+    check("what avr-objcopy takes", (len(flash) >= 703, eeprom) == (True, b"\4\xff\5"), (flash, eeprom))
+    wanted = flash.ljust(32_768, b"\xff") + eeprom.ljust(1024, b"\xff") + bytes.fromhex("E2D1FDFC")
+    memories = ["flash", "eeprom", "lfuse", "hfuse", "efuse", "lock"]
+    words = [word for memory in memories for word in ("-U", f"{memory}:w:main.elf")]
+    board = Boards(silent(0x15), {})
+    status, _, printed, own = run(["-p", "m328p", "--retry", "1", "-q", *words, "-P", str(board.device)])
+    again = ["no answer: the same command again, 1 of 1"]
+    check_equal("all, by a second attempt", (status, own, board.end()), (0, again, wanted))
+    words = [word for memory in memories for word in ("-U", f"{memory}:v:main.elf:e")]
+    room.put("wanted.bin", wanted)
+    status, _, printed, own = run(["-p", "m328p", "-P", "emu:wanted.bin", *words])
+    check_equal("each is compared", (status, printed.count(b" verified")), (0, 6))
+    check_equal("its line", own, ["main.elf is read as ELF (:e)"] * 6)
+    linked("high.elf", '.text\n.byte 7\n.section .high, "ax"\n.byte 8, 9\n', "-Wl,--section-start=.high=0x1FFFF")
+    status, *_ = run(["-p", "m2560", "-P", "emu:high.bin", "-qq", "-U", "flash:w:high.elf"])
+    check_equal("over 64 kB", (status, room.read("high.bin")[0x1FFFE:0x20002]), (0, b"\xff\x08\x09\xff"))
+    put_odd_elf_files()
+    elf_files_that_are_refused()
+    elf_files_for_other_chips()
     room.put("both.hex", b"".join(room.read("blink.hex").splitlines(True)[:-1]) + hex_of([(0x810000, b"eeprom")]))
     for memory, at, held in [("flash", 0, flash), ("eeprom", 32_768, eeprom)]:
         words = ["-p", "m328p", "-U", f"{memory}:w:both.hex"]
@@ -1667,6 +1702,25 @@ def without_bits(answer):
 OLD = bytes(number % 241 for number in range(32_768)) + bytes(1024) + b"\xe1\xd0"
 
 
+def interrupted(when):
+    """Returns the case of a run that gets SIGINT, at this command or before any (`early`)."""
+    reached = threading.Event()
+
+    def held(answer):
+        if when != f"{answer[5]:02X}":
+            return answer
+        reached.set()
+        return b""
+
+    halts = {} if when != "early" else stand_in("open('begun', 'w')\ntime.sleep(60)\n")
+
+    def begun(_, started):
+        wait_until((room.folder / "begun").exists if halts else reached.is_set)
+        started.send_signal(signal.SIGINT)
+
+    return {"board": {"answer": held}, "begun": begun, "more": {"env": halts}}
+
+
 def kind_of(name):
     """Returns the case of a board by its name, or as board_of has it."""
 
@@ -1706,21 +1760,7 @@ def kind_of(name):
     }
     kind, _, when = name.partition(" ")
     if kind == "signal":
-        reached = threading.Event()
-
-        def held(answer):
-            if when != f"{answer[5]:02X}":
-                return answer
-            reached.set()
-            return b""
-
-        halts = {} if when != "early" else stand_in("open('told', 'w')\ntime.sleep(60)\n")
-
-        def begun(_, started):
-            wait_until((room.folder / "told").exists if halts else reached.is_set)
-            started.send_signal(signal.SIGINT)
-
-        return {"board": {"answer": held}, "begun": begun, "more": {"env": halts}}
+        return interrupted(when)
     if name in known:
         return known[name]()
     each = [board_of(board.strip()) for board in name.split(",")]
@@ -1779,9 +1819,8 @@ def hints_over_each_memory():
         check(f"{case}: the chip", is_right, found)
 
 
-def each_hint():
-    """Each row of avrstk_hints is in a walk that ends with the wanted bytes, or with a hint that has no command."""
-    firmware, good = flashed(), room.read("blink.hex")
+def put_files_of_walks(good):
+    """Puts the files into the room that the walks name. `good` is the firmware as Intel HEX."""
     fields = "flash_size = 32768, flash_page = 128, eeprom_size = 1024, eeprom_page = 4, eesave_bit = 3"
     mine = "".join(f'{name} = {{ signature = "1E950F", {fields} }}\n' for name in ["m328p", "'c-chip'"])
     files = {
@@ -1808,6 +1847,12 @@ def each_hint():
         (room.folder / closed).chmod(0)
     with socket.socket(socket.AF_UNIX) as unix:
         unix.bind(str(room.folder / "socket"))
+
+
+def each_hint():
+    """Each row of avrstk_hints is in a walk that ends with the wanted bytes, or with a hint that has no command."""
+    firmware, good = flashed(), room.read("blink.hex")
+    put_files_of_walks(good)
     held = {"blink": firmware[:228], "elf": b"\x0c\x94\x34\x00", "old": OLD[:228]}
     places = {"flash": 0, "eeprom": 32_768, "lfuse": -4, "hfuse": -3, "efuse": -2, "lock": -1}
 
@@ -1884,7 +1929,8 @@ def hints_that_are_followed():
         )
     follows("-D", flash("late.hex", "-D"), with_flash(image, 0x1000), "late.hex", late, chip=old + b"\xff" * 1028)
     for (name, *_), hints in zip(walks, side_by_side(lambda case: walk(*case[:3], **case[3]), walks)):
-        check_equal(f"{name}: one hint", len(hints), 1) if name in bad else None
+        if name in bad:
+            check_equal(f"{name}: one hint", len(hints), 1)
 
 
 def signals():
@@ -1902,7 +1948,10 @@ def signals():
         started = start([*FLASH, "-P", board.device], start_new_session=True)
         check("it is reached", reached.wait(PATIENCE))
         begun = time.monotonic()
-        os.killpg(started.pid, number) if number == signal.SIGINT else started.send_signal(number)
+        if number == signal.SIGINT:
+            os.killpg(started.pid, number)
+        else:
+            started.send_signal(number)
         _, printed = started.communicate(timeout=PATIENCE)
         own = [row for row in printed.decode().splitlines() if row.startswith("avrstk-serial: ")]
         check(wanted, started.returncode == 1 and len(own) == 1 and wanted in own[0], printed)
@@ -1911,26 +1960,8 @@ def signals():
         board.end()
 
 
-def reports():
-    """--json writes what a run did: kinds of failures, the chip, each update; after a signal too, and to the output."""
-    try:
-        import jsonschema  # noqa: F401
-    except ModuleNotFoundError:
-        leave_out("the schema of reports", "python3-jsonschema is not installed")
-    for board, words, kind, chip, error in table("reports"):
-        programmer = Board(**board_of(board.strip("-")))
-        device = [] if "-P " in words else ["-P", programmer.device]
-        words = ["-p", "m328p", *device, *words.split(), "--json", "report.json"]
-        status, *_, own = run(words)
-        programmer.end()
-        found, what = report_of("report.json"), f"{board}, {words}"
-        check_equal(what, (found["status"], found["kind"] or "-", found["chip"]), (status, kind, chip))
-        check(
-            f"{what}: its error",
-            (found["error"] or "").startswith(error) and bool(error) == bool(found["error"]),
-            found["error"],
-        )
-        check(f"{what}: its hint", found["hint"] is None or found["hint"] in own, (found["hint"], own))
+def report_of_updates():
+    """A report has what each update did, on standard output too; -q leaves nothing out of it."""
     held = room.read("blink.hex")
     room.put("open.hex", held[: held.rindex(b":")])
     programmer = Board(answer=lambda reply, lost=iter([b""]): next(lost, reply) if reply[5] == 0x13 else reply)
@@ -1953,6 +1984,10 @@ def reports():
     check_equal("a file", (read["read"], read["sha256"]), (228, hashlib.sha256(room.read("back.hex")).hexdigest()))
     check_equal("one lost reply", (found["repeated"], found["retries"], found["signature"]), (1, 0, "1E 95 0F"))
     check_equal("all commands", found["commands"], frames_in(programmer.received))
+
+
+def report_after_a_signal():
+    """A run that a signal ends writes its report."""
     reached = threading.Event()
     programmer = Board(answer=lambda reply: reached.set() or b"" if reply[5] == 0x13 else reply)
     started = start([*FLASH, "-P", programmer.device, "--json", "report.json"])
@@ -1962,6 +1997,30 @@ def reports():
     programmer.end()
     found = report_of("report.json")
     check_equal("after a signal", (found["kind"], found["chip"]), ("interrupted", "erased or partly written"))
+
+
+def reports():
+    """--json writes what a run did: kinds of failures, the chip, each update; after a signal too, and to the output."""
+    try:
+        import jsonschema  # noqa: F401
+    except ModuleNotFoundError:
+        leave_out("the schema of reports", "python3-jsonschema is not installed")
+    for board, words, kind, chip, error in table("reports"):
+        programmer = Board(**board_of(board.strip("-")))
+        device = [] if "-P " in words else ["-P", programmer.device]
+        words = ["-p", "m328p", *device, *words.split(), "--json", "report.json"]
+        status, *_, own = run(words)
+        programmer.end()
+        found, what = report_of("report.json"), f"{board}, {words}"
+        check_equal(what, (found["status"], found["kind"] or "-", found["chip"]), (status, kind, chip))
+        check(
+            f"{what}: its error",
+            (found["error"] or "").startswith(error) and bool(error) == bool(found["error"]),
+            found["error"],
+        )
+        check(f"{what}: its hint", found["hint"] is None or found["hint"] in own, (found["hint"], own))
+    report_of_updates()
+    report_after_a_signal()
 
 
 def places_of_reports():
@@ -1998,10 +2057,10 @@ def places_of_reports():
 def cut_lines():
     """If a signal cuts a line of avrstk, the script ends that line before its own."""
     halts = room.folder / "halts"
-    put_program(halts, "#!/bin/sh\nprintf 'avrstk: error: ' >&2\n: >told\nexec sleep 60\n")
+    put_program(halts, "#!/bin/sh\nprintf 'avrstk: error: ' >&2\n: >begun\nexec sleep 60\n")
     line, device = terminal()
     started = start([*FLASH, "-P", device], env={"AVRSTK": str(halts)})
-    wait_until((room.folder / "told").exists)
+    wait_until((room.folder / "begun").exists)
     started.send_signal(signal.SIGHUP)
     _, printed = started.communicate(timeout=PATIENCE)
     wanted = ["avrstk: error: ", "avrstk-serial: ended by SIGHUP: nothing was sent: the chip is unchanged"]
