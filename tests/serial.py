@@ -688,12 +688,9 @@ class Boards:
     pseudo terminal of its own, so that it sees the end of its run even if the next one opens the device at once."""
 
     def __init__(self, *each, chip=None):
-        self.chip, self.each, self.device = (
-            chip or f"served{next(boards)}.bin",
-            each,
-            room.folder / f"device{next(boards)}",
-        )
-        self.over = threading.Event()
+        self.chip, self.each = chip or f"served{next(boards)}.bin", each
+        self.device = room.folder / f"device{next(boards)}"
+        self.over, self.ends = threading.Event(), None
         self.renew()
         self.thread = threading.Thread(target=self.live, daemon=True)
         self.thread.start()
@@ -1600,7 +1597,8 @@ def returned(frame, event, value):
     if event == "return" and frame.f_code.co_filename == hints.__file__ and isinstance(value, str):
         note(frame.f_code.co_name, frame.f_lineno, value)
 def matched(table, error, words, matched=hints.matched, **fields):
-    found, name = matched(table, error, words, **fields), next(it for it in vars(hints) if vars(hints)[it] is table)
+    found = matched(table, error, words, **fields)
+    name = next(key for key in vars(hints) if vars(hints)[key] is table)
     at = next((at for at, begin in enumerate(table) if re.match(begin, error)), None)
     note(name, at, found)
     for at, (kind, text) in enumerate(hints.KINDS.items() if name == "REFUSALS" else []):
