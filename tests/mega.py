@@ -92,11 +92,14 @@ class LosingLine(Link):
     """A link to the board that loses one byte: the nth, from 0, on the way up to it or down from it."""
 
     def __init__(self, board, way, place):
-        self.there, self.back = (
-            (lambda *ends, it=it: self.pass_on(*ends, place if it == way else -1)) for it in ("up", "down")
-        )
-        self.lost = None
+        self.way, self.place, self.lost = way, place, None
         super().__init__(board)
+
+    def there(self, giver, taker):
+        self.pass_on(giver, taker, self.place if self.way == "up" else -1)
+
+    def back(self, giver, taker):
+        self.pass_on(giver, taker, self.place if self.way == "down" else -1)
 
     def pass_on(self, giver, taker, place):
         count = 0
@@ -221,9 +224,10 @@ def asked_first():
         "a bootloader erases pages from 0 on, so one command writes flash once, from 0 on without gaps. Type srec_cat "
     )
     far = "-U {}: a bootloader reads other addresses above 255: use a programmer"
-    asked = {f"flash:w:{it}.hex:i": order for it in ("late", "gap")}
-    asked.update({it: far.format(it) for it in ("eeprom:w:long.bin:r", "eeprom:r:back.bin:r", "eeprom:v:long.bin:r")})
-    cases = [(["-D", "-V", "-U", it], why) for it, why in asked.items()]
+    asked = {f"flash:w:{name}.hex:i": order for name in ("late", "gap")}
+    for update in "eeprom:w:long.bin:r", "eeprom:r:back.bin:r", "eeprom:v:long.bin:r":
+        asked[update] = far.format(update)
+    cases = [(["-D", "-V", "-U", update], why) for update, why in asked.items()]
     cases.append((["-q", "-q", "-D", *updates("flash:w:a.hex:i", "flash:w:late.hex:i")], order))
     with Board(old) as board:
 
@@ -237,15 +241,15 @@ def asked_first():
             return found
 
         for (words, why), way in itertools.product(cases, ["net:", "a device"]):
-            status, output, told, own = ran(words, way)
+            status, output, printed, own = ran(words, way)
             what = f"{way} {words}"
-            check_equal(what, (status, output, told, len(own)), (1, b"", b"", 1))
+            check_equal(what, (status, output, printed, len(own)), (1, b"", b"", 1))
             check(f"{what}: why", own[0].startswith(front + why) and own[0].endswith(end), own)
             board.holds(what, old)
         check("nothing was read", not (serial.room.folder / "back.bin").exists())
-        status, _, told, own = ran(["-D", "-V", *updates("flash:w:a.hex:i")], "a device")
+        status, _, printed, own = ran(["-D", "-V", *updates("flash:w:a.hex:i")], "a device")
         texts = [SIGNATURE, "flash: 1024 bytes written", "done"]
-        check_equal("from 0 on", (status, told, own), (0, lines(*texts), []))
+        check_equal("from 0 on", (status, printed, own), (0, lines(*texts), []))
         board.holds("from 0 on", image + old[1_024:])
 
 
@@ -274,14 +278,14 @@ def bodies(draw):
         return bytes([code]) + count.to_bytes(2, "big") + b"\x20", None
 
     yield from [(b"\x01", None), (bytes.fromhex("10C8641920005303AC530000"), None), (b"\x02\x9e\1", None)]
-    yield from [(bytes([3, it]), None) for it in (0x80, 0x81, 0x90, 0x91, 0x92, 0x98)]
-    yield from [(bytes([0x1B, 4, 0x30, 0, it, 0]), None) for it in range(4)]
+    yield from [(bytes([3, parameter]), None) for parameter in (0x80, 0x81, 0x90, 0x91, 0x92, 0x98)]
+    yield from [(bytes([0x1B, 4, 0x30, 0, index, 0]), None) for index in range(4)]
     for first, third in [(0x30, 0), (0x30, 1), (0x30, 2), (0xAC, 0), (0, 0), (0x20, 7)]:
         yield bytes([0x1D, 4, 4, 0, first, 0, third, 0]), None
     yield bytes.fromhex("1D040400500000 00"), slice(0, 5)
     yield bytes.fromhex("180450000000"), slice(0, 2)
     yield bytes.fromhex("1A0458000000"), slice(0, 2)
-    yield from [(bytes.fromhex(it), None) for it in ("17ACA000E2", "1C0438000000", "77", "120900AC800000")]
+    yield from [(bytes.fromhex(digits), None) for digits in ("17ACA000E2", "1C0438000000", "77", "120900AC800000")]
     # (each page that is written follows those that are erased, or is empty)
     for word in (0, 0x80, 0x100, 0x7F80, 0x180, 0x10000):
         yield from [load(word), write(draw.randbytes(256) if word < 0x200 else b"\xff" * 256)]
@@ -329,7 +333,9 @@ def the_double():
                 spoiled = frame(7, b"\x01")[:-1] + b"\x7f"
                 for number, (body, compared) in enumerate(bodies(random.Random(1)), 1):
                     noise = [b"", b"noise", b"\x1b\7\0\1\x0f", spoiled][number % 4]
-                    found, wanted = (exchanged(it, number, body, noise)[compared or slice(None)] for it in (ours, real))
+                    found, wanted = (
+                        exchanged(device, number, body, noise)[compared or slice(None)] for device in (ours, real)
+                    )
                     check_equal(f"command {number}, {body[:6].hex(' ')}", found, wanted)
             board.started.stdout.readline()
             double.terminate()
@@ -351,7 +357,7 @@ CASES = named(
 
 
 def main():
-    missing = [str(it) for it in (HEX, HEADER) if not it.exists()]
+    missing = [str(path) for path in (HEX, HEADER) if not path.exists()]
     if shutil.which("cc") is None:
         missing.append("cc")
     if missing:

@@ -477,7 +477,7 @@ def over_version1(kind, programmer, words):
                 board.reset()
 
     rows, own = [], []
-    avrstk_rows.Programmer, avrstk_rows.show, avrstk_rows.say = Direct, rows.append, own.append
+    avrstk_rows.Programmer, avrstk_rows.show, avrstk_rows.print_line = Direct, rows.append, own.append
     os.chdir(room.folder)
     given = Words([*TINY, "-c", programmer, "-P", "/dev/null", *words], Report())
     status = avrstk_rows.try_rows(given, lambda: open(os.devnull, "rb"))

@@ -73,7 +73,7 @@ def elf_with(code, name=b".text", address=0):
         (1, 1, 6, address, 52, len(code), 0, 0, 1, 0),
         (len(name) + 2, 3, 0, 0, 52 + len(code), len(names), 0, 0, 1, 0),
     ]
-    return begin + code + names + b"".join(struct.pack("<10I", *it) for it in sections)
+    return begin + code + names + b"".join(struct.pack("<10I", *section) for section in sections)
 
 
 room.keep("small.elf", elf_with(b"\x0c\x94\x34\x00"))
@@ -93,9 +93,9 @@ class Board:
     bytes of each reply. With `stopped` somebody else says that no run will open the device any more."""
 
     def __init__(self, deaf=0.0, gone=None, part="m328p", talk=None, vanish=None, answer=None, words=(), **more):
-        chip, server, ends, stopped = (more.get(it) for it in ("chip", "server", "ends", "stopped"))
+        chip, server, ends, stopped = (more.get(name) for name in ("chip", "server", "ends", "stopped"))
         self.deaf, self.gone, self.talk, self.vanish, self.answer = deaf, gone, talk, vanish, answer
-        self.opened, self.heard, self.chip = 0, b"", chip or f"served{next(boards)}.bin"
+        self.opened, self.received, self.chip = 0, b"", chip or f"served{next(boards)}.bin"
         self.server = None if talk else server or Server(room, self.chip, part, words)
         self.line, self.device = ends or terminal()
         self.stopped = stopped or threading.Event()
@@ -107,7 +107,10 @@ class Board:
             if self.stopped.wait(0.005):
                 return
         self.opened = 1
-        self.talks() if self.talk else self.answers()
+        if self.talk:
+            self.talks()
+        else:
+            self.answers()
 
     def talks(self):
         while is_open(self.line) and not self.stopped.wait(0.05):
@@ -120,14 +123,14 @@ class Board:
                 ready, _, _ = select.select([self.line, programmer], [], [])
                 if self.line in ready:
                     try:
-                        heard = os.read(self.line, 4096)
+                        received = os.read(self.line, 4096)
                     except OSError:
                         return
                     age = time.monotonic() - begun
-                    self.heard += heard
+                    self.received += received
                     called = called or age >= self.deaf and (self.gone is None or age < self.gone)
                     if called:
-                        programmer.sendall(heard)
+                        programmer.sendall(received)
                 if programmer in ready:
                     answer = programmer.recv(4096)
                     if count == self.vanish or not answer:
@@ -158,6 +161,8 @@ class Bootloader:
 
     def __init__(self, flash, takes_lock=False):
         self.flash, self.takes_lock = bytearray(flash), takes_lock
+        # where the next block begins, and how much is erased, since the last call
+        self.address = self.erased = 0
 
     def call(self):
         ours, caller = socket.socketpair()
@@ -167,8 +172,8 @@ class Bootloader:
     def live(self, caller):
         self.address = self.erased = 0
         with caller:
-            for it in frames_of(caller):
-                caller.sendall(frame(it[1], it[5:6] + self.reply(it[5], it[6:-1])))
+            for request in frames_of(caller):
+                caller.sendall(frame(request[1], request[5:6] + self.reply(request[5], request[6:-1])))
 
     def reply(self, command, body):
         count = int.from_bytes(body[:2], "big")
@@ -204,9 +209,9 @@ def run(words, begun=lambda started: None, **more):
     """Returns its status, output, the lines of avrstk, and its own lines."""
     started = start(words, **more)
     begun(started)
-    output, told = started.communicate(timeout=PATIENCE)
-    own = [it[15:] for it in told.decode().splitlines() if it.startswith("avrstk-serial: ")]
-    others = b"".join(it for it in told.splitlines(True) if not it.startswith(b"avrstk-serial: "))
+    output, printed = started.communicate(timeout=PATIENCE)
+    own = [line[15:] for line in printed.decode().splitlines() if line.startswith("avrstk-serial: ")]
+    others = b"".join(line for line in printed.splitlines(True) if not line.startswith(b"avrstk-serial: "))
     return started.returncode, output, others, own
 
 
@@ -219,9 +224,9 @@ def speed(line):
 
 def over(words, board=None, **more):
     """Runs these options over a board. Returns what `run` does, and the chip. The run's report must fit its schema."""
-    it, name = Board(**(board or {})), f"report{next(boards)}.json"
-    found = *run([*words, "-P", it.device, "--json", name], **more), it.end()
-    if it.opened:
+    programmer, name = Board(**(board or {})), f"report{next(boards)}.json"
+    found = *run([*words, "-P", programmer.device, "--json", name], **more), programmer.end()
+    if programmer.opened:
         check_equal(f"{words}: the status in its report", report_of(name)["status"], found[0])
     return found
 
@@ -291,15 +296,15 @@ def side_by_side(call, given):
 
 def unpaused(call):
     """Returns a call that is made again if a pause was measured meanwhile, because a board replies only for a time."""
-    return lambda it: attempts(lambda: call(it), lambda _: False)[-1]
+    return lambda case: attempts(lambda: call(case), lambda _: False)[-1]
 
 
 def flashes(words, **board):
     """Runs these options, with a board's device after -P. Returns the status, the lines of avrstk, whether the chip has
     the firmware, and the script's own lines."""
-    it = Board(**board)
-    status, _, told, own = run([word.replace("DEVICE", it.device) for word in words])
-    return status, told, it.end() == flashed(), own
+    programmer = Board(**board)
+    status, _, printed, own = run([word.replace("DEVICE", programmer.device) for word in words])
+    return status, printed, programmer.end() == flashed(), own
 
 
 def words_of_avrdude():
@@ -307,8 +312,8 @@ def words_of_avrdude():
     flashed()
     room.put("blink.HEX", room.read("blink.hex"))
     cases = [(words.split(), list(filter(None, [own]))) for words, own in table("accepted")]
-    for (words, own), found in zip(cases, side_by_side(unpaused(lambda it: flashes(it[0])), cases)):
-        texts = [it for it in FIRMWARE if it != "chip erased" or "-D" not in words]
+    for (words, own), found in zip(cases, side_by_side(unpaused(lambda case: flashes(case[0])), cases)):
+        texts = [text for text in FIRMWARE if text != "chip erased" or "-D" not in words]
         check_equal(" ".join(words), found, (0, lines(*texts), True, own))
 
 
@@ -336,15 +341,15 @@ def parts():
     status, _, _, own, chip = over(["-p", "attiny85", "-e"], {"part": "t85"})
     check("attiny85", (status, own, chip == wanted) == (0, [], True), own)
     check_equal("m32u4", over(["-p", "m32u4", "-e"], board_of("part m32u4"))[::3][:2], (0, []))
-    status, _, told, own, _ = over(["--parts", "parts.toml", "-p", "atmega32u4", "-e"])
+    status, _, printed, own, _ = over(["--parts", "parts.toml", "-p", "atmega32u4", "-e"])
     check(
         "a given part file counts alone",
-        (status, b"no part atmega32u4" in told, own[0][-len(UNOPENED) :]) == (1, True, UNOPENED),
-        told,
+        (status, b"no part atmega32u4" in printed, own[0][-len(UNOPENED) :]) == (1, True, UNOPENED),
+        printed,
     )
-    status, output, told, own = run(["-p", "?"])
+    status, output, printed, own = run(["-p", "?"])
     rows = output.decode().splitlines()
-    check("-p ? lists the parts", (status, told, own, len(rows)) == (0, b"", [], 74), (status, rows))
+    check("-p ? lists the parts", (status, printed, own, len(rows)) == (0, b"", [], 74), (status, rows))
     check("in the order of their names", rows == sorted(rows), rows)
     check("each with its names and signature", "  t85      = ATtiny85      1E 93 0B" in rows, rows)
     if not has_avrdude():
@@ -374,16 +379,19 @@ TEXTS = {
 def archive(opened):
     """Returns the bytes of a tar or zip archive with a file."""
     held = io.BytesIO()
-    with opened(held) as it:
-        it.writestr("main.hex", "") if isinstance(it, zipfile.ZipFile) else it.addfile(tarfile.TarInfo("main.hex"))
+    with opened(held) as packed:
+        if isinstance(packed, zipfile.ZipFile):
+            packed.writestr("main.hex", "")
+        else:
+            packed.addfile(tarfile.TarInfo("main.hex"))
     return held.getvalue()
 
 
 # other files that are no firmware, and what they are
 PACKED = {
     "lib.a": (b"!<arch>\nmain.o/         0           0     0     644     4         `\n\0\1\2\3", "an ar archive"),
-    "main.zip": (archive(lambda it: zipfile.ZipFile(it, "w")), "a zip archive"),
-    "main.tar": (archive(lambda it: tarfile.open(None, "w", it)), "a tar archive"),
+    "main.zip": (archive(lambda file: zipfile.ZipFile(file, "w")), "a zip archive"),
+    "main.tar": (archive(lambda file: tarfile.open(None, "w", file)), "a tar archive"),
     "main.hex.gz": (gzip.compress(b"firmware"), "a gzip file"),
     "main.hex.xz": (lzma.compress(b"firmware"), "an xz file"),
     "main.hex.bz2": (bz2.compress(b"firmware"), "a bzip2 file"),
@@ -419,16 +427,16 @@ def refused():
 
     def ran(words):
         # (a device without a programmer)
-        it = Board(talk=b".")
+        board = Board(talk=b".")
         part = [] if words[:1] == ["-e"] else ["-p", "m328p"]
-        device = [] if "-P" in words else ["-P", it.device]
+        device = [] if "-P" in words else ["-P", board.device]
         status, output, _, own = run([*part, *device, *words])
         own = [row for row in own if not row.endswith("is read as Intel HEX (:i)")]
-        opened = it.opened
-        it.end()
+        opened = board.opened
+        board.end()
         return (status, output, len(own), opened), own
 
-    for (words, wanted), (found, own) in zip(cases, side_by_side(lambda it: ran(it[0]), cases)):
+    for (words, wanted), (found, own) in zip(cases, side_by_side(lambda case: ran(case[0]), cases)):
         check(" ".join(words), found == (1, b"", 1, 0) and own[0].startswith(wanted), (found, own))
 
 
@@ -443,34 +451,8 @@ def piped(words, content, **more):
         os.close(reader)
 
 
-def no_firmware():
-    """A text without records, an archive, a page and an image without a byte are refused, also from a pipe; a text as
-    raw bytes (:r) is not."""
-    why = {
-        **dict.fromkeys(TEXTS, "is text without records: give it as raw bytes (:r) only if its characters are meant"),
-        **dict.fromkeys(EMPTY, "is empty (did its build fail?)"),
-    }
-    why.update({name: f"is {what}, not firmware" for name, (_, what) in PACKED.items()})
-    joined = "has data after its end record, which are never read: give each of the joined files a -U of its own"
-    why.update(dict.fromkeys(JOINED, joined))
-    why.update(
-        {"lib.elf": "is an ar archive, not firmware"},
-        **dict.fromkeys(["note.ELF", "a.out"], "is not ELF, despite its name"),
-    )
-    others = {"lib.elf": PACKED["lib.a"][0], "note.ELF": room.read("blink.hex"), "a.out": b"\x0c\x94\0\0"}
-    contents = {**TEXTS, **EMPTY, **JOINED, **others, **{name: held for name, (held, _) in PACKED.items()}}
-    for name, content in contents.items():
-        room.put(name, content)
-    updates = [f"{it}{name}" for name in why for it in ("flash:w:", "eeprom:v:")]
-    updates += [f"flash:w:{name}:{'i' if name in EMPTY else 'a'}" for name in why]
-    cases = [(["-U", it], b"", it.split(":")[2], it.split(":")[2]) for it in updates]
-    # (a pipe has no name that could say what it has)
-    ways = zip(itertools.cycle(["-", "/dev/stdin", "-:a", "/dev/fd/0"]), set(why) - set(others))
-    cases += [(["-U", f"flash:w:{way}"], contents[name], way.split(":")[0], name) for way, name in ways]
-    for (words, given, shown, name), found in zip(
-        cases, side_by_side(lambda it: piped([*NO_CHIP, *it[0]], it[1]), cases)
-    ):
-        check_equal(f"{words} {name}", found, (1, b"", b"", [f"{shown} {why[name]}: {UNOPENED}"]))
+def texts_and_firmware():
+    """A text from a pipe is refused for flash. EEPROM may hold one, and firmware may have strings."""
     # (a log whose end or beginning was never written; EEPROM may hold a text that a NUL ends)
     for raw in [b"make: all is made\n" + bytes(4000), bytes(500) + b"make: all is made\n", b"SN00042\0"]:
         found = piped([*NO_CHIP, "-U", "flash:w:-"], raw)
@@ -495,6 +477,37 @@ def no_firmware():
     for name, raw in [("tiny.bin", tiny), ("jumps.bin", bytes.fromhex("0C945C00") * 26 + tiny[30:])]:
         found = piped([*NO_CHIP, "-U", "flash:w:-"], raw)
         check(f"{name} is firmware", (found[0], room.read("no.bin")[: len(raw)]) == (0, raw), found)
+
+
+def no_firmware():
+    """A text without records, an archive, a page and an image without a byte are refused, also from a pipe; a text as
+    raw bytes (:r) is not."""
+    why = {
+        **dict.fromkeys(TEXTS, "is text without records: give it as raw bytes (:r) only if its characters are meant"),
+        **dict.fromkeys(EMPTY, "is empty (did its build fail?)"),
+    }
+    why.update({name: f"is {what}, not firmware" for name, (_, what) in PACKED.items()})
+    joined = "has data after its end record, which are never read: give each of the joined files a -U of its own"
+    why.update(dict.fromkeys(JOINED, joined))
+    why.update(
+        {"lib.elf": "is an ar archive, not firmware"},
+        **dict.fromkeys(["note.ELF", "a.out"], "is not ELF, despite its name"),
+    )
+    others = {"lib.elf": PACKED["lib.a"][0], "note.ELF": room.read("blink.hex"), "a.out": b"\x0c\x94\0\0"}
+    contents = {**TEXTS, **EMPTY, **JOINED, **others, **{name: held for name, (held, _) in PACKED.items()}}
+    for name, content in contents.items():
+        room.put(name, content)
+    updates = [f"{prefix}{name}" for name in why for prefix in ("flash:w:", "eeprom:v:")]
+    updates += [f"flash:w:{name}:{'i' if name in EMPTY else 'a'}" for name in why]
+    cases = [(["-U", update], b"", update.split(":")[2], update.split(":")[2]) for update in updates]
+    # (a pipe has no name that could say what it has)
+    ways = zip(itertools.cycle(["-", "/dev/stdin", "-:a", "/dev/fd/0"]), set(why) - set(others))
+    cases += [(["-U", f"flash:w:{way}"], contents[name], way.split(":")[0], name) for way, name in ways]
+    for (words, given, shown, name), found in zip(
+        cases, side_by_side(lambda case: piped([*NO_CHIP, *case[0]], case[1]), cases)
+    ):
+        check_equal(f"{words} {name}", found, (1, b"", b"", [f"{shown} {why[name]}: {UNOPENED}"]))
+    texts_and_firmware()
     wanted = [f"/dev/zero has more than 67,108,864 bytes: {UNOPENED}"]
     check_equal("what never ends", run([*NO_CHIP, "-U", "flash:w:/dev/zero:r"]), (1, b"", b"", wanted))
 
@@ -505,20 +518,20 @@ def ports_of_avrstk():
     wanted = flashed()
     words = ["-C", "x.conf", "-c", "stk500", "-b", "9600", "-p", "atmega328p", "-U", "blink.hex"]
     notes = ["ignored: -C x.conf", "blink.hex is read as Intel HEX (:i)"]
-    status, _, told, own = run([*words, "-P", "emu:chip.bin"])
-    check_equal("emu:", (status, told, own, room.read("chip.bin") == wanted), (0, lines(*FIRMWARE), notes, True))
+    status, _, printed, own = run([*words, "-P", "emu:chip.bin"])
+    check_equal("emu:", (status, printed, own, room.read("chip.bin") == wanted), (0, lines(*FIRMWARE), notes, True))
     with Server(room) as server:
-        status, _, told, own = run([*words, "-P", f"net:127.0.0.1:{server.port}"])
+        status, _, printed, own = run([*words, "-P", f"net:127.0.0.1:{server.port}"])
         server.end()
-    check_equal("net:", (status, told, own, room.read("served.bin") == wanted), (0, lines(*FIRMWARE), notes, True))
+    check_equal("net:", (status, printed, own, room.read("served.bin") == wanted), (0, lines(*FIRMWARE), notes, True))
     started = start(["-p", "m328p", "-P", "stdio:"], stdin=subprocess.PIPE)
     check("its first frame", started.stdout.read(7))
     started.send_signal(signal.SIGTERM)
     # (avrstk has ended, too: else its output stays open)
     check_equal("a signal", (started.stdout.read(), started.wait(PATIENCE)), (b"", 1))
-    status, output, told, own = run(["-c", "?"])
+    status, output, printed, own = run(["-c", "?"])
     names = b"avrispv2 stk500 stk500v2 wiring arduino arduino_as_isp stk500v1 avrisp".split()
-    check_equal("-c ?", (status, told, own, output.split()), (0, b"", [], names))
+    check_equal("-c ?", (status, printed, own, output.split()), (0, b"", [], names))
 
 
 def devices():
@@ -575,8 +588,8 @@ def what_is_missing():
 
         def ran(*words, part="m328p"):
             command = [sys.executable, str(link), *words, "-p", part, "-P", "emu:x"]
-            it = subprocess.run(command, capture_output=True, text=True, env=own_environment(), timeout=PATIENCE)
-            return it.returncode, it.stdout, it.stderr
+            finished = subprocess.run(command, capture_output=True, text=True, env=own_environment(), timeout=PATIENCE)
+            return finished.returncode, finished.stdout, finished.stderr
 
         modules = "avrstk_serial is not there: its modules are in lib/avrstk, here or beside this folder"
         check_equal("no modules", ran(), (1, "", f"avrstk-serial: {modules}\n"))
@@ -590,9 +603,9 @@ def what_is_missing():
         check_equal("no file is written", [*Path(folder).rglob("*.pyc")], [])
     # (2: Python keeps no docstrings)
     for words, level in [([], "0"), (["--help"], "0"), (["-h"], "0"), (["-?"], "0"), (["--help"], "2")]:
-        status, output, told, own = run(words, env={"PYTHONOPTIMIZE": level})
+        status, output, printed, own = run(words, env={"PYTHONOPTIMIZE": level})
         begins = output.startswith(b"Runs avrstk with a programmer")
-        check_equal(f"{words}, {level}", (status, told, own, begins), (0, b"", [], True))
+        check_equal(f"{words}, {level}", (status, printed, own, begins), (0, b"", [], True))
 
 
 def patched(text, words):
@@ -613,10 +626,10 @@ def speeds_that_a_device_has_not():
         ("115200", "avrstk-serial: {}: cannot be set to 115200 baud: it takes 9600"),
         ("9500", "avrstk: done"),
     ]:
-        it = Board()
-        found = patched(slow, ["-p", "m328p", "-P", it.device, "-b", baud])
-        check_equal(f"{baud} at 9600", found, (int(baud != "9500"), "", end.format(it.device)))
-        it.end()
+        board = Board()
+        found = patched(slow, ["-p", "m328p", "-P", board.device, "-b", baud])
+        check_equal(f"{baud} at 9600", found, (int(baud != "9500"), "", end.format(board.device)))
+        board.end()
 
 
 def lines_of_a_board():
@@ -631,9 +644,9 @@ def lines_of_a_board():
         ([], 25, 0),
         (["-c", "stk500"], 25, 0),
     ]:
-        it = Board()
-        status, output, _ = patched(noted.format(fault=fault), ["-p", "m328p", "-P", it.device, *words])
-        it.end()
+        board = Board()
+        status, output, _ = patched(noted.format(fault=fault), ["-p", "m328p", "-P", board.device, *words])
+        board.end()
         pulses = [row.split() for row in output.splitlines()]
         check_equal(f"{words}: the status", status, 0)
         check_equal(
@@ -661,10 +674,12 @@ def bits_that_do_not_exist():
 
 def lists():
     """Tests the list of devices that -P ? prints. (tests/serve.py has --version.)"""
-    here = sorted(str(it) for kind in ("ACM", "USB") for it in Path("/dev").glob(f"tty{kind}*"))
-    status, output, *told = run(["-P", "?"])
+    here = sorted(str(path) for kind in ("ACM", "USB") for path in Path("/dev").glob(f"tty{kind}*"))
+    status, output, *printed = run(["-P", "?"])
     check_equal(
-        "-P ?", (status, [it.split()[0] for it in output.decode().splitlines()], told), (0, here or ["no"], [b"", []])
+        "-P ?",
+        (status, [row.split()[0] for row in output.decode().splitlines()], printed),
+        (0, here or ["no"], [b"", []]),
     )
 
 
@@ -673,12 +688,9 @@ class Boards:
     pseudo terminal of its own, so that it sees the end of its run even if the next one opens the device at once."""
 
     def __init__(self, *each, chip=None):
-        self.chip, self.each, self.device = (
-            chip or f"served{next(boards)}.bin",
-            each,
-            room.folder / f"device{next(boards)}",
-        )
-        self.over = threading.Event()
+        self.chip, self.each = chip or f"served{next(boards)}.bin", each
+        self.device = room.folder / f"device{next(boards)}"
+        self.over, self.ends = threading.Event(), None
         self.renew()
         self.thread = threading.Thread(target=self.live, daemon=True)
         self.thread.start()
@@ -691,15 +703,15 @@ class Boards:
 
     def live(self):
         for number, board in enumerate(self.each, 1):
-            it = Board(chip=self.chip, ends=self.ends, stopped=self.over, **board)
-            while not it.opened and it.thread.is_alive():
+            programmer = Board(chip=self.chip, ends=self.ends, stopped=self.over, **board)
+            while not programmer.opened and programmer.thread.is_alive():
                 time.sleep(0.005)
-            goes, is_last = it.vanish is not None, number == len(self.each)
+            goes, is_last = programmer.vanish is not None, number == len(self.each)
             if goes:
                 self.device.unlink()
             elif not is_last:
                 self.renew()
-            it.end()
+            programmer.end()
             if goes and not is_last:
                 time.sleep(0.5)
                 self.renew()
@@ -721,15 +733,15 @@ def retries():
     wanted = flashed()
 
     def ran(case):
-        it = Boards(*(board_of(each.strip()) for each in case[0].split(",")))
-        status, _, _, own = run([*FLASH, "--retry", "2", "-P", str(it.device)])
-        return status, own, it.end() == wanted
+        programmer = Boards(*(board_of(each.strip()) for each in case[0].split(",")))
+        status, _, _, own = run([*FLASH, "--retry", "2", "-P", str(programmer.device)])
+        return status, own, programmer.end() == wanted
 
     cases = table("attempts")
     for (each, count, error, hint), (status, own, is_flashed) in zip(cases, side_by_side(unpaused(ran), cases)):
-        again = [f"{error}: the same command again, {it} of 2" for it in range(1, int(count) + 1)]
+        again = [f"{error}: the same command again, {attempt} of 2" for attempt in range(1, int(count) + 1)]
         # (whichever byte differs first)
-        found = (status, [re.sub(r"address .*? expected", "address 00000000: 0C expected", it) for it in own])
+        found = (status, [re.sub(r"address .*? expected", "address 00000000: 0C expected", line) for line in own])
         check_equal(f"{each}: {hint}", found, (int(hint != ""), again + [hint] * (hint != "")))
         check(f"{each}: the chip", is_flashed == (hint == ""), own)
 
@@ -761,27 +773,27 @@ def the_part_of_the_chip():
     """-p auto reads the signature first, and takes the part if only one has it."""
     wanted = flashed()
     words = ["-p", "auto", "-U", "flash:w:blink.hex:i", "-U", "lock:w:0x3F:m"]
-    it = Boards(silent(0x1B), {}, {})
-    status, _, told, own = run([*words, "--retry", "1", "-P", str(it.device)])
+    programmer = Boards(silent(0x1B), {}, {})
+    status, _, printed, own = run([*words, "--retry", "1", "-P", str(programmer.device)])
     note, again = (
         "lock of m328p has no bits 6, 7; given as 1: lock:w:0xFF:m",
         "no answer: the same command again, 1 of 1",
     )
     check_equal("its lines", (status, own), (0, [again, "the chip is m328p (1E 95 0F)", note]))
-    check("the run's own lines alone", told.startswith(lines(SIGNATURE, "chip erased")), told)
-    check_equal("the chip", it.end(), wanted)
+    check("the run's own lines alone", printed.startswith(lines(SIGNATURE, "chip erased")), printed)
+    check_equal("the chip", programmer.end(), wanted)
     _, _, _, own, _ = over(["-p", "auto", "-U", "flash:w:gone.hex:i"], {})
     sent = "the chip is unchanged, and may be held in reset: power-cycle the board"
     check_equal(
         "what its session sent is known", own, ["the chip is m328p (1E 95 0F)", f"there is no such file; {sent}"]
     )
     for board, hint in table("auto"):
-        status, _, told, own, chip = over(words, board_of(board))
-        check(hint, (status, len(own)) == (1, 1) and own[0].startswith(hint), (status, told, own))
+        status, _, printed, own, chip = over(words, board_of(board))
+        check(hint, (status, len(own)) == (1, 1) and own[0].startswith(hint), (status, printed, own))
         check(f"{hint}: the chip", set(chip) == {0xFF}, chip[-4:])
     for more in [["-P", "emu:chip.bin"], [*CLASSIC, "-P", os.devnull]]:
-        status, _, told, own = run([*words, *more])
-        check(f"{more}", (status, told) == (1, b"") and own[-1].startswith("-p auto is for a device"), own)
+        status, _, printed, own = run([*words, *more])
+        check(f"{more}", (status, printed) == (1, b"") and own[-1].startswith("-p auto is for a device"), own)
     each = ["--each", "eeprom@512={n}", "--counter", "untaken", "--from", "5"]
     _, _, _, own, _ = over(["-p", "auto", *each], board_of("part t85"))
     has = "--each: eeprom of t85 has 512 bytes: nothing was written"
@@ -792,42 +804,42 @@ def the_part_of_the_chip():
 def screen(text):
     """Returns the lines on a terminal after a text."""
     rows, at = [""], 0
-    for it in text:
-        if it == "\n":
+    for character in text:
+        if character == "\n":
             rows.append("")
-        elif it == "\r":
+        elif character == "\r":
             at = 0
         else:
-            rows[-1], at = rows[-1][:at].ljust(at) + it + rows[-1][at + 1 :], at + 1
+            rows[-1], at = rows[-1][:at].ljust(at) + character + rows[-1][at + 1 :], at + 1
     return [row.rstrip() for row in rows]
 
 
 def on_a_terminal(words, answer=None, **more):
-    """Returns a terminal's text if it is standard error, the status, and what the board has heard."""
-    it = Board(answer=answer)
+    """Returns a terminal's text if it is standard error, the status, and what the board has received."""
+    board = Board(answer=answer)
     line, slave = pty.openpty()
-    started = start([*words, "-P", it.device], stderr=slave, **more)
+    started = start([*words, "-P", board.device], stderr=slave, **more)
     kills = threading.Timer(60, started.kill)
     kills.start()
     os.close(slave)
     got = read_whole(line)
     kills.cancel()
-    it.end()
+    board.end()
     os.close(line)
-    return got.decode(), started.wait(PATIENCE), it.heard
+    return got.decode(), started.wait(PATIENCE), board.received
 
 
 def progress():
     """Only a terminal shows progress, and the message lines stay as they are."""
-    rows = [it.decode() for it in lines(*FIRMWARE).splitlines()]
+    rows = [line.decode() for line in lines(*FIRMWARE).splitlines()]
 
     def slow(answer):
         time.sleep(0.3 if answer[5] == 0x13 or answer[5:7] == b"\x14\0" and next(read) < 5 else 0)
         return answer
 
     read = itertools.count()
-    got, status, heard = on_a_terminal([*FLASH, "--wait", "0"], slow)
-    count = frames_in(heard)
+    got, status, received = on_a_terminal([*FLASH, "--wait", "0"], slow)
+    count = frames_in(received)
     check_equal("the lines that stay", (status, screen(got)), (0, [*rows, ""]))
     # (six frames come before the first page, and two are for each)
     for text, sent in [
@@ -839,7 +851,7 @@ def progress():
     left = re.search(r"\ravrstk-serial: reading flash: 1,\d+ bytes, \d+ %, (\d+) s left", got)
     check("the time that is left", left and int(left[1]) > 5, got)
     updates = ["flash:r:back.hex:i", "eeprom:w:whole.bin:r", "flash:w:blink.hex", "eeprom:r:back.bin"]
-    got, status, _ = on_a_terminal(["-p", "m328p", *(word for it in updates for word in ("-U", it))])
+    got, status, _ = on_a_terminal(["-p", "m328p", *(word for update in updates for word in ("-U", update))])
     wanted = ["reading flash", "writing eeprom", "reading eeprom", "reading flash", "writing flash"]
     names = set(re.findall(r"\ravrstk-serial: (\w+ \w+)", got))
     check_equal("each has its name", (status, names), (0, set(wanted)))
@@ -866,54 +878,29 @@ def few_lines():
         "-U",
         "lfuse:w:0:m",
     ]
-    it = Boards({}, silent(0x13), {})
-    status, _, _, own = run([*quiet, "-P", str(it.device)])
+    board = Boards({}, silent(0x13), {})
+    status, _, _, own = run([*quiet, "-P", str(board.device)])
     shown = ["efuse of m328p has no bits 3, 4, 5, 6, 7; given as 1: efuse:w:0xFD:m"]
     shown.append(
         "warning: lfuse:w:0:m selects an external clock: the chip only works while a clock drives its pin XTAL1"
     )
     check_equal("-q twice", (status, own), (0, shown))
-    check("the chip", it.end()[:228] == flashed()[:228])
-    it = Board()
-    for port in [it.device, "emu:logged.bin"]:
-        status, _, told, own = run([*FLASH, "-l", "x.log", "-C", "x.conf", "-P", port])
+    check("the chip", board.end()[:228] == flashed()[:228])
+    board = Board()
+    for port in [board.device, "emu:logged.bin"]:
+        status, _, printed, own = run([*FLASH, "-l", "x.log", "-C", "x.conf", "-P", port])
         own = b"".join(b"avrstk-serial: " + row.encode() + b"\n" for row in own)
-        check_equal(f"-l, {port}", (status, told, room.read("x.log")), (0, lines(*FIRMWARE), own + told))
-    it.end()
+        check_equal(f"-l, {port}", (status, printed, room.read("x.log")), (0, lines(*FIRMWARE), own + printed))
+    board.end()
 
 
-def backups():
-    """--backup reads all memories, and --restore writes and compares them, whatever the chip's EEPROM and lock are. A
-    folder of a run that fails doesn't stay."""
-    old = bytes(it % 241 for it in range(700)).ljust(32_768, b"\xff") + bytes(it % 239 for it in range(200)).ljust(
-        1024, b"\xff"
-    )
+def status_and_lines(words, board):
+    """Runs these options over a board. Returns the status, and the script's own lines."""
+    return over(["-p", "m328p", *words], board)[::3]
 
-    def told(words, board):
-        return over(["-p", "m328p", *words], board)[::3]
 
-    for fuses, name in [("E2D1FDFF", "a backup"), ("62D907FE", "-x")]:
-        room.put("old.bin", old + bytes.fromhex(fuses))
-        status, output, _, own, _ = over(["-p", "m328p", "--wait", "0.4", "--backup", name], {"chip": "old.bin"})
-        words = shlex.split(output.decode())
-        check(f"{name}: its command", words[:5] == ["avrstk-serial", "--wait", "0.4", "-p", "m328p"], output)
-        check_equal(
-            f"{name}: there is none yet",
-            told(["--backup", name], {}),
-            (1, [f"--backup {name}: File exists: {UNOPENED}"]),
-        )
-        # (this high fuse keeps EEPROM at an erase. This lock forbids all but an erase)
-        for chip in [b"\xe1\xd7\xfa\xfc", b"\xff" * 4]:
-            room.put("new.bin", bytes(33_792) + chip)
-            it = Boards({}, {}, chip="new.bin")
-            found = run([str(it.device) if word.startswith("/dev/") else word for word in words[1:]])
-            check_equal(f"{name}: restored", (found[0], it.end() == old + bytes.fromhex(fuses)), (0, True))
-        it = Boards({}, silent(0x15), {}, chip="new.bin")
-        found = run([*(str(it.device) if word.startswith("/dev/") else word for word in words[1:]), "--retry", "1"])
-        check_equal(f"{name}: restored again", (found[0], it.end() == old + bytes.fromhex(fuses)), (0, True))
-    room.put("old.bin", b"\xff" * 33_796)
-    for words in [["--backup", "none"], ["--restore", "none"]]:
-        check_equal("an erased chip", run(["-p", "m328p", "-P", "emu:old.bin", *words])[0], 0)
+def backups_that_fail():
+    """A failed backup leaves no folder. A chip of another part, or a folder with faults, is not restored."""
     loader = "a bootloader can't write fuses and the lock, or read the calibration: use a programmer"
 
     def written(answer):
@@ -944,7 +931,7 @@ def backups():
     locked = "locked, so its flash and EEPROM can't be read"
     fails.append(({"chip": "locked.bin"}, ["--backup", "gone"], f"the chip is {locked}: no backup is kept"))
     for board, words, why in fails:
-        status, own = told(words, board)
+        status, own = status_and_lines(words, board)
         check(f"{words}: {why}", status == 1 and own[-1].startswith(why) and not (room.folder / "gone").exists(), own)
     for file, text, why in [
         ("lock.txt", b"0xfc", f"none is of a chip that was {locked}"),
@@ -952,17 +939,49 @@ def backups():
     ]:
         kept = room.read(f"none/{file}")
         room.put(f"none/{file}", text)
-        check_equal(why, told(["--restore", "none"], {"talk": b"x"}), (1, [f"{why}: {UNOPENED}"]))
+        check_equal(why, status_and_lines(["--restore", "none"], {"talk": b"x"}), (1, [f"{why}: {UNOPENED}"]))
         room.put(f"none/{file}", kept)
-    for it in ["a backup", "none", "-x"]:
-        shutil.rmtree(room.folder / it)
+
+
+def backups():
+    """--backup reads all memories, and --restore writes and compares them, whatever the chip's EEPROM and lock are. A
+    folder of a run that fails doesn't stay."""
+    flash, eeprom = bytes(number % 241 for number in range(700)), bytes(number % 239 for number in range(200))
+    old = flash.ljust(32_768, b"\xff") + eeprom.ljust(1024, b"\xff")
+    for fuses, name in [("E2D1FDFF", "a backup"), ("62D907FE", "-x")]:
+        room.put("old.bin", old + bytes.fromhex(fuses))
+        status, output, _, own, _ = over(["-p", "m328p", "--wait", "0.4", "--backup", name], {"chip": "old.bin"})
+        words = shlex.split(output.decode())
+        check(f"{name}: its command", words[:5] == ["avrstk-serial", "--wait", "0.4", "-p", "m328p"], output)
+        check_equal(
+            f"{name}: there is none yet",
+            status_and_lines(["--backup", name], {}),
+            (1, [f"--backup {name}: File exists: {UNOPENED}"]),
+        )
+        # (this high fuse keeps EEPROM at an erase. This lock forbids all but an erase)
+        for chip in [b"\xe1\xd7\xfa\xfc", b"\xff" * 4]:
+            room.put("new.bin", bytes(33_792) + chip)
+            programmer = Boards({}, {}, chip="new.bin")
+            found = run([str(programmer.device) if word.startswith("/dev/") else word for word in words[1:]])
+            check_equal(f"{name}: restored", (found[0], programmer.end() == old + bytes.fromhex(fuses)), (0, True))
+        programmer = Boards({}, silent(0x15), {}, chip="new.bin")
+        words = [str(programmer.device) if word.startswith("/dev/") else word for word in words[1:]]
+        found = run([*words, "--retry", "1"])
+        check_equal(f"{name}: restored again", (found[0], programmer.end() == old + bytes.fromhex(fuses)), (0, True))
+    room.put("old.bin", b"\xff" * 33_796)
+    for words in [["--backup", "none"], ["--restore", "none"]]:
+        check_equal("an erased chip", run(["-p", "m328p", "-P", "emu:old.bin", *words])[0], 0)
+    backups_that_fail()
+    for folder in ["a backup", "none", "-x"]:
+        shutil.rmtree(room.folder / folder)
 
 
 def warnings():
     """Tests warnings of fuses that can make a chip unreachable, and of flash that is erased or hidden."""
     fields = "flash_size = 32768, flash_page = 128, eeprom_size = 1024, eeprom_page = 4, eesave_bit = 3"
     mine = [
-        f'{it} = {{ {fields}, signature = "{digits}" }}\n' for it, digits in [("m328p", "1e950F"), ("b-chip", "1E9500")]
+        f'{name} = {{ {fields}, signature = "{digits}" }}\n'
+        for name, digits in [("m328p", "1e950F"), ("b-chip", "1E9500")]
     ]
     fields = fields.replace(", ", "\n")
     mine.append(f'[parts.a-chip]\nsignature = "1E950F"\n{fields}\n')
@@ -975,10 +994,10 @@ def warnings():
         room.put("late.hex", hex_of([(0x4000, b"late")]))
         own = run(["-p", part, "-P", "emu:no.bin", *words.split()])[3]
         room.clear()
-        check(f"{part} {words}", bool(own) == bool(wanted) and all(it.startswith(wanted) for it in own), own)
+        check(f"{part} {words}", bool(own) == bool(wanted) and all(line.startswith(wanted) for line in own), own)
     hides = "flash is erased, or the lock hides it (then -U lock:r:-:h prints a lock whose bit 1 is 0)"
-    for words, told in ("", [hides]), ("-A", []), ("-q -q", []):
-        check_equal(f"erased {words}", over(["-p", "m328p", *words.split(), "-U", "flash:r:none.hex:i"])[3], told)
+    for words, shown in ("", [hides]), ("-A", []), ("-q -q", []):
+        check_equal(f"erased {words}", over(["-p", "m328p", *words.split(), "-U", "flash:r:none.hex:i"])[3], shown)
 
 
 def asked(words, *each):
@@ -990,51 +1009,36 @@ def asked(words, *each):
         change = board.get("answer", lambda reply: reply)
         return {"part": "m2560", **board, "answer": lambda reply: done.append(reply[5]) or change(reply)}
 
-    it = Boards(*map(noting, each))
-    status, _, told, own = run(["-p", "m2560", "-P", str(it.device), *words, "--json", name])
-    return status, told, [row.replace(str(it.device), "DEVICE") for row in own], it.end(), done, report_of(name)
+    programmer = Boards(*map(noting, each))
+    status, _, printed, own = run(["-p", "m2560", "-P", str(programmer.device), *words, "--json", name])
+    own = [row.replace(str(programmer.device), "DEVICE") for row in own]
+    return status, printed, own, programmer.end(), done, report_of(name)
 
 
-def asked_first():
-    """Before a run at an ATmega2560 that a Mega's bootloader would do otherwise, the script asks the device whether it
-    is a bootloader. Then it refuses the run, or makes it without a warning. Before other runs it doesn't ask."""
-    room.keep("late.hex", hex_of([(0x4000, b"late")]))
-    room.keep("long.bin", bytes(257))
-    room.put("counter", b"7\n")
-    cases = [
-        ([board_of(it.strip()) for it in each.split(",")], shlex.split(it), *more) for each, it, *more in table("asked")
-    ]
-    for (each, words, kind, wanted), found in zip(
-        cases, side_by_side(unpaused(lambda it: asked(it[1], *it[0])), cases)
-    ):
-        status, told, own, chip, done, report = found
-        check(f"{words}: {wanted}", own[-1].startswith(wanted), (told, own))
-        check_equal(f"{words}: its kind", (status, report["kind"] or "-"), (int(kind != "-"), kind))
-        changed = {0x12, 0x13, 0x15, 0x17, 0x19} & set(done)
-        check_equal(
-            f"{words}: what was changed", (bool(changed), set(chip or b"\xff") == {0xFF}), (kind == "-", kind != "-")
-        )
-        is_left = kind in ("-", "refused") and done[-1] == 0x11
-        check(f"{words}: the chip is left", is_left or kind not in ("-", "refused"), done)
-    check_equal(
-        "no number was taken, and no file was made", (room.read("counter"), room.read("long.out")), (b"7\n", None)
-    )
+def asked_and_done():
+    """A programmer that was asked makes the run. The question is no part of its lines, its retries and its updates."""
     # (a verification reads all of flash)
     words = {"-D -V -U flash:w:late.hex:i": 2, "-q -q -D -V -U flash:w:blink.hex:i -U flash:w:late.hex:i": 2}
     words.update({"-U eeprom:w:long.bin:r": 2, "-n -U eeprom:r:long.out:r": 2, "-V -U flash:w:late.hex:i": 1})
     words.update({"-D -V -U flash:w:blink.hex:i": 1, "-D -n -V -U flash:w:late.hex:i": 1, "-V -U lock:w:0xFC:m": 1})
     words.update({"-c wiring -D -V -U flash:w:blink.hex:i": 1})
-    wanted = [emulated(*without(without(it.split(), "-c"), "wiring"), part="m2560") for it in words]
-    found = side_by_side(unpaused(lambda it: asked(it[0].split(), *[{}] * it[1])), words.items())
-    for (it, count), chip, (status, told, own, held, done, report) in zip(words.items(), wanted, found):
-        check_equal(f"{it}: asked or not", (status, own, done.count(0x11), 0x1C in done), (0, [], count, count > 1))
-        check(f"{it}: the run's own lines alone", b"calibration" not in told, told)
-        check_equal(f"{it}: the chip, and retries", (held == chip, report["retries"]), (True, 0))
-    status, told, own, _, done, report = asked(
+    wanted = [emulated(*without(without(options.split(), "-c"), "wiring"), part="m2560") for options in words]
+    found = side_by_side(unpaused(lambda case: asked(case[0].split(), *[{}] * case[1])), words.items())
+    for (options, count), chip, (status, printed, own, held, done, report) in zip(words.items(), wanted, found):
+        check_equal(
+            f"{options}: asked or not", (status, own, done.count(0x11), 0x1C in done), (0, [], count, count > 1)
+        )
+        check(f"{options}: the run's own lines alone", b"calibration" not in printed, printed)
+        check_equal(f"{options}: the chip, and retries", (held == chip, report["retries"]), (True, 0))
+    status, printed, own, _, done, report = asked(
         ["-U", "eeprom:r:back.bin:r", "-U", "calibration:r:byte.txt:h"], {}, silent(0x16)
     )
-    counts = [it["read"] for it in report["updates"]]
+    counts = [update["read"] for update in report["updates"]]
     check_equal("what was asked is no update", (status, counts, done.count(0x1C)), (1, [None, None], 1))
+
+
+def asked_over_a_port():
+    """A device behind a port is asked, too."""
     how = {"cwd": room.folder, "env": os.environ | {"AVRSTK": str(PROGRAM)}, "stdout": subprocess.PIPE}
     for more, status, wanted in [
         ([], 0, []),
@@ -1045,31 +1049,70 @@ def asked_first():
             port = int(served.stdout.readline().rpartition(b":")[2])
             found = run(["-p", "m2560", "-P", f"net:127.0.0.1:{port}", "-D", "-V", "-U", "flash:w:late.hex:i"])
             served.terminate()
-        check(f"net: {more}", found[0] == status and [it[:49] for it in found[3]] == [it[:49] for it in wanted], found)
+        check(
+            f"net: {more}",
+            found[0] == status and [line[:49] for line in found[3]] == [line[:49] for line in wanted],
+            found,
+        )
         check(f"net: {more}: the chip", (room.read("net.bin")[0x4000:0x4004] == b"late") == (status == 0))
         (room.folder / "net.bin").unlink()
 
 
-def images_that_are_read_once():
-    """An image is read once, also from a pipe, and may have several memories. Messages name the user's files."""
+def asked_first():
+    """Before a run at an ATmega2560 that a Mega's bootloader would do otherwise, the script asks the device whether it
+    is a bootloader. Then it refuses the run, or makes it without a warning. Before other runs it doesn't ask."""
+    room.keep("late.hex", hex_of([(0x4000, b"late")]))
+    room.keep("long.bin", bytes(257))
+    room.put("counter", b"7\n")
+    cases = [
+        ([board_of(board.strip()) for board in each.split(",")], shlex.split(options), *more)
+        for each, options, *more in table("asked")
+    ]
+    for (each, words, kind, wanted), found in zip(
+        cases, side_by_side(unpaused(lambda case: asked(case[1], *case[0])), cases)
+    ):
+        status, printed, own, chip, done, report = found
+        check(f"{words}: {wanted}", own[-1].startswith(wanted), (printed, own))
+        check_equal(f"{words}: its kind", (status, report["kind"] or "-"), (int(kind != "-"), kind))
+        changed = {0x12, 0x13, 0x15, 0x17, 0x19} & set(done)
+        check_equal(
+            f"{words}: what was changed", (bool(changed), set(chip or b"\xff") == {0xFF}), (kind == "-", kind != "-")
+        )
+        is_left = kind in ("-", "refused") and done[-1] == 0x11
+        check(f"{words}: the chip is left", is_left or kind not in ("-", "refused"), done)
+    check_equal(
+        "no number was taken, and no file was made", (room.read("counter"), room.read("long.out")), (b"7\n", None)
+    )
+    asked_and_done()
+    asked_over_a_port()
+
+
+def images_in_pipes():
+    """An image is read once from a named pipe, and from a shell's pipe that two updates and two attempts share."""
     wanted, text = flashed(), room.read("blink.hex")
     os.mkfifo(room.folder / "pipe")
     writer = threading.Thread(target=lambda: room.put("pipe", text), daemon=True)
     writer.start()
     got, status, _ = on_a_terminal(["-p", "m328p", "--wait", "0", "-U", "flash:w:pipe:i"])
-    rows = [it.decode() for it in lines(*FIRMWARE).splitlines()]
+    rows = [line.decode() for line in lines(*FIRMWARE).splitlines()]
     check_equal("a named pipe", (status, screen(got)), (0, [*rows, ""]))
     check("its progress", "\ravrstk-serial: writing flash: 128 bytes, " in got, got)
     reader, writer = os.pipe()
     os.write(writer, text)
     os.close(writer)
-    it = Boards(silent(0x13), {})
-    words = ["-p", "m328p", "--retry", "1", "-P", str(it.device), "-U", f"flash:w:/dev/fd/{reader}"]
-    status, _, told, own = run([*words, "-U", f"flash:v:/dev/fd/{reader}:i"], pass_fds=[reader])
+    board = Boards(silent(0x13), {})
+    words = ["-p", "m328p", "--retry", "1", "-P", str(board.device), "-U", f"flash:w:/dev/fd/{reader}"]
+    status, _, printed, own = run([*words, "-U", f"flash:v:/dev/fd/{reader}:i"], pass_fds=[reader])
     os.close(reader)
     again = ["no answer: the same command again, 1 of 1"]
-    check_equal("a shell's pipe, twice", (status, own, it.end() == wanted), (0, again, True))
-    status, _, told, own = piped([*NO_CHIP, "-U", "flash:w:-:i", "-U", "eeprom:w:-:i"], hex_of([(0, bytes(600))]))
+    check_equal("a shell's pipe, twice", (status, own, board.end() == wanted), (0, again, True))
+
+
+def images_that_are_read_once():
+    """An image is read once, also from a pipe, and may have several memories. Messages name the user's files."""
+    images_in_pipes()
+    text = room.read("blink.hex")
+    status, _, printed, own = piped([*NO_CHIP, "-U", "flash:w:-:i", "-U", "eeprom:w:-:i"], hex_of([(0, bytes(600))]))
     check_equal("two memories", (status, set(room.read("no.bin")[:600] + room.read("no.bin")[32_768:][:600])), (0, {0}))
     for content, wanted in [
         (text[:100], "error: -: line 3: bad length"),
@@ -1084,23 +1127,23 @@ def images_that_are_read_once():
     # (a file that grows no further: what is judged isn't passed on in part)
     limit = {"preexec_fn": lambda: resource.setrlimit(resource.RLIMIT_FSIZE, (2048, 2048))}
     room.put("long.hex", hex_of([(0, bytes(6_000))]))
-    status, _, told, own = run(["-p", "m328p", "-P", "net:127.0.0.1:1", "-U", "flash:w:long.hex:i"], **limit)
+    status, _, printed, own = run(["-p", "m328p", "-P", "net:127.0.0.1:1", "-U", "flash:w:long.hex:i"], **limit)
     check_equal(
         "a limit of files",
-        (status, told, own),
+        (status, printed, own),
         (1, b"", [f"long.hex can't be given to avrstk: File too large: {UNOPENED}"]),
     )
     room.put("net:", text)
     line, device = terminal()
-    told = (
+    program = (
         "sys.stderr.write('avrstk: error: ' + ' '.join(sys.argv[1:]).replace(str(port), 'PORT') + '\\n')\nsys.exit(1)\n"
     )
-    _, _, told, _ = run(["-p", "m328p", "-P", device, "-U", "net:"], env=stand_in(told))
+    _, _, printed, _ = run(["-p", "m328p", "-P", device, "-U", "net:"], env=stand_in(program))
     os.close(line)
-    check_equal("net: elsewhere", told.split()[2:], b"-P net:127.0.0.1:PORT -c stk500v2 -p m328p -U net:".split())
+    check_equal("net: elsewhere", printed.split()[2:], b"-P net:127.0.0.1:PORT -c stk500v2 -p m328p -U net:".split())
     for word in ["--wait=\u0663", "-b\u0661\u0662\u0660\u0660"]:
-        status, _, told, own = run([*FLASH, "-P", device, word])
-        check(f"{word}: other digits", (status, told) == (1, b"") and ": not a " in own[0], (told, own))
+        status, _, printed, own = run([*FLASH, "-P", device, word])
+        check(f"{word}: other digits", (status, printed) == (1, b"") and ": not a " in own[0], (printed, own))
 
 
 def over_a_bootloader():
@@ -1116,20 +1159,21 @@ def over_a_bootloader():
     held.update({"c d.srec": {0x200: ord("z")}, "e.bin": dict.fromkeys(range(130), 0)})
     for words, wanted in table("bootloader"):
         words = ["-c", "wiring", *shlex.split(words)]
-        it = Board(talk=b".")
-        status, _, told, own = run(["-p", "m328p", "-P", it.device, *words])
-        check(f"{words}", (status, it.opened, told, own[-1][: len(wanted)]) == (1, 0, b"", wanted), (status, own))
-        it.end()
+        board = Board(talk=b".")
+        status, _, printed, own = run(["-p", "m328p", "-P", board.device, *words])
+        check(f"{words}", (status, board.opened, printed, own[-1][: len(wanted)]) == (1, 0, b"", wanted), (status, own))
+        board.end()
         line = re.search(r"Type (.*), and give joined.hex", own[-1])
         if not line or not shutil.which("srec_cat"):
-            leave_out("the joined image", "srec_cat is not installed") if line else None
+            if line:
+                leave_out("the joined image", "srec_cat is not installed")
             continue
         subprocess.run(["sh", "-c", line[1]], cwd=room.folder, check=True)
         names = [name for name in held if shlex.quote(name) in line[1]]
         image = {at: byte for name in names for at, byte in held[name].items()}
         chip = bytes(image.get(at, 0xFF) for at in range(32_768))
-        status, _, told, own = run([*NO_CHIP, "-c", "wiring", "-D", "-U", "flash:w:joined.hex"])
-        check(f"{line[1]}: joined", (status, room.read("no.bin")[:32_768] == chip) == (0, True), (status, told, own))
+        status, _, printed, own = run([*NO_CHIP, "-c", "wiring", "-D", "-U", "flash:w:joined.hex"])
+        check(f"{line[1]}: joined", (status, room.read("no.bin")[:32_768] == chip) == (0, True), (status, printed, own))
         (room.folder / "no.bin").unlink()
 
 
@@ -1139,24 +1183,26 @@ def files_of_one_command():
     os.link(room.folder / "blink.hex", room.folder / "hard.hex")
     for name, end in [("soft.bin", "no.bin"), ("soft.toml", "parts.toml"), ("soon.hex", "later.hex")]:
         (room.folder / name).symlink_to(end)
-    kept = {it.name: it.read_bytes() for it in room.folder.iterdir() if it.is_file()}
+    kept = {path.name: path.read_bytes() for path in room.folder.iterdir() if path.is_file()}
     line, device = terminal()
 
     def meant(text):
         return text.replace("DEVICE", device).replace("CLASSIC", CLASSIC[1])
 
     for words, wanted in table("files"):
-        status, _, told, own = run(["-p", "m328p", *shlex.split(meant(words))])
-        check_equal(words, (status, told, own), (1, b"", [f"{meant(wanted)}: {UNOPENED}"]))
+        status, _, printed, own = run(["-p", "m328p", *shlex.split(meant(words))])
+        check_equal(words, (status, printed, own), (1, b"", [f"{meant(wanted)}: {UNOPENED}"]))
         check_equal(
-            f"{words}: the files", {it.name: it.read_bytes() for it in room.folder.iterdir() if it.is_file()}, kept
+            f"{words}: the files",
+            {path.name: path.read_bytes() for path in room.folder.iterdir() if path.is_file()},
+            kept,
         )
     os.close(line)
     room.put("old.log", b"old")
     run([*NO_CHIP, "-l", "old.log", "-U", "flash:w:no.hex:s", "-B", "1"])
     check_equal("a refused command leaves its log", room.read("old.log"), b"old")
     updates = ["lfuse:r:-:h", "hfuse:r:-:h", "efuse:r:/dev/null:h", "lock:r:/dev/null:h"]
-    found = run([*NO_CHIP, "-q", "-q", *(word for it in updates for word in ("-U", it))])
+    found = run([*NO_CHIP, "-q", "-q", *(word for update in updates for word in ("-U", update))])
     check_equal("streams take several", found, (0, b"0xff\n0xff\n", b"", []))
 
 
@@ -1180,7 +1226,7 @@ def board_of(cell):
     if kind == "silent":
         return silent(int(what, 16))
     if kind == "spoil":
-        return {"answer": lambda it: it[:-1] + bytes([it[-1] ^ 1]) if it[5] == int(what, 16) else it}
+        return {"answer": lambda reply: reply[:-1] + bytes([reply[-1] ^ 1]) if reply[5] == int(what, 16) else reply}
     known = {"deaf": int, "vanish": int, "talk": bytes_of}
     return {kind: known[kind](what)} if kind else {}
 
@@ -1190,38 +1236,39 @@ def hints():
 
     def ran(case):
         _, words, *_, board = case
-        it, begun = Board(**board_of(board)), time.monotonic()
-        status, _, others, own = run([*words.split(), "-P", it.device])
-        return status, others, own, it.end(), time.monotonic() - begun
+        programmer, begun = Board(**board_of(board)), time.monotonic()
+        status, _, others, own = run([*words.split(), "-P", programmer.device])
+        return status, others, own, programmer.end(), time.monotonic() - begun
 
     cases = table("failures")
     found = side_by_side(unpaused(ran), cases)
-    for (name, _, wanted, told, _), (status, others, own, chip, seconds) in zip(cases, found):
+    for (name, _, wanted, message, _), (status, others, own, chip, seconds) in zip(cases, found):
         check(f"{name}: it ends by itself soon", seconds < 40, seconds)
-        is_right = (status, len(own)) == (1, 1) and wanted in own[0] and told.encode() in others
-        check(f"{name}: {wanted}: {told}", is_right, (status, others, own))
-        check_equal(f"{name}: the chip", chip, b"\xff" * CHIP_FILE) if name == "silent" else None
-    status, _, told, own, _ = over(["-p", "m328p", "-U", "lfuse:r:-:h"], closed=">&-")
+        is_right = (status, len(own)) == (1, 1) and wanted in own[0] and message.encode() in others
+        check(f"{name}: {wanted}: {message}", is_right, (status, others, own))
+        if name == "silent":
+            check_equal(f"{name}: the chip", chip, b"\xff" * CHIP_FILE)
+    status, _, printed, own, _ = over(["-p", "m328p", "-U", "lfuse:r:-:h"], closed=">&-")
     stays = "everything reported above was done. The chip stays in programming mode: power-cycle the board"
     wanted = [f"standard output is closed or full; {stays}"]
-    check_equal("a closed output", (status, b"-: cannot be written" in told, own), (1, True, wanted))
+    check_equal("a closed output", (status, b"-: cannot be written" in printed, own), (1, True, wanted))
 
 
 def without(words, *left_out):
     """Leaves an option out of a command."""
-    return [it for it in words if it not in left_out]
+    return [word for word in words if word not in left_out]
 
 
 def other_part(words, part, made):
     """Returns the command for another part, with a firmware that is made for it."""
     at = words.index("-p") + 1
-    return [it.replace("blink.hex", made) for it in [*words[:at], part, *words[at + 1 :]]]
+    return [word.replace("blink.hex", made) for word in [*words[:at], part, *words[at + 1 :]]]
 
 
 def renamed(words, given):
     """Puts this update in place of the one that names the same file."""
     file = given.split(":")[2]
-    return [given if file in it.split(":") else it for it in words]
+    return [given if file in word.split(":") else word for word in words]
 
 
 def another_file(words, case, *_):
@@ -1237,19 +1284,19 @@ def on_a_bootloader(words, case, *_):
 
 def valued(words, given):
     """Gives this value in place of the update of the same memory."""
-    return [given if it.partition(":")[0] == given.partition(":")[0] else it for it in words]
+    return [given if word.partition(":")[0] == given.partition(":")[0] else word for word in words]
 
 
 def lock_last(words, *_):
     """Gives the lock last."""
-    lock = next(it for it in words if it.startswith("lock:"))
+    lock = next(word for word in words if word.startswith("lock:"))
     return [*words[: words.index(lock) - 1], *words[words.index(lock) + 1 :], "-U", lock]
 
 
 def stays(words, case, found):
     """Decides by the data sheet whether the part has one of these bits."""
     has = {"efuse": 0x07, "lock": 0x3F}[found[2].partition(":")[0]] if "lacks" in case else 0xFF
-    if not any(has >> int(it) & 1 for it in found[1].split(",")):
+    if not any(has >> int(bit) & 1 for bit in found[1].split(",")):
         return valued(words, found[2])
     return [*words, "-e"] if "(-e)" in found[3] else None
 
@@ -1289,35 +1336,8 @@ def odd_elf(segments, sections, sizes=(32, 40), length=100):
     return struct.pack("<16s2H5I6H", *head) + b"".join(tables) + b".big\0".ljust(max(length, 4_096), b"\0")
 
 
-def elf_files():
-    """Flash and EEPROM get from an ELF file what avr-objcopy takes from it, and fuses and the lock their bytes."""
-    if not shutil.which("avr-gcc"):
-        return leave_out("ELF", "avr-gcc is not installed")
-    linked("main.elf", ELF)
-    others = [it for name in ["eeprom", "fuse", "lock", "signature"] for it in ("-R", f".{name}")]
-
-    def take(*words):
-        subprocess.run(["avr-objcopy", "-O", "binary", *words], cwd=room.folder, check=True)
-
-    take(*others, "main.elf", "flash.bin")
-    take("-j", ".eeprom", "main.elf", "eeprom.bin")
-    flash, eeprom = room.read("flash.bin"), room.read("eeprom.bin")
-    check("what avr-objcopy takes", (len(flash) >= 703, eeprom) == (True, b"\4\xff\5"), (flash, eeprom))
-    wanted = flash.ljust(32_768, b"\xff") + eeprom.ljust(1024, b"\xff") + bytes.fromhex("E2D1FDFC")
-    memories = ["flash", "eeprom", "lfuse", "hfuse", "efuse", "lock"]
-    words = ["-p", "m328p", "--retry", "1", "-q", *(word for it in memories for word in ("-U", f"{it}:w:main.elf"))]
-    it = Boards(silent(0x15), {})
-    status, _, told, own = run([*words, "-P", str(it.device)])
-    again = ["no answer: the same command again, 1 of 1"]
-    check_equal("all, by a second attempt", (status, own, it.end()), (0, again, wanted))
-    words = [word for it in memories for word in ("-U", f"{it}:v:main.elf:e")]
-    room.put("wanted.bin", wanted)
-    status, _, told, own = run(["-p", "m328p", "-P", "emu:wanted.bin", *words])
-    check_equal("each is compared", (status, told.count(b" verified")), (0, 6))
-    check_equal("its line", own, ["main.elf is read as ELF (:e)"] * 6)
-    linked("high.elf", '.text\n.byte 7\n.section .high, "ax"\n.byte 8, 9\n', "-Wl,--section-start=.high=0x1FFFF")
-    status, *_ = run(["-p", "m2560", "-P", "emu:high.bin", "-qq", "-U", "flash:w:high.elf"])
-    check_equal("over 64 kB", (status, room.read("high.bin")[0x1FFFE:0x20002]), (0, b"\xff\x08\x09\xff"))
+def put_odd_elf_files():
+    """Puts ELF files into the room that are refused, or are for other chips. main.elf is there."""
     linked("odd.elf", ELF + '.section .odd, "a"\n.byte 1, 2\n', "-Wl,--section-start=.odd=0x850000")
     linked("none.elf", ".text\n.byte 1\n")
     mine = '.section .mine, "a"\n.byte 1\n'
@@ -1335,14 +1355,22 @@ def elf_files():
     room.put("sum.elf", odd_elf(1, 999, length=8_000))
     linked("main.o", ELF, "-c")
     room.put("cut.elf", room.read("main.elf")[:700])
+
+
+def elf_files_that_are_refused():
+    """Each row of a table is refused soon, and in little memory."""
     for text, why in table("elf"):
         started = start([*NO_CHIP, "-U", text])
-        told = started.stderr.read().decode()
+        printed = started.stderr.read().decode()
         _, status, used = os.wait4(started.pid, 0)
         started.returncode = os.waitstatus_to_exitcode(status)
         end = ";" if " is made for " in why else ":"
-        check_equal(text, (started.returncode, told), (1, f"avrstk-serial: {why}{end} {UNOPENED}\n"))
+        check_equal(text, (started.returncode, printed), (1, f"avrstk-serial: {why}{end} {UNOPENED}\n"))
         check(f"{text}: a second, 100 MB", used.ru_utime < 1 and used.ru_maxrss < 100_000, used)
+
+
+def elf_files_for_other_chips():
+    """An ELF file names its chip. -F takes it for another one, and -p auto doesn't."""
     for text in ["flash:w:tiny.elf", "eeprom:w:mega.elf"]:
         status, _, _, own = run([*NO_CHIP, "-F", "-U", text])
         check(f"{text} -F", (status, own[0].startswith("warning: ")) == (0, True), own)
@@ -1355,6 +1383,40 @@ def elf_files():
     check_equal("its own chip", run(["-p", "attiny85", "-P", "emu:tiny.bin", "-U", "flash:w:tiny.elf"])[0], 0)
     high = run(["-p", "t85", "-P", "emu:tiny.bin", "-U", "flash:w:high.elf"])
     check_equal("too high", high[2], lines("error: high.elf: address 0001FFFF out of range"))
+
+
+def elf_files():
+    """Flash and EEPROM get from an ELF file what avr-objcopy takes from it, and fuses and the lock their bytes."""
+    if not shutil.which("avr-gcc"):
+        return leave_out("ELF", "avr-gcc is not installed")
+    linked("main.elf", ELF)
+    others = [word for name in ["eeprom", "fuse", "lock", "signature"] for word in ("-R", f".{name}")]
+
+    def take(*words):
+        subprocess.run(["avr-objcopy", "-O", "binary", *words], cwd=room.folder, check=True)
+
+    take(*others, "main.elf", "flash.bin")
+    take("-j", ".eeprom", "main.elf", "eeprom.bin")
+    flash, eeprom = room.read("flash.bin"), room.read("eeprom.bin")
+    check("what avr-objcopy takes", (len(flash) >= 703, eeprom) == (True, b"\4\xff\5"), (flash, eeprom))
+    wanted = flash.ljust(32_768, b"\xff") + eeprom.ljust(1024, b"\xff") + bytes.fromhex("E2D1FDFC")
+    memories = ["flash", "eeprom", "lfuse", "hfuse", "efuse", "lock"]
+    words = [word for memory in memories for word in ("-U", f"{memory}:w:main.elf")]
+    board = Boards(silent(0x15), {})
+    status, _, printed, own = run(["-p", "m328p", "--retry", "1", "-q", *words, "-P", str(board.device)])
+    again = ["no answer: the same command again, 1 of 1"]
+    check_equal("all, by a second attempt", (status, own, board.end()), (0, again, wanted))
+    words = [word for memory in memories for word in ("-U", f"{memory}:v:main.elf:e")]
+    room.put("wanted.bin", wanted)
+    status, _, printed, own = run(["-p", "m328p", "-P", "emu:wanted.bin", *words])
+    check_equal("each is compared", (status, printed.count(b" verified")), (0, 6))
+    check_equal("its line", own, ["main.elf is read as ELF (:e)"] * 6)
+    linked("high.elf", '.text\n.byte 7\n.section .high, "ax"\n.byte 8, 9\n', "-Wl,--section-start=.high=0x1FFFF")
+    status, *_ = run(["-p", "m2560", "-P", "emu:high.bin", "-qq", "-U", "flash:w:high.elf"])
+    check_equal("over 64 kB", (status, room.read("high.bin")[0x1FFFE:0x20002]), (0, b"\xff\x08\x09\xff"))
+    put_odd_elf_files()
+    elf_files_that_are_refused()
+    elf_files_for_other_chips()
     room.put("both.hex", b"".join(room.read("blink.hex").splitlines(True)[:-1]) + hex_of([(0x810000, b"eeprom")]))
     for memory, at, held in [("flash", 0, flash), ("eeprom", 32_768, eeprom)]:
         words = ["-p", "m328p", "-U", f"{memory}:w:both.hex"]
@@ -1412,7 +1474,7 @@ def elf_files_with_faults():
     for number in range(count):
         elf, begun = mutated(main, chance), time.process_time()
         try:
-            found = {at + it: byte for _, at, held in sections_of(elf)[0] for it, byte in enumerate(held)}
+            found = {at + offset: byte for _, at, held in sections_of(elf)[0] for offset, byte in enumerate(held)}
         except ValueError:
             found = None
         slowest = max(slowest, time.process_time() - begun)
@@ -1425,9 +1487,9 @@ def elf_files_with_faults():
                 compared += 1
                 wanted = image_of(room.read("mutated.hex"))
                 check(f"mutant {number}", found == wanted, sorted(set(found) ^ set(wanted))[:9])
-    told = f"{count} mutants, {read} are read, {compared} compared, the slowest in {slowest:.3f} s"
-    check(told, slowest < 1 and 0 < compared <= read < count)
-    print(told, flush=True)
+    summary = f"{count} mutants, {read} are read, {compared} compared, the slowest in {slowest:.3f} s"
+    check(summary, slowest < 1 and 0 < compared <= read < count)
+    print(summary, flush=True)
 
 
 def mended(words, case, *_):
@@ -1438,7 +1500,7 @@ def mended(words, case, *_):
 
 def changed(before, after):
     """Follows a hint by putting a text into the command."""
-    return lambda words, _, found: [re.sub(before, found.expand(after), it) for it in words]
+    return lambda words, _, found: [re.sub(before, found.expand(after), word) for word in words]
 
 
 # What a reader does after a hint: the words that he finds in it, and the next command with the files of its case. After
@@ -1511,7 +1573,7 @@ FOLLOWED = [
     (r"give one value$|two images overlap \(give one of them\)", lambda words, *_: words[:-2]),
     (
         r"For a programmer of STK500v2 leave out -c (\w+)\. ",
-        lambda words, _, found: [it for it in words if it not in ("-c", found[1])],
+        lambda words, _, found: [word for word in words if word not in ("-c", found[1])],
     ),
     (r"^ended by SIG|^no valid reply; the chip is unchanged. Check|^the device sends data, but no valid reply", mended),
     (
@@ -1542,7 +1604,8 @@ def returned(frame, event, value):
     if event == "return" and frame.f_code.co_filename == hints.__file__ and isinstance(value, str):
         note(frame.f_code.co_name, frame.f_lineno, value)
 def matched(table, error, words, matched=hints.matched, **fields):
-    found, name = matched(table, error, words, **fields), next(it for it in vars(hints) if vars(hints)[it] is table)
+    found = matched(table, error, words, **fields)
+    name = next(key for key in vars(hints) if vars(hints)[key] is table)
     at = next((at for at, begin in enumerate(table) if re.match(begin, error)), None)
     note(name, at, found)
     for at, (kind, text) in enumerate(hints.KINDS.items() if name == "REFUSALS" else []):
@@ -1562,13 +1625,13 @@ def rows_of_hints():
     """Returns the rows of the sources' hints as TRACED notes them, each with its text there: what functions return, and
     the rows of tables."""
     text, found = (SHARED / "avrstk/avrstk_hints.py").read_text(), {}
-    for it in ast.parse(text).body:
-        if isinstance(it, ast.FunctionDef) and ast.unparse(it.returns) == "str" and it.name != "matched":
-            returns = [row for row in ast.walk(it) if isinstance(row, ast.Return)]
-            found.update({(it.name, row.lineno): ast.unparse(row.value) for row in returns})
-        if isinstance(it, (ast.Assign, ast.AnnAssign)) and isinstance(it.value, ast.Dict):
-            name = ast.unparse(it.target if isinstance(it, ast.AnnAssign) else it.targets[0])
-            found.update({(name, at): ast.unparse(row) for at, row in enumerate(it.value.keys)})
+    for node in ast.parse(text).body:
+        if isinstance(node, ast.FunctionDef) and ast.unparse(node.returns) == "str" and node.name != "matched":
+            returns = [row for row in ast.walk(node) if isinstance(row, ast.Return)]
+            found.update({(node.name, row.lineno): ast.unparse(row.value) for row in returns})
+        if isinstance(node, (ast.Assign, ast.AnnAssign)) and isinstance(node.value, ast.Dict):
+            name = ast.unparse(node.target if isinstance(node, ast.AnnAssign) else node.targets[0])
+            found.update({(name, at): ast.unparse(row) for at, row in enumerate(node.value.keys)})
     return found
 
 
@@ -1583,13 +1646,15 @@ def followed(name, words, **case):
     for _ in range(6):
         board = {"chip": chip, "part": case.get("has", "m328p"), **case["board"]}
         given = open(room.folder / "small.elf", "rb")
-        it = Boards(*board.pop("each"), chip=chip) if "each" in board else Board(**board)
+        programmer = Boards(*board.pop("each"), chip=chip) if "each" in board else Board(**board)
         case["board"] = {} if "each" in case["board"] else case["board"]
         begun = case.pop("begun", lambda *_: None)
         more = {"front": ["-c", TRACED], "stdin": given, **case.pop("more", {})}
         more["env"] = {"TRACE": str(trace), **more.get("env", {})}
-        status, _, told, own = run([*words, "-P", str(it.device)], lambda started: begun(it, started), **more)
-        it.end()
+        status, _, printed, own = run(
+            [*words, "-P", str(programmer.device)], lambda started: begun(programmer, started), **more
+        )
+        programmer.end()
         if status == 0:
             break
         check(f"{name}: no other format", not re.search(r":[ar](?![\w:])|(?<!with) -V", own[-1]), own)
@@ -1602,7 +1667,7 @@ def followed(name, words, **case):
         text = [hint, later, ""][hints.count(own[-1])]
         hints.append(own[-1])
         rules = [(begin, act) for begin, act in FOLLOWED if re.search(begin, text)] if text else []
-        if not check(f"{name}: the hint can be followed, and is no circle", rules, (words, own, told, hints)):
+        if not check(f"{name}: the hint can be followed, and is no circle", rules, (words, own, printed, hints)):
             break
         words = rules[0][1](words, case, re.search(rules[0][0], text)) or None
         if words is None:
@@ -1639,7 +1704,26 @@ def without_bits(answer):
     return frame(answer[1], bytes([answer[5], 0, answer[7] | more, 0])) if more else answer
 
 
-OLD = bytes(it % 241 for it in range(32_768)) + bytes(1024) + b"\xe1\xd0"
+OLD = bytes(number % 241 for number in range(32_768)) + bytes(1024) + b"\xe1\xd0"
+
+
+def interrupted(when):
+    """Returns the case of a run that gets SIGINT, at this command or before any (`early`)."""
+    reached = threading.Event()
+
+    def held(answer):
+        if when != f"{answer[5]:02X}":
+            return answer
+        reached.set()
+        return b""
+
+    halts = {} if when != "early" else stand_in("open('begun', 'w')\ntime.sleep(60)\n")
+
+    def begun(_, started):
+        wait_until((room.folder / "begun").exists if halts else reached.is_set)
+        started.send_signal(signal.SIGINT)
+
+    return {"board": {"answer": held}, "begun": begun, "more": {"env": halts}}
 
 
 def kind_of(name):
@@ -1661,11 +1745,17 @@ def kind_of(name):
         "not built in": lambda: {"has": "m32u4", "part": "m32u4", "made": "mega.hex", "board": {"words": CLASSIC}},
         "no erase": lambda: {"chip": OLD + b"\xfa\xff", "board": board_of("reply 12 12C0")},
         "worn": lambda: {
-            "board": {"answer": lambda it: frame(it[1], it[5:7] + b"\x80" + it[8:-1]) if it[5] in (0x14, 0x16) else it}
+            "board": {
+                "answer": lambda reply: frame(reply[1], reply[5:7] + b"\x80" + reply[8:-1])
+                if reply[5] in (0x14, 0x16)
+                else reply
+            }
         },
         "far": lambda: {
             "board": {
-                "answer": lambda it: frame(it[1], b"\x16\0" + bytes(len(it) - 8)) if it[5:8] == b"\x16\0\xee" else it
+                "answer": lambda reply: frame(reply[1], b"\x16\0" + bytes(len(reply) - 8))
+                if reply[5:8] == b"\x16\0\xee"
+                else reply
             }
         },
         "full": lambda: {"more": {"closed": ">&-"}},
@@ -1675,24 +1765,10 @@ def kind_of(name):
     }
     kind, _, when = name.partition(" ")
     if kind == "signal":
-        reached = threading.Event()
-
-        def held(answer):
-            if when != f"{answer[5]:02X}":
-                return answer
-            reached.set()
-            return b""
-
-        halts = {} if when != "early" else stand_in("open('told', 'w')\ntime.sleep(60)\n")
-
-        def begun(_, started):
-            wait_until((room.folder / "told").exists if halts else reached.is_set)
-            started.send_signal(signal.SIGINT)
-
-        return {"board": {"answer": held}, "begun": begun, "more": {"env": halts}}
+        return interrupted(when)
     if name in known:
         return known[name]()
-    each = [board_of(it.strip()) for it in name.split(",")]
+    each = [board_of(board.strip()) for board in name.split(",")]
     return {"board": {"each": [*each, {}]} if len(each) > 1 else each[0]}
 
 
@@ -1734,21 +1810,24 @@ def hints_over_each_memory():
         if "made" in more and place >= 0:
             place, wanted = (0, bytes(300)) if place == 0 else (262_144, wanted)
         found = chip[place:][: len(wanted)]
-        return status != 0 or [it & bits for it in found] == [it & bits for it in wanted], (status, hints, found)
+        return status != 0 or [byte & bits for byte in found] == [byte & bits for byte in wanted], (
+            status,
+            hints,
+            found,
+        )
 
     more = {"flash": [["-D"], ["-c", "wiring", "-D"]], "eeprom": []}
-    words = {it: [[], *more.get(it.split(":")[0], [["--parts", "mine.toml"]])] for it in updates}
-    cases = [(update, kind, it) for update, kind in itertools.product(updates, kinds) for it in words[update]]
+    words = {update: [[], *more.get(update.split(":")[0], [["--parts", "mine.toml"]])] for update in updates}
+    cases = [(update, kind, options) for update, kind in itertools.product(updates, kinds) for options in words[update]]
     cases = sampled("hints over each memory", 30, cases)
-    for it, (is_right, found) in zip(cases, side_by_side(right, cases)):
-        check(f"{it}: the chip", is_right, found)
+    for case, (is_right, found) in zip(cases, side_by_side(right, cases)):
+        check(f"{case}: the chip", is_right, found)
 
 
-def each_hint():
-    """Each row of avrstk_hints is in a walk that ends with the wanted bytes, or with a hint that has no command."""
-    firmware, good = flashed(), room.read("blink.hex")
+def put_files_of_walks(good):
+    """Puts the files into the room that the walks name. `good` is the firmware as Intel HEX."""
     fields = "flash_size = 32768, flash_page = 128, eeprom_size = 1024, eeprom_page = 4, eesave_bit = 3"
-    mine = "".join(f'{it} = {{ signature = "1E950F", {fields} }}\n' for it in ["m328p", "'c-chip'"])
+    mine = "".join(f'{name} = {{ signature = "1E950F", {fields} }}\n' for name in ["m328p", "'c-chip'"])
     files = {
         "mine.toml": f"[parts]\n{mine}".encode(),
         "cut.hex": good[:-25],
@@ -1769,10 +1848,16 @@ def each_hint():
     for name, held in files.items():
         room.put(name, held)
     (room.folder / "gone.hex").symlink_to("nowhere")
-    for it in ("closed.hex", "closed.elf"):
-        (room.folder / it).chmod(0)
-    with socket.socket(socket.AF_UNIX) as it:
-        it.bind(str(room.folder / "socket"))
+    for closed in ("closed.hex", "closed.elf"):
+        (room.folder / closed).chmod(0)
+    with socket.socket(socket.AF_UNIX) as unix:
+        unix.bind(str(room.folder / "socket"))
+
+
+def each_hint():
+    """Each row of avrstk_hints is in a walk that ends with the wanted bytes, or with a hint that has no command."""
+    firmware, good = flashed(), room.read("blink.hex")
+    put_files_of_walks(good)
     held = {"blink": firmware[:228], "elf": b"\x0c\x94\x34\x00", "old": OLD[:228]}
     places = {"flash": 0, "eeprom": 32_768, "lfuse": -4, "hfuse": -3, "efuse": -2, "lock": -1}
 
@@ -1782,7 +1867,7 @@ def each_hint():
         case = kind_of(name)
         again = {
             "again": lambda: [
-                room.put(it, good) for it in ("cut.hex", "comment.hex", "page.hex") if f"flash:w:{it}" in words
+                room.put(file, good) for file in ("cut.hex", "comment.hex", "page.hex") if f"flash:w:{file}" in words
             ]
         }
         status, hints, chip = followed(" | ".join(row[:2]), words, **case, **{} if "again" in case else again)
@@ -1797,15 +1882,15 @@ def each_hint():
             f"{row[:2]}: its end", hints and (hints[-1].startswith(row[3]) if row[3] else status == 0), (status, hints)
         )
         check(f"{row[:2]}: the chip", is_right, hints)
-    for it, line in rows_of_hints().items() if cases == table("walks") else []:
-        check(f"a walk follows {it}: {line}", it in seen)
+    for place, line in rows_of_hints().items() if cases == table("walks") else []:
+        check(f"a walk follows {place}: {line}", place in seen)
 
 
 def hints_that_are_followed():
     """Follows the hints for damaged files, and for a bootloader's images, until a run leaves the wanted chip."""
     firmware, good = flashed(), room.read("blink.hex")
-    image = bytes(it % 251 for it in range(700))
-    old = bytes(it % 241 for it in range(32_768))
+    image = bytes(number % 251 for number in range(700))
+    old = bytes(number % 241 for number in range(32_768))
     rows = good.splitlines(True)
 
     def flash(file, *more):
@@ -1848,8 +1933,9 @@ def hints_that_are_followed():
             **own,
         )
     follows("-D", flash("late.hex", "-D"), with_flash(image, 0x1000), "late.hex", late, chip=old + b"\xff" * 1028)
-    for (name, *_), hints in zip(walks, side_by_side(lambda it: walk(*it[:3], **it[3]), walks)):
-        check_equal(f"{name}: one hint", len(hints), 1) if name in bad else None
+    for (name, *_), hints in zip(walks, side_by_side(lambda case: walk(*case[:3], **case[3]), walks)):
+        if name in bad:
+            check_equal(f"{name}: one hint", len(hints), 1)
 
 
 def signals():
@@ -1863,51 +1949,36 @@ def signals():
             reached.set()
             return b""
 
-        it = Board(answer=held)
-        started = start([*FLASH, "-P", it.device], start_new_session=True)
+        board = Board(answer=held)
+        started = start([*FLASH, "-P", board.device], start_new_session=True)
         check("it is reached", reached.wait(PATIENCE))
         begun = time.monotonic()
-        os.killpg(started.pid, number) if number == signal.SIGINT else started.send_signal(number)
-        _, told = started.communicate(timeout=PATIENCE)
-        own = [row for row in told.decode().splitlines() if row.startswith("avrstk-serial: ")]
-        check(wanted, started.returncode == 1 and len(own) == 1 and wanted in own[0], told)
+        if number == signal.SIGINT:
+            os.killpg(started.pid, number)
+        else:
+            started.send_signal(number)
+        _, printed = started.communicate(timeout=PATIENCE)
+        own = [row for row in printed.decode().splitlines() if row.startswith("avrstk-serial: ")]
+        check(wanted, started.returncode == 1 and len(own) == 1 and wanted in own[0], printed)
         took = time.monotonic() - begun
         check("it ends at once", took < 5, took)
-        it.end()
+        board.end()
 
 
-def reports():
-    """--json writes what a run did: kinds of failures, the chip, each update; after a signal too, and to the output."""
-    try:
-        import jsonschema  # noqa: F401
-    except ModuleNotFoundError:
-        leave_out("the schema of reports", "python3-jsonschema is not installed")
-    for board, words, kind, chip, error in table("reports"):
-        it = Board(**board_of(board.strip("-")))
-        device = [] if "-P " in words else ["-P", it.device]
-        words = ["-p", "m328p", *device, *words.split(), "--json", "report.json"]
-        status, *_, own = run(words)
-        it.end()
-        found, what = report_of("report.json"), f"{board}, {words}"
-        check_equal(what, (found["status"], found["kind"] or "-", found["chip"]), (status, kind, chip))
-        check(
-            f"{what}: its error",
-            (found["error"] or "").startswith(error) and bool(error) == bool(found["error"]),
-            found["error"],
-        )
-        check(f"{what}: its hint", found["hint"] is None or found["hint"] in own, (found["hint"], own))
+def report_of_updates():
+    """A report has what each update did, on standard output too; -q leaves nothing out of it."""
     held = room.read("blink.hex")
     room.put("open.hex", held[: held.rindex(b":")])
-    it = Board(answer=lambda reply, lost=iter([b""]): next(lost, reply) if reply[5] == 0x13 else reply)
+    programmer = Board(answer=lambda reply, lost=iter([b""]): next(lost, reply) if reply[5] == 0x13 else reply)
     output = run(
-        ["-p", "m328p", "-P", it.device, "-U", "flash:w:blink.hex", "-U", "flash:r:back.hex:i", "--json", "-"]
+        ["-p", "m328p", "-P", programmer.device, "-U", "flash:w:blink.hex", "-U", "flash:r:back.hex:i", "--json", "-"]
     )[1]
-    it.end()
+    programmer.end()
     other = Board()
     for device in "emu:quiet.bin", other.device:
         words = ["-p", "m328p", "-P", device, "-q", "-q", "-U", "flash:w:blink.hex", "--json", "quiet.json"]
-        found, told = run(words), report_of("quiet.json")
-        quiet = told["chip"], told["signature"], told["updates"][0]["verified"]
+        found, report = run(words), report_of("quiet.json")
+        quiet = report["chip"], report["signature"], report["updates"][0]["verified"]
         check_equal(f"{device}: -q changes no report", (found, quiet), ((0, b"", b"", []), ("done", "1E 95 0F", 228)))
     other.end()
     found = run(["-p", "m328p", "-P", "emu:quiet.bin", "-q", "-U", "flash:v:open.hex", "--json", "quiet.json"])
@@ -1917,16 +1988,44 @@ def reports():
     check_equal("its digest", wrote["sha256"], hashlib.sha256(held).hexdigest())
     check_equal("a file", (read["read"], read["sha256"]), (228, hashlib.sha256(room.read("back.hex")).hexdigest()))
     check_equal("one lost reply", (found["repeated"], found["retries"], found["signature"]), (1, 0, "1E 95 0F"))
-    check_equal("all commands", found["commands"], frames_in(it.heard))
+    check_equal("all commands", found["commands"], frames_in(programmer.received))
+
+
+def report_after_a_signal():
+    """A run that a signal ends writes its report."""
     reached = threading.Event()
-    it = Board(answer=lambda reply: reached.set() or b"" if reply[5] == 0x13 else reply)
-    started = start([*FLASH, "-P", it.device, "--json", "report.json"])
+    programmer = Board(answer=lambda reply: reached.set() or b"" if reply[5] == 0x13 else reply)
+    started = start([*FLASH, "-P", programmer.device, "--json", "report.json"])
     check("it is reached", reached.wait(PATIENCE))
     started.send_signal(signal.SIGTERM)
     started.communicate(timeout=PATIENCE)
-    it.end()
+    programmer.end()
     found = report_of("report.json")
     check_equal("after a signal", (found["kind"], found["chip"]), ("interrupted", "erased or partly written"))
+
+
+def reports():
+    """--json writes what a run did: kinds of failures, the chip, each update; after a signal too, and to the output."""
+    try:
+        import jsonschema  # noqa: F401
+    except ModuleNotFoundError:
+        leave_out("the schema of reports", "python3-jsonschema is not installed")
+    for board, words, kind, chip, error in table("reports"):
+        programmer = Board(**board_of(board.strip("-")))
+        device = [] if "-P " in words else ["-P", programmer.device]
+        words = ["-p", "m328p", *device, *words.split(), "--json", "report.json"]
+        status, *_, own = run(words)
+        programmer.end()
+        found, what = report_of("report.json"), f"{board}, {words}"
+        check_equal(what, (found["status"], found["kind"] or "-", found["chip"]), (status, kind, chip))
+        check(
+            f"{what}: its error",
+            (found["error"] or "").startswith(error) and bool(error) == bool(found["error"]),
+            found["error"],
+        )
+        check(f"{what}: its hint", found["hint"] is None or found["hint"] in own, (found["hint"], own))
+    report_of_updates()
+    report_after_a_signal()
 
 
 def places_of_reports():
@@ -1949,9 +2048,9 @@ def places_of_reports():
     )
     full, differs = "--json /dev/full: No space left on device", "flash holds something else than whole.bin"
     for words, own in [([], [full]), (["-U", "flash:v:whole.bin"], [full, differs])]:
-        it = Board()
-        found = run([*FLASH, *words, "-P", it.device, "--json", "/dev/full"])
-        it.end()
+        board = Board()
+        found = run([*FLASH, *words, "-P", board.device, "--json", "/dev/full"])
+        board.end()
         check_equal(f"{words}: a full disk", (found[0], found[3][:1], len(found[3])), (1, own[:1], len(own)))
         check(f"{words}: the hint", own[-1] in found[3][-1], found[3])
     unread = run([*FLASH, "-P", "emu:c.bin", "--json", "pipe"])
@@ -1963,14 +2062,14 @@ def places_of_reports():
 def cut_lines():
     """If a signal cuts a line of avrstk, the script ends that line before its own."""
     halts = room.folder / "halts"
-    put_program(halts, "#!/bin/sh\nprintf 'avrstk: error: ' >&2\n: >told\nexec sleep 60\n")
+    put_program(halts, "#!/bin/sh\nprintf 'avrstk: error: ' >&2\n: >begun\nexec sleep 60\n")
     line, device = terminal()
     started = start([*FLASH, "-P", device], env={"AVRSTK": str(halts)})
-    wait_until((room.folder / "told").exists)
+    wait_until((room.folder / "begun").exists)
     started.send_signal(signal.SIGHUP)
-    _, told = started.communicate(timeout=PATIENCE)
+    _, printed = started.communicate(timeout=PATIENCE)
     wanted = ["avrstk: error: ", "avrstk-serial: ended by SIGHUP: nothing was sent: the chip is unchanged"]
-    check_equal("a line that is cut", (started.returncode, told.decode().splitlines()), (1, wanted))
+    check_equal("a line that is cut", (started.returncode, printed.decode().splitlines()), (1, wanted))
     os.close(line)
 
 
@@ -1984,9 +2083,9 @@ def echo(line):
 
     def live():
         wait_until(lambda: is_open(line))
-        heard = os.read(line, 1)
+        received = os.read(line, 1)
         found.extend([speed(line), termios.tcgetattr(line)[:4]])
-        os.write(line, heard)
+        os.write(line, received)
 
     threading.Thread(target=live, daemon=True).start()
     return found
@@ -1996,14 +2095,14 @@ def closed_streams():
     """Messages never go to the board. If they can't be printed, the run goes on to its end."""
     wanted = flashed()
     for closed in ["2>&-", "0<&- 2>&-", "1>&- 2>&-", "2>/dev/full"]:
-        it = Board()
-        status = start([*FLASH, "-P", it.device], closed).wait(PATIENCE)
-        check_equal(f"{closed}: the chip and the status", (it.end() == wanted, status), (True, 1))
-        check(f"{closed}: no message at the board", it.heard and b"avrstk" not in it.heard, it.heard)
+        board = Board()
+        status = start([*FLASH, "-P", board.device], closed).wait(PATIENCE)
+        check_equal(f"{closed}: the chip and the status", (board.end() == wanted, status), (True, 1))
+        check(f"{closed}: no message at the board", board.received and b"avrstk" not in board.received, board.received)
     for words in [["-p", "?"], ["-c", "?"], ["--help"]]:
         with open("/dev/full", "w") as full:
-            status, _, told, own = run(words, stdout=full)
-        found = (status, told, own)
+            status, _, printed, own = run(words, stdout=full)
+        found = (status, printed, own)
         check_equal(
             f"{words} to a full disk", found, (1, b"", ["standard output cannot be written: No space left on device"])
         )
@@ -2012,20 +2111,20 @@ def closed_streams():
 def messages_that_nobody_reads():
     """If the messages' pipe is closed after the first line, or full, the chip is still written whole."""
     wanted = flashed()
-    it = Board()
-    started = start([*FLASH, "-P", it.device])
+    board = Board()
+    started = start([*FLASH, "-P", board.device])
     check_equal("the first line", started.stderr.readline(), lines(SIGNATURE))
     started.stderr.close()
-    check_equal("a pipe that is closed", (it.end() == wanted, started.wait(PATIENCE)), (True, 1))
+    check_equal("a pipe that is closed", (board.end() == wanted, started.wait(PATIENCE)), (True, 1))
     for name, reads in [("a full pipe that is read late", True), ("a full pipe, and a signal", False)]:
-        it = Board()
+        board = Board()
         reader, writer = os.pipe()
         fcntl.fcntl(writer, fcntl.F_SETPIPE_SZ, 4096)
         os.write(writer, b"x" * 4096)
-        started = start([*FLASH, "-P", it.device], stderr=writer)
+        started = start([*FLASH, "-P", board.device], stderr=writer)
         os.close(writer)
-        wait_until(lambda: it.opened)
-        check(f"{name}: the chip", it.end() == wanted)
+        wait_until(lambda: board.opened)
+        check(f"{name}: the chip", board.end() == wanted)
         if reads:
             with os.fdopen(reader, "rb") as pipe:
                 check_equal(name, (pipe.read()[4096:], started.wait(PATIENCE)), (lines(*FIRMWARE), 0))
@@ -2042,9 +2141,9 @@ def one_run_at_a_time():
     fake = stand_in(CALLS)
     first = start([*FLASH, "-P", device, "-b", "57600", "--wait", "0"], env=fake)
     wait_until(lambda: speed(line) == (57_600, 57_600))
-    status, _, told, own = run([*FLASH, "-P", device, "-b", "9600"])
+    status, _, printed, own = run([*FLASH, "-P", device, "-b", "9600"])
     wanted = f"{device}: cannot be opened: another program has it"
-    check("a second run at once", (status, own[-1:]) == (1, [wanted]), (status, told, own))
+    check("a second run at once", (status, own[-1:]) == (1, [wanted]), (status, printed, own))
     check_equal("the first one's speed", speed(line), (57_600, 57_600))
     if ANYONE:
         os.chown(device, 65534, 65534)
@@ -2069,11 +2168,11 @@ def settings_that_are_kept():
     """After a run the device has its old settings."""
     line, device = terminal()
     kept = os.open(device, os.O_RDWR | os.O_NOCTTY)
-    it = termios.tcgetattr(kept)
-    it[2] |= termios.PARENB
-    it[3] |= termios.ECHO | termios.ICANON
-    it[4] = it[5] = termios.B9600
-    termios.tcsetattr(kept, termios.TCSANOW, it)
+    settings = termios.tcgetattr(kept)
+    settings[2] |= termios.PARENB
+    settings[3] |= termios.ECHO | termios.ICANON
+    settings[4] = settings[5] = termios.B9600
+    termios.tcsetattr(kept, termios.TCSANOW, settings)
     before = termios.tcgetattr(kept)
     during = echo(line)
     status, *_ = run([*FLASH, "-P", device, "-b", "74880", "--wait", "0"], env=stand_in(CALLS))
@@ -2098,35 +2197,39 @@ def devices_that_go():
     # (it reads its settings back before it waits)
     time.sleep(1)
     os.close(line)
-    _, told = started.communicate(timeout=PATIENCE)
-    told = told.decode().splitlines()
-    check("two lines", started.returncode == 1 and len(told) == 2 and told[0] == "avrstk: error: link ended", told)
+    _, printed = started.communicate(timeout=PATIENCE)
+    printed = printed.decode().splitlines()
+    check(
+        "two lines",
+        started.returncode == 1 and len(printed) == 2 and printed[0] == "avrstk: error: link ended",
+        printed,
+    )
     wanted = "avrstk-serial: the device is gone: check the cable; the chip is unchanged"
-    check("it is gone", told[-1].startswith(wanted), told)
+    check("it is gone", printed[-1].startswith(wanted), printed)
 
 
 def strangers():
     """If another program connects to the port that the script opens for avrstk, it receives nothing from the board."""
     wanted = flashed()
-    it = Board()
+    board = Board()
     # (the program that starts avrstk may keep running beside it)
     late = "while not os.path.exists('go'):\n    time.sleep(0.01)\nimport subprocess\n"
     # (an image is an open file of the script)
     late += f"sys.exit(subprocess.call(['{PROGRAM}', *sys.argv[1:]], close_fds=False))\n"
     fake = stand_in("open('port', 'w').write(str(port) + '\\n')\n" + late)
-    started = start([*FLASH, "-P", it.device], env=fake)
+    started = start([*FLASH, "-P", board.device], env=fake)
     wait_until(lambda: (room.read("port") or b"").endswith(b"\n"))
     with socket.create_connection(("127.0.0.1", int(room.read("port"))), PATIENCE) as stranger:
         stranger.sendall(bytes.fromhex("1B0100010E0114"))
         try:
-            heard = stranger.recv(100)
+            received = stranger.recv(100)
         except ConnectionResetError:
-            heard = b""
-    check_equal("the stranger receives", heard, b"")
+            received = b""
+    check_equal("the stranger receives", received, b"")
     room.put("go", b"")
-    _, told = started.communicate(timeout=PATIENCE)
+    _, printed = started.communicate(timeout=PATIENCE)
     line = b"avrstk-serial: another program called the port of this run, and was refused\n"
-    check_equal("the run", (started.returncode, told, it.end() == wanted), (0, line + lines(*FIRMWARE), True))
+    check_equal("the run", (started.returncode, printed, board.end() == wanted), (0, line + lines(*FIRMWARE), True))
 
 
 # Python loads this at its start: it sends Ctrl-C before a module is loaded
@@ -2147,9 +2250,9 @@ def names_and_interrupts():
         ("/dev/\x1b[31m\nx\x7f\u009b".encode(), "/dev/\\x1b[31m\\x0ax\\x7f\\xc2\\x9b"),
     ]:
         started = start([*FLASH, "-P", device])
-        _, told = started.communicate(timeout=PATIENCE)
+        _, printed = started.communicate(timeout=PATIENCE)
         wanted = f"avrstk-serial: {shown}: there is no such device (is the cable in?)\n".encode()
-        check_equal(f"the name {device}", (started.returncode, told), (1, wanted))
+        check_equal(f"the name {device}", (started.returncode, printed), (1, wanted))
     for name in ["avrstk_serial", "avrstk_common", "glob"]:
         started = start(["-p", "?"], env={"PYTHONPATH": str(room.folder), "SENDS_AT": name})
         check_equal(f"Ctrl-C before {name} is loaded", end_of(started), (-signal.SIGINT, b"", b""))
@@ -2172,7 +2275,9 @@ def typed(command, device, port=0):
 def without_socat(started):
     """Returns the status and the tool's own messages of a run."""
     status, _, messages = end_of(started)
-    return status, b"".join(it for it in messages.splitlines(True) if not re.match(rb"\d{4}/\d\d/\d\d .* socat\[", it))
+    return status, b"".join(
+        line for line in messages.splitlines(True) if not re.match(rb"\d{4}/\d\d/\d\d .* socat\[", line)
+    )
 
 
 def recipe_of_the_script():
@@ -2182,9 +2287,9 @@ def recipe_of_the_script():
         ("avrstk-serial -C/etc", "m2560", ["-D"]),
     ]:
         firmware = emulated(*more, *FLASH[2:], part=part)
-        it = Board(part=part)
-        status, _ = without_socat(typed(recipe(begin), it.device))
-        check_equal(begin, (status, it.end() == firmware), (0, True))
+        board = Board(part=part)
+        status, _ = without_socat(typed(recipe(begin), board.device))
+        check_equal(begin, (status, board.end() == firmware), (0, True))
 
 
 def recipe_of_a_plain_bridge():
@@ -2197,18 +2302,18 @@ def recipe_of_a_plain_bridge():
         ({}, (0, lines(*FIRMWARE), True)),
         ({"deaf": 0.25, "gone": 0.8}, (1, lines("error: no answer"), False)),
     ]:
-        it = Board(**board)
+        programmer = Board(**board)
         kept = kept_port()
         port = port_of(kept)
-        bridge = typed(recipe("socat TCP-LISTEN:5000,bind=127.0.0.1,reuseaddr FILE"), it.device, port)
+        bridge = typed(recipe("socat TCP-LISTEN:5000,bind=127.0.0.1,reuseaddr FILE"), programmer.device, port)
         wait_until(lambda: listens_at(port))
-        found = without_socat(typed(recipe(CALL), it.device, port))
+        found = without_socat(typed(recipe(CALL), programmer.device, port))
         bridge.communicate(timeout=PATIENCE)
-        check_equal("a plain bridge", (*found, it.end() == firmware), wanted)
+        check_equal("a plain bridge", (*found, programmer.end() == firmware), wanted)
         kept.close()
-    it = Board()
-    found = without_socat(typed(recipe("socat EXEC"), it.device))
-    check_equal("stdio:", (*found, it.end() == firmware), (0, lines(*FIRMWARE), True))
+    programmer = Board()
+    found = without_socat(typed(recipe("socat EXEC"), programmer.device))
+    check_equal("stdio:", (*found, programmer.end() == firmware), (0, lines(*FIRMWARE), True))
 
 
 def recipe_of_ser2net():
@@ -2216,16 +2321,16 @@ def recipe_of_ser2net():
     if not shutil.which("ser2net"):
         return leave_out("the recipe with ser2net", "ser2net is not installed")
     firmware = flashed()
-    it = Board()
+    board = Board()
     kept = kept_port()
     port = port_of(kept)
     text = "".join(recipe(begin) + "\n" for begin in ["connection:", "  accepter:", "  connector:"])
-    room.put("ser2net.yaml", text.replace("/dev/ttyACM0", it.device).replace("5000", str(port)).encode())
+    room.put("ser2net.yaml", text.replace("/dev/ttyACM0", board.device).replace("5000", str(port)).encode())
     server = subprocess.Popen(["ser2net", "-n", "-c", room.folder / "ser2net.yaml"], stderr=subprocess.DEVNULL)
     try:
         wait_until(lambda: listens_at(port))
-        found = without_socat(typed(recipe(CALL), it.device, port))
-        check_equal("ser2net", (*found, it.end() == firmware), (0, lines(*FIRMWARE), True))
+        found = without_socat(typed(recipe(CALL), board.device, port))
+        check_equal("ser2net", (*found, board.end() == firmware), (0, lines(*FIRMWARE), True))
     finally:
         server.terminate()
         server.wait()
@@ -2284,4 +2389,8 @@ TIMED += [
 ]
 
 if __name__ == "__main__":
-    sys.exit(run_cases({name: lambda it=it: (room.clear(), it()) for name, it in CASES.items()}, __doc__, timed=TIMED))
+    sys.exit(
+        run_cases(
+            {name: lambda case=case: (room.clear(), case()) for name, case in CASES.items()}, __doc__, timed=TIMED
+        )
+    )

@@ -24,14 +24,14 @@ def flash(port: str) -> int:
 def test_a_lost_erase_is_survived():
     with Double("--lose", "CHIP_ERASE#1", chip=OLD) as double:
         assert flash(double.port) == 0
-    assert [it.name for it in double.commands if "lost" in it.marks] == ["CHIP_ERASE"]
+    assert [command.name for command in double.commands if "lost" in command.marks] == ["CHIP_ERASE"]
     assert double.chip is not None and double.chip[228:FLASH] == b"\xff" * (FLASH - 228)
 
 
 def test_a_lost_reply_is_made_good_by_one_retry():
     with Double("--lose-reply", "CHIP_ERASE#1", chip=OLD) as double:
         assert flash(double.port) == 0
-    assert [it.name for it in double.commands].count("CHIP_ERASE") == 2
+    assert [command.name for command in double.commands].count("CHIP_ERASE") == 2
 
 
 def test_eesave_keeps_the_eeprom():

@@ -161,7 +161,7 @@ def readable(text: str) -> str:
     return "".join(map(shown, text))
 
 
-def say(text: str) -> None:
+def print_line(text: str) -> None:
     """Prints a line on standard error."""
     messages.put(f"{NAME}: {readable(text)}\n".encode())
 
@@ -204,7 +204,7 @@ def run(main: Callable[[str], int], help_text: str, needs_lines: bool = False) -
     try:
         status = main(help_text.strip())
     except (Fault, OSError, getopt.GetoptError) as fault:
-        say(text_of(fault))
+        print_line(text_of(fault))
         status = 1
     messages.finish()
     sys.exit(1 if needs_lines and messages.lost else status)

@@ -2,7 +2,7 @@
 
 from __future__ import annotations
 
-from avrstk_common import READ, Change, Fault, Frames, is_frame, came, ready, say
+from avrstk_common import READ, Change, Fault, Frames, is_frame, came, print_line, ready
 
 import collections
 import errno
@@ -118,7 +118,7 @@ class Log:
             why = "its reader is too slow" if isinstance(fault, BlockingIOError) else str(fault.strerror)
         self.lost += 1
         if not self.is_reported:
-            say(f"--log: lines are missing: {why}")
+            print_line(f"--log: lines are missing: {why}")
         self.is_reported = True
 
 
@@ -154,7 +154,7 @@ class Traffic:
         # (a report has it if it was used)
         self.seed = int(seed) if any("%" in value for _, value in given) else None
         if self.seed is not None:
-            say(f"--seed {seed} makes the same faults again")
+            print_line(f"--seed {seed} makes the same faults again")
 
     def open(self, *files: str | None) -> None:
         """Opens the log, which is none of these files."""

@@ -2,7 +2,7 @@
 
 from __future__ import annotations
 
-from avrstk_common import NAME, Fault, say, show, version
+from avrstk_common import NAME, Fault, print_line, show, version
 from avrstk_hints import CHANGING, LEAVE, NO_SIGNATURES, SIGN_ON, Outcome
 from avrstk_words import Update, Words
 
@@ -165,7 +165,7 @@ def write(place: str, report: dict[str, object]) -> bool:
         else:
             replace(os.path.realpath(place), f"{text}\n".encode())
     except (Fault, OSError) as fault:
-        say(f"--json {place}: {fault.strerror if isinstance(fault, OSError) else fault}")
+        print_line(f"--json {place}: {fault.strerror if isinstance(fault, OSError) else fault}")
         return False
     return True
 

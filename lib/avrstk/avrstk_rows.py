@@ -3,7 +3,7 @@
 A row is met if its command was done, or not done at all. If its reply is good, it was done, and the data in the reply
 are the chip's. Each row is tried at some addresses: that is a test, and proves nothing."""
 
-from avrstk_common import READ, Fault, Frames, came, is_frame, ready, say, show
+from avrstk_common import READ, Fault, Frames, came, is_frame, print_line, ready, show
 from avrstk_backup import FILES, command_again
 from avrstk_elf import hex_rows
 from avrstk_faults import framed, spoiled, xor
@@ -38,7 +38,7 @@ MOST_BYTES, MOST_SECONDS = 4096, 30
 
 # how TOML writes a number that isn't negative
 DIGITS = {"0x": "[0-9A-Fa-f]+", "0o": "[0-7]+", "0b": "[01]+", "": "[0-9]+"}
-NUMBER = re.compile("0|" + "|".join(f"{base or '(?!0)'}{it}(_{it})*" for base, it in DIGITS.items()))
+NUMBER = re.compile("0|" + "|".join(f"{base or '(?!0)'}{digit}(_{digit})*" for base, digit in DIGITS.items()))
 
 MEMORIES = {"signature": ("signature",), "calibration": ("calibration",), "fuses": FUSES, "lock": ("lock",)}
 MEMORIES.update({"flash": ("flash",), "EEPROM": ("eeprom",)})
@@ -62,7 +62,7 @@ class Ended(Exception):
 
 
 def hexed(*bodies: bytes) -> str:
-    return ", ".join(it[:16].hex(" ").upper() + " .." * (len(it) > 16) for it in bodies)
+    return ", ".join(body[:16].hex(" ").upper() + " .." * (len(body) > 16) for body in bodies)
 
 
 class Programmer:
@@ -93,9 +93,9 @@ class Programmer:
             if not piece:
                 raise Ended("the device is gone")
             held += len(piece)
-            for it in filter(is_frame, pieces.pieces(piece)):
-                if it[1] == self.number and not xor(it):
-                    return it[5:-1]
+            for reply in filter(is_frame, pieces.pieces(piece)):
+                if reply[1] == self.number and not xor(reply):
+                    return reply[5:-1]
         return None
 
     def ask(self, *step: bytes) -> bytes:
@@ -114,9 +114,9 @@ class Programmer:
 def sizes_of(words: Words) -> Dict[str, int]:
     """Returns the sizes of the part, and the bit of EESAVE."""
     names = ("flash_size", "flash_page", "eeprom_size", "eeprom_page", "eesave_bit")
-    found = {it: words.of_part(it) or "" for it in names}
-    if all(NUMBER.fullmatch(it) for it in found.values()):
-        return {it: int(value, 0) for it, value in found.items()}
+    found = {name: words.of_part(name) or "" for name in names}
+    if all(NUMBER.fullmatch(value) for value in found.values()):
+        return {name: int(value, 0) for name, value in found.items()}
     if words.parts_file is None:
         what = f"no part {words.part}" if words.part else "no part given (-p)"
         raise Fault(f"{what}: {no_part(words, None)}: {UNOPENED}")
@@ -130,7 +130,9 @@ class Rows:
     def __init__(self, words: Words, opens: Callable[[], Opened]) -> None:
         self.part = part = sizes_of(words)
         self.words, self.is_all, self.sizes = words, words.trial == "all", {"signature": 3, "calibration": 1}
-        self.sizes.update({it: 1 for it in (*FUSES, "lock")}, flash=part["flash_size"], eeprom=part["eeprom_size"])
+        self.sizes.update(
+            {memory: 1 for memory in (*FUSES, "lock")}, flash=part["flash_size"], eeprom=part["eeprom_size"]
+        )
         # the pages that are written. (With -c wiring a command restores only the first 256 bytes of EEPROM)
         half = min(part["eeprom_size"], 256 if words.is_wiring else 1 << 16) // 2
         self.cell = half // part["eeprom_page"] * part["eeprom_page"]
@@ -183,7 +185,7 @@ class Rows:
         drawn."""
         size, step = self.sizes[memory], 2 if memory == "flash" else 1
         if memory not in ("flash", "eeprom"):
-            return [(it, 1) for it in range(size)]
+            return [(at, 1) for at in range(size)]
         begins = [0, *range(min(shift, size // 4 * 2) or BLOCK, size, BLOCK)]
         found = [(at, end - at) for at, end in zip(begins, [*begins[1:], size])]
         for at in [random.randrange(0, size - step, step) for _ in range(4 if shift else 0)]:
@@ -195,14 +197,14 @@ class Rows:
         chip: Chip = {}
         for memory in self.sizes:
             pieces: List[bytes] = []
-            for it in self.blocks(memory):
-                piece = self.read(memory, *it)
+            for block in self.blocks(memory):
+                piece = self.read(memory, *block)
                 if piece is None:
                     break
                 pieces.append(piece)
             else:
                 chip[memory] = b"".join(pieces)
-        return {it: chip.get(it) for it in self.sizes}
+        return {memory: chip.get(memory) for memory in self.sizes}
 
     def difference(self, wanted: Chip, shift: int = 0) -> Optional[str]:
         """Reads all memories, or a sample, and returns where one differs."""
@@ -213,7 +215,7 @@ class Rows:
                 found, right = self.read(memory, at, count), (held or b"")[at : at + count]
                 if found is None:
                     raise Ended(f"{memory} could be read before: {self.asked}")
-                place = next((it for it in range(count) if found[it] != right[it]), None)
+                place = next((index for index in range(count) if found[index] != right[index]), None)
                 if place is not None:
                     return f"{memory}: address {at + place:08X}: {right[place]:02X} expected, {found[place]:02X} found"
         return None
@@ -243,7 +245,7 @@ class Rows:
         """Signs on, enters programming mode and saves all memories. Ends if the chip is another one, or locked."""
         self.programmer.ask(SIGN_ON)
         self.enter()
-        signature, lock = [self.read("signature", it, 1) or b"" for it in range(3)], self.read("lock", 0, 1)
+        signature, lock = [self.read("signature", at, 1) or b"" for at in range(3)], self.read("lock", 0, 1)
         found = b"".join(signature)
         if found and found.hex() != (self.words.of_part("signature") or "").lower():
             raise Ended(f"the chip's signature is {hexed(found)}: is -p right?")
@@ -255,12 +257,12 @@ class Rows:
             self.save(f"{memory}.{FILES[memory][:3]}", held)
         self.save("page.hex", (self.saved["eeprom"] or b"")[: self.cell + self.part["eeprom_page"]], self.cell)
         self.save("front.hex", (self.saved["flash"] or b"")[: self.page + self.part["flash_page"]])
-        say(f"all memories that can be read are saved in {self.folder}")
+        print_line(f"all memories that can be read are saved in {self.folder}")
 
     def save(self, name: str, held: Optional[bytes], begin: int = 0) -> None:
         """Writes a file of the form that --backup gives it."""
         if held:
-            values = ",".join(f"0x{it:02x}" for it in held) + "\n"
+            values = ",".join(f"0x{byte:02x}" for byte in held) + "\n"
             with open(f"{self.folder}/{name}", "w", encoding="ascii") as file:
                 file.write(values if name.endswith("txt") else "".join(hex_rows([(begin, held[begin:])])))
 
@@ -272,14 +274,14 @@ class Rows:
         self.undo = command_again(self.words, *(all_of_it if self.is_all else page))
 
     def only(self, *memories: str) -> Chip:
-        return {it: self.chip[it] for it in memories}
+        return {memory: self.chip[memory] for memory in memories}
 
     def reads(self) -> None:
         """Reads memories again, by blocks that begin elsewhere. (If all is well, `eeprom` reads it once more.)"""
         for name in READING:
-            here = {it: held for it, held in self.only(*MEMORIES[name]).items() if held is not None}
+            here = {memory: held for memory, held in self.only(*MEMORIES[name]).items() if held is not None}
             fault = self.difference({**here}, BLOCK // 2)
-            seen = ", ".join(hexed(it) if len(it) < 4 else f"{len(it):,} bytes" for it in here.values())
+            seen = ", ".join(hexed(held) if len(held) < 4 else f"{len(held):,} bytes" for held in here.values())
             if not here:
                 self.read(MEMORIES[name][0], 0, 1)
             if fault or not here or name != "EEPROM":
@@ -304,10 +306,10 @@ class Rows:
             return self.leave_out("damaged frame", "version 1 has no checksums")
         self.programmer.ask(*self.addressed("eeprom", self.cell))
         bodies = [write, *[ERASE] * self.is_all]
-        replies = [self.programmer.send(it, True) for it in bodies]
-        obeyed = [hexed(it) for it, reply in zip(bodies, replies) if reply and reply[1:2] == b"\0"]
+        replies = [self.programmer.send(body, True) for body in bodies]
+        obeyed = [hexed(body) for body, reply in zip(bodies, replies) if reply and reply[1:2] == b"\0"]
         fault = f"{' and '.join(obeyed)} was obeyed" if obeyed else self.difference(self.chip)
-        self.row("damaged frame", fault, " and ".join(hexed(it) if it else "no reply" for it in replies))
+        self.row("damaged frame", fault, " and ".join(hexed(reply) if reply else "no reply" for reply in replies))
         self.chip = self.whole() if fault else self.chip
 
     def eeprom(self) -> None:
@@ -318,10 +320,10 @@ class Rows:
             return self.leave_out("writes EEPROM", "EEPROM can't be read")
         old = held[self.cell : self.cell + self.part["eeprom_page"]]
         self.begin_to_change()
-        self.damaged(self.writing("eeprom", self.cell, bytes(it ^ 0x5A for it in old))[-1])
-        for data in bytes(it ^ 0xA5 for it in old[:-1] or old), old, old:
-            wrong, told = self.write("eeprom", self.cell, data)
-            fault, seen = fault or wrong, seen or told
+        self.damaged(self.writing("eeprom", self.cell, bytes(byte ^ 0x5A for byte in old))[-1])
+        for data in bytes(byte ^ 0xA5 for byte in old[:-1] or old), old, old:
+            wrong, result = self.write("eeprom", self.cell, data)
+            fault, seen = fault or wrong, seen or result
             if not unlike:
                 unlike = self.difference(self.only("eeprom"), BLOCK // 2)
                 unlike = unlike and f"{self.asked}; {unlike}"
@@ -349,7 +351,7 @@ class Rows:
         if held is not None:
             old = held[self.cell : self.cell + self.part["eeprom_page"]]
             self.begin_to_change()
-            wrong, _ = self.write("eeprom", self.cell, bytes(it ^ 0x5A for it in old), enters=True)
+            wrong, _ = self.write("eeprom", self.cell, bytes(byte ^ 0x5A for byte in old), enters=True)
             again, _ = self.write("eeprom", self.cell, old)
             fault = fault or (wrong and f"before ENTER {wrong}") or again
             self.is_put_back()
@@ -378,13 +380,13 @@ class Rows:
         self.begin_to_change()
         is_erased = self.erase()
         one, other = os.urandom(self.part["flash_page"]), os.urandom(self.part["flash_page"])
-        self.writes("writes flash", [("flash", it) for it in (one, one, other)], "twice, and another page over it")
+        self.writes("writes flash", [("flash", page) for page in (one, one, other)], "twice, and another page over it")
         # (a part of which nothing is known may have no extended fuse)
         fuses = FUSES if self.words.parts_file is None or self.words.bits() else FUSES[:2]
-        self.writes("writes fuses", [(it, self.chip[it]) for it in fuses], "each with its own byte")
+        self.writes("writes fuses", [(fuse, self.chip[fuse]) for fuse in fuses], "each with its own byte")
         # (a bit of the lock is cleared only if an erase has set it, or a bootloader can't clear it)
         values = [b"\xff", b"\xfe"] if is_erased or self.words.is_bootloader else [b"\xff"]
-        lock = [("lock", it if self.chip["lock"] else None) for it in values]
+        lock = [("lock", value if self.chip["lock"] else None) for value in values]
         self.writes("writes lock", lock, f"with {hexed(*values)}")
         self.restore(is_erased)
 
@@ -395,8 +397,8 @@ class Rows:
             if data is None:
                 return self.leave_out(name, "what is written can't be read")
             if not fault:
-                fault, told = self.write(memory, self.page if memory == "flash" else 0, data)
-                seen = seen or f"{told}; {what}"
+                fault, result = self.write(memory, self.page if memory == "flash" else 0, data)
+                seen = seen or f"{result}; {what}"
         self.row(name, fault, seen)
 
     def restore(self, is_erased: bool) -> None:
@@ -410,7 +412,7 @@ class Rows:
             for memory in "flash", "eeprom", "lock":
                 page, saved = self.part.get(f"{memory}_page", 1), self.saved[memory] or b""
                 places = range(0, len(saved), page)
-                wrong = [it for it in places if saved[it : it + page] != (self.chip[memory] or b"")[it : it + page]]
+                wrong = [at for at in places if saved[at : at + page] != (self.chip[memory] or b"")[at : at + page]]
                 # (without an erase, a bootloader may erase a page for each one written, from 0 on)
                 is_whole = memory == "flash" and wrong and not is_erased
                 for at in range(0, wrong[-1] + 1, page) if is_whole else wrong:
@@ -418,7 +420,7 @@ class Rows:
             self.chip = self.whole()
             if self.chip == self.saved:
                 self.undo = ""
-                say("the chip is as it was before")
+                print_line("the chip is as it was before")
                 break
 
     def try_all(self) -> None:
@@ -446,8 +448,8 @@ class Rows:
     def left(self) -> str:
         """Returns the promise that these rows leave."""
         failed = [name for name, meets in self.results.items() if meets is False]
-        unread = [it for it in READING if f"reads {it}" in failed]
-        if not self.chip or any(it in failed for it in KEPT) or len(unread) == len(READING):
+        unread = [name for name in READING if f"reads {name}" in failed]
+        if not self.chip or any(name in failed for name in KEPT) or len(unread) == len(READING):
             return "none"
         if not failed and None not in self.results.values() and not self.words.is_version1:
             return "after a verified run with status 0 the chip holds the images (README has the conditions)"
@@ -467,15 +469,15 @@ def try_rows(words: Words, opens: Callable[[], Opened]) -> int:
             rows.put_back()
     finally:
         rows.programmer.file.close()
-    tried, again = [it for it in rows.results.values() if it is not None], rows.programmer.repeated
+    tried, again = [is_met for is_met in rows.results.values() if is_met is not None], rows.programmer.repeated
     if why:
-        say(f"no further row is tried: {why}")
+        print_line(f"no further row is tried: {why}")
     if why == "no answer to 01" and not rows.results:
-        say(hint(Outcome(words, commands={SIGN_ON[0]}, was_opened=True, error="no answer"), None))
-    say(f"{sum(tried)} of {len(tried)} rows are met, tried at some addresses; {again} commands repeated")
-    say(f"promised of such a programmer: {'not known' if why else rows.left()}")
+        print_line(hint(Outcome(words, commands={SIGN_ON[0]}, was_opened=True, error="no answer"), None))
+    print_line(f"{sum(tried)} of {len(tried)} rows are met, tried at some addresses; {again} commands repeated")
+    print_line(f"promised of such a programmer: {'not known' if why else rows.left()}")
     if rows.undo:
-        say(f"the chip is changed. What restores it: {rows.undo}")
+        print_line(f"the chip is changed. What restores it: {rows.undo}")
     elif rows.chip != rows.saved:
-        say(f"the chip is changed. What it held is in {rows.folder}")
+        print_line(f"the chip is changed. What it held is in {rows.folder}")
     return 0 if all(tried) and not why else 1

@@ -3,7 +3,7 @@
 from __future__ import annotations
 
 from avrstk_common import BUILT_IN, READ, WRITE, Fault, Frames, Source, Way, brief, came, data_file, ended_by
-from avrstk_common import heed_signals, is_frame, messages, parts, ready, say, session_program, show, text_of
+from avrstk_common import heed_signals, is_frame, messages, parts, print_line, ready, session_program, show, text_of
 from avrstk_common import version, wait
 from avrstk_backup import asking, back_up, restored
 from avrstk_each import Each
@@ -415,7 +415,7 @@ class Run:
             return
         line.close()
         if is_avrstk is False:
-            say("another program called the port of this run, and was refused")
+            print_line("another program called the port of this run, and was refused")
 
     def open(self, line: socket.socket) -> None:
         """Opens the device and waits for the board. Only the last SIGN_ON that avrstk sends meanwhile is passed on."""
@@ -493,10 +493,10 @@ def leave_to_other(words: Words) -> None:
     why = why_other(words)
     other = other_program() if why else None
     if why and not other and os.environ.get("AVRSTK_ELSE"):
-        say(f"AVRSTK_ELSE names no other program here: {os.environ['AVRSTK_ELSE']}")
+        print_line(f"AVRSTK_ELSE names no other program here: {os.environ['AVRSTK_ELSE']}")
     # (it doesn't know the script's own options, and takes one port)
     if other and not words.is_station and not any(option.startswith("--") for option in words.last):
-        say(f"{why}: {other} runs in place of avrstk")
+        print_line(f"{why}: {other} runs in place of avrstk")
         messages.finish()
         environment = {name: value for name, value in os.environ.items() if name != "AVRSTK_ELSE"}
         os.execve(other, [other, *sys.argv[1:]], environment)
@@ -618,10 +618,10 @@ def judge_files(words: Words, begin: str = "") -> None:
     inputs.update({words.last["--rows"]: "the table"} if "--rows" in words.last else {})
     # (without a part file)
     inputs.pop(os.devnull, None)
-    outputs = [(f"-U {it.given}", it.file) for it in words.updates if it.operation == "r"]
-    names = [it for it in ("-l", "--backup", "--counter", "--json") if it in words.last]
-    outputs += [(f"{it} {words.last[it]}", words.last[it]) for it in names]
-    outputs = [it for it in outputs if it[1] != "-"]
+    outputs = [(f"-U {update.given}", update.file) for update in words.updates if update.operation == "r"]
+    names = [option for option in ("-l", "--backup", "--counter", "--json") if option in words.last]
+    outputs += [(f"{option} {words.last[option]}", words.last[option]) for option in names]
+    outputs = [output for output in outputs if output[1] != "-"]
     for number, (word, file) in enumerate(outputs):
         taken = next((what for name, what in inputs.items() if name and is_one(file, name)), None)
         # (a stream takes several outputs)
@@ -684,8 +684,8 @@ def joined(writes: list[Update], pages: list[tuple[int, int]]) -> str:
     words = ["(", *words, ")"] if len(words) > 2 and fill else words
     line = " ".join(map(shlex.quote, ["srec_cat", *words, *fill, "-o", "joined.hex", "-Intel"]))
     below = "; BELOW.hex has what is to stay below" * ("BELOW.hex" in words)
-    told = f"Type {line}, and give joined.hex{', whose gaps are FF' * bool(fill)}{below}"
-    return told if all(kinds) else ONE_IMAGE.capitalize()
+    advice = f"Type {line}, and give joined.hex{', whose gaps are FF' * bool(fill)}{below}"
+    return advice if all(kinds) else ONE_IMAGE.capitalize()
 
 
 def judge_part(words: Words, end: str) -> None:
@@ -741,7 +741,7 @@ def warn(words: Words) -> None:
         own = [(update.given, value) for update, value in values if update.memory == memory]
         found = [given for given, value in own if value is not None and value & mask == risky]
         if found:
-            say(f"warning: {' and '.join(found)} {what}")
+            print_line(f"warning: {' and '.join(found)} {what}")
 
 
 def ran(words: Words, put: Callable[[bytes], None] = messages.put, earlier: frozenset[int] = frozenset()) -> Outcome:
@@ -759,7 +759,7 @@ def ran(words: Words, put: Callable[[bytes], None] = messages.put, earlier: froz
         except BaseException:
             run.tool.process.kill()
             if earlier:
-                say(state_of(outcome))
+                print_line(state_of(outcome))
             raise
         finally:
             run.end()
@@ -850,7 +850,7 @@ def prepare(words: Words) -> None:
         words.note(f"ignored: {', '.join(words.left_out)}")
     for update in words.updates if "-q" not in words.flags else []:
         if update.named:
-            say(f"{update.file} is read as {FORMATS[update.named]} (:{update.named})")
+            print_line(f"{update.file} is read as {FORMATS[update.named]} (:{update.named})")
 
 
 def reported(words: Words) -> int:
@@ -924,7 +924,7 @@ def execute(words: Words) -> int:
     for update in words.updates:
         lacks = update.mask(bits)
         if lacks:
-            say(f"{update.memory} of {words.part} has {lacks}")
+            print_line(f"{update.memory} of {words.part} has {lacks}")
     warn(words)
     words.report.stage = "device"
     outcome = ran(words, earlier=frozenset(sent))

@@ -3,7 +3,7 @@
 from __future__ import annotations
 
 from avrstk_common import ENDING, READ, Fault, Source, Way, brief, built, came, ended_by, heed_signals, part_words
-from avrstk_common import readable, ready, say, session_program, show, text_of, unchanged, version, wait
+from avrstk_common import print_line, readable, ready, session_program, show, text_of, unchanged, version, wait
 from avrstk_faults import FAULTS, REFUSED, Traffic, seconds
 from avrstk_mega import Mega
 from avrstk_report import build, fault_of, write
@@ -250,9 +250,9 @@ class Server:
             self.serve_clients(GRACE)
             ended = ended_by()
             if ended is None:
-                say(f"{command[0]} is ended: it went on for {GRACE} seconds after that")
+                print_line(f"{command[0]} is ended: it went on for {GRACE} seconds after that")
             if ended == signal.SIGALRM:
-                say(f"{command[0]} is ended: it went on for {limit or 0:g} seconds (--timeout)")
+                print_line(f"{command[0]} is ended: it went on for {limit or 0:g} seconds (--timeout)")
         finally:
             if ended != signal.SIGCHLD:
                 job.end()
@@ -267,7 +267,7 @@ class Server:
             return False
         lacking = self.traffic.unstruck()
         for fault in lacking:
-            say(f"{fault} never struck")
+            print_line(f"{fault} never struck")
         return bool(lacking) and self.traffic.is_strict
 
     def serve_clients(self, grace: int | None) -> None:
@@ -283,7 +283,7 @@ class Server:
                 is_well = self.serve(client)
             except OSError as fault:
                 self.has_failed = True
-                say(f"a client can't be served: {fault.strerror}")
+                print_line(f"a client can't be served: {fault.strerror}")
             close(client)
             if is_well:
                 until = None
@@ -323,7 +323,7 @@ class Server:
         if run.returncode:
             how = f"status {run.returncode}" if run.returncode > 0 else f"ended by signal {-run.returncode}"
             self.has_failed = True
-            say(f"a session failed ({how}): its changes may not be in the chip file")
+            print_line(f"a session failed ({how}): its changes may not be in the chip file")
         return is_well, not run.returncode
 
     def start(self, other: socket.socket) -> subprocess.Popen[bytes]:
@@ -353,7 +353,7 @@ class Server:
             if came in found:
                 break
             if not found:
-                say(f"a client sent nothing for {self.idle:g} seconds: hung up")
+                print_line(f"a client sent nothing for {self.idle:g} seconds: hung up")
                 return False
             try:
                 if any([way.go_on(found) for way in ways]):

@@ -4,7 +4,7 @@ lines have its device in front, and a table comes at the end."""
 from __future__ import annotations
 
 from avrstk_common import ENDING, NAME, READ, WRITE, Fault, Source, came, ended_by, heed_signals, messages, ready
-from avrstk_common import readable, say, show, text_of, version
+from avrstk_common import print_line, readable, show, text_of, version
 from avrstk_report import Report, write
 from avrstk_words import UNOPENED, Update, Words, is_port
 
@@ -131,7 +131,7 @@ def become(words: Words, live: Callable[[Words], int], output: int, error: int, 
             status = live(words)
         except (Fault, OSError) as fault:
             own.fault = text_of(fault)
-            say(own.fault)
+            print_line(own.fault)
         except SystemExit:
             # (a program that it needs is not built, which is reported)
             pass

@@ -2,7 +2,8 @@
 
 from __future__ import annotations
 
-from avrstk_common import BUILT_IN, READ, Fault, data_file, part_words, parts, program, ready, say, session_program
+from avrstk_common import BUILT_IN, READ, Fault, data_file, part_words, parts, print_line, program, ready
+from avrstk_common import session_program
 from avrstk_elf import AREAS, SIGNATURE, Run, hex_rows, sections_of
 from avrstk_version1 import SPEEDS
 
@@ -112,14 +113,14 @@ class Words:
     def __init__(self, given: list[str], report: Report) -> None:
         self.unproved = given[:1] == ["--unproved"]
         # (getopt knows no option whose value may be left out)
-        given = [{"--try-rows": "--try-rows=safe"}.get(it, it) for it in given[self.unproved :]]
+        given = [{"--try-rows": "--try-rows=safe"}.get(word, word) for word in given[self.unproved :]]
         options, others = getopt.gnu_getopt(given, SHORT, LONG)
         self.last = last = dict(options)
         judge_words(options, others)
         self.part, self.device, self.parts_file = last.get("-p"), last.get("-P"), last.get("--parts")
         self.programmer, baud = last.get("-c", "stk500v2"), last.get("-b")
         self.wait, self.retry = last.get("--wait", "0.3"), last.get("--retry", "0")
-        self.backup, self.restore, self.trial = (last.get(it) for it in ("--backup", "--restore", "--try-rows"))
+        self.backup, self.restore, self.trial = (last.get(option) for option in ("--backup", "--restore", "--try-rows"))
         # all devices of the command. A station has several boards, or all that are there
         self.devices = [value for name, value in options if name == "-P"]
         self.is_station = len(self.devices) > 1 or self.devices == ["all"]
@@ -168,7 +169,9 @@ class Words:
 
     def is_wanted(self, line: bytes) -> bool:
         """Whether avrstk prints this line with -q: once it leaves out what it did, twice warnings, too."""
-        kind = next((at for at, it in enumerate((b"error: ", b"warning: ")) if line.startswith(b"avrstk: " + it)), 2)
+        kind = next(
+            (at for at, begin in enumerate((b"error: ", b"warning: ")) if line.startswith(b"avrstk: " + begin)), 2
+        )
         return not line.startswith(b"avrstk: ") or kind + self.flags.count("-q") <= 2
 
     def content(self, file: str) -> bytes | None:
@@ -192,7 +195,7 @@ class Words:
     def note(self, text: str) -> None:
         """Prints a line that is no error, unless -q is given twice."""
         if self.flags.count("-q") < 2:
-            say(text)
+            print_line(text)
 
     def chip(self) -> str:
         """Returns the long name of the part; with a part file of one's own, that of a part here with its signature."""
