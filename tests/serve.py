@@ -745,6 +745,28 @@ def faults():
         leave_out("faults with AVRDUDE", "AVRDUDE 7.1 is not installed")
 
 
+def of_an_old_chip():
+    """--locked clears two bits of any lock. With --bootloader the first page that is written clears the rest of the
+    chip, also after a page that was refused because the session hadn't entered programming mode."""
+    used = bytes(range(256)) * 133
+    room.put("chip.bin", used[: CHIP_FILE - 1] + b"\xf0")
+    found = ran(["0", *M328P, "--locked", "--", "true"])
+    check_equal("a lock with other bits at 0", (found[:2], room.read("chip.bin")[-1:].hex()), ((0, ""), "f0"))
+    page = [0x13, 0, 2, 0xC1, 10, 0x40, 0x4C, 0x20, 0xFF, 0xFF, 0x12, 0x34]
+    address = frame(2, 6, 0, 0, 0, 0)
+    sent = [FRAMES[0], address, frame(3, bytes(page)), frame(4, FRAMES[1][5:-1]), frame(5, 6, 0, 0, 0, 0)]
+    sent += [frame(6, bytes(page)), frame(7, 0x11, 1, 1)]
+    room.put("chip.bin", used[:CHIP_FILE])
+    with Serving("--bootloader") as server:
+        with server.call() as client:
+            for request in sent:
+                client.sendall(request)
+                head = received(client, 5)
+                received(client, int.from_bytes(head[2:4], "big") + 1)
+        server.end()
+    check_equal("the page, and the rest", room.read("chip.bin")[:4].hex(), "1234ffff")
+
+
 def reports():
     """--json writes each session: commands, faults, and whether the chip was saved; also for refused options."""
     with Serving("--json", "report.json", "--lose-reply", "SIGN_ON#2", "--lose", "CHIP_ERASE") as server:
@@ -825,7 +847,7 @@ CASES = named(
         devices,
         logged,
     ),
-    *(avrdudes_in_a_row, faults, a_job_ends, at_a_terminal, logs_that_take_no_more, reports, mega),
+    *(avrdudes_in_a_row, faults, of_an_old_chip, a_job_ends, at_a_terminal, logs_that_take_no_more, reports, mega),
 )
 
 # an idle time, or AVRDUDE's own timeouts

@@ -222,7 +222,6 @@ class Traffic:
             # (it does nothing then, and so does this instruction)
             body = body[:4] + bytes(len(body) - 4)
         elif self.is_bootloader and body[0] == PROGRAM_FLASH and not self.has_erased:
-            self.has_erased = True
             before = framed(number, bytes([CHIP_ERASE, 9, 0, 0xAC, 0x80, 0, 0]))
             self.waiting.append(Waiting(None, []))
         return before, framed(number, body)
@@ -231,6 +230,8 @@ class Traffic:
         """Returns what the client gets for the reply to the first command that waits for one."""
         line, faults = self.waiting.popleft() if self.waiting else (None, [])
         if line is None:
+            # (an erase is refused before ENTER)
+            self.has_erased |= frame[5:7] == bytes([CHIP_ERASE, 0])
             return b""
         marks = [FAULTS[fault] for fault in faults]
         if frame[6:7] != b"\0":

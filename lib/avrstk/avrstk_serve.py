@@ -508,7 +508,8 @@ def serve(
         return 1
     if traffic:
         traffic.open(chip, parts)
-    if "--locked" in options and fails(built(), *words, "-q", "-q", "-U", "lock:w:0xFC:m"):
+    # (a lock with other bits at 0 keeps them, so the byte isn't compared)
+    if "--locked" in options and fails(built(), *words, "-q", "-q", "-V", "-U", "lock:w:0xFC:m"):
         return 1
     heed_signals()
     server, status = Server(door, [session, "--serve", *words], idle, traffic), 1
