@@ -93,8 +93,6 @@ module _ (part : Part) (id signature : Bytes) where
   same_size mem = refl
 
   same_writing : (mem : Mem) (image : List (Option ℕ)) → writing part mem image ≡ writing other mem image
-  same_writing Flash image = refl
-  same_writing Eeprom image = refl
   same_writing mem image = refl
 
   same_reading : (mem : Mem) → read_steps part mem ≡ read_steps other mem

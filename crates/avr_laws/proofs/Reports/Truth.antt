@@ -51,12 +51,11 @@ module _ {P : Type 0} (m : Device P) where
   all_true : (True : OutputEvent → P → Type 0) {R : Type 0} (Now : Moment P) (After : End P R) (k : ℕ)
       (d : Dialog OutputEvent R) (z : Spot P) → PrintsFrom m True Now After d z
       → ReportsTrue m (λ q event. True event q) k d z.0 z.1
-  all_true True Now After k (Done r) z h = tt
   all_true True Now After k (Emit event d) z h =
       (h.0, all_true True (λ x. Now (event ∷ x)) (λ r x. After r (event ∷ x)) k d z h.1)
-  all_true True Now After zero (Ask bytes go_on) z h = tt
   all_true True Now After (suc k) (Ask bytes go_on) z h =
       all_true True Now After k (go_on _) (link.after bytes z tt) h.1
+  all_true z0 z1 z2 k z4 z h = tt
 
 module _ {P : Type 0} (T : OutputEvent → P → Type 0) where
   hold_on : (xs ys : List OutputEvent) (q : P) → AllTrue T xs q → AllTrue T ys q → AllTrue T (xs ++ ys) q
@@ -64,8 +63,7 @@ module _ {P : Type 0} (T : OutputEvent → P → Type 0) where
   hold_on (x ∷ xs) ys q f g = (f.0, hold_on xs ys q f.1 g)
 
   hold_unless : (b : Bool) (x : OutputEvent) (q : P) → T x q → AllTrue T (if b then [] else x ∷ []) q
-  hold_unless true x q t = tt
-  hold_unless false x q t = (t, tt)
+  hold_unless b x q t = search rules
 
 module _ (plan : Plan) (sound : IsPart plan.part) (real : Real plan.part) (m0 : Memories)
     (f0 : FitsPart plan.part m0) where
@@ -140,10 +138,7 @@ module _ (plan : Plan) (sound : IsPart plan.part) (real : Real plan.part) (m0 : 
           (erase_first plan (actions_items done) (actions_items later) order)))
       by_kind (WriteImage mem image) fits has order = λ q is.
           written_now mem image (actions_items done) (actions_items later) q order is
-      by_kind (CompareImage mem image) fits has order = λ q is.
-          subst (λ z. AllTrue T (verified_output plan.switches.quiet plan.part mem image
-          (comparison mem image (memory_in plan.part mem z))) q) is
-          (compared_now mem image q has (comparison mem image (memory_in plan.part mem (real.memories q))) refl)
+      by_kind (CompareImage mem image) fits has order = search (rules, compared_now)
       by_kind (SaveMemory mem format file) fits has order = λ q is.
           subst (λ z. AllTrue T (read_output plan.switches mem format file (memory_in plan.part mem z)) q) is
           (hold_on T (saving_output file (file_text format (saved_bytes plan mem (real.memories q))))

@@ -23,10 +23,7 @@ first_of image = 0
 
 pub large_value : (image : List (Option ℕ)) → HoldsValues (codes "256") 1 image → ⊥
 large_value image ([], are, all, some, few, is) = absurd (omega (arith, some))
-large_value image (byte ∷ bytes, are, all, some, few, is) =
-    let same : 256 ≡ byte = ap first_of are in
-    let fits : list_all (λ (byte : ℕ). nat_lt byte 256) (256 ∷ bytes) ≡ true =
-    subst (λ (b : ℕ). list_all (λ (byte : ℕ). nat_lt byte 256) (b ∷ bytes) ≡ true) (sym same) all in cc
+large_value image (byte ∷ bytes, are, all, some, few, is) = search rules
 
 -- ---- records: the byte 5 at address 0, and an end record
 

@@ -175,9 +175,7 @@ module _ (part : Part) where
     back Flash = ap (λ (k : ℕ). and_in (net Flash items blanked) (replicate k 255))
         (ap (λ (xs : List ℕ). length xs) (net_is Flash items blanked w)
         ∙ ((search (rules, length-and_in)) ∙ length-replicate {A = ℕ} (length m.flash) 255))
-    back Eeprom = ap (λ xs. with_image (net Eeprom items blanked)
-        (if erase_keeps_eeprom part left then xs else blank xs)) (net_is Eeprom items blanked w)
-        ∙ (search (rules, laid_twice, true≢false, length-laid, length-replicate))
+    back Eeprom = search (rules, net_is Eeprom items blanked w, laid_twice, true≢false, length-laid, length-replicate)
     back Lock = refl
     back mem = search (rules, net_is mem items blanked w)
 

@@ -188,7 +188,7 @@ module _ (part : Part) (sound : IsPart part) where
   pub row_is_done : (row : Row) (p : Programmer) → IsRow part row → FitsPart part (memories_of p.chip)
       → HasEmptyBuffers part p → IsDoneOrNot device chip_memories (HasEmptyBuffers part) part row p
   row_is_done row p is f s =
-      let t = step_for part sound row is in by_row row t.found.row p t.same (does t.commands t.step t.found p f s)
+      let t = step_for part sound row is in by_row row _ p t.3 (does t.0 t.1 t.2 p f s)
 
   -- ---- THE EMULATED PROGRAMMER MEETS THE TABLE
 
