@@ -16,7 +16,7 @@ use Rattle.avr_desk.specs.declared.file_system.FileSystem.{Ghosts}
 use Rattle.avr_desk.specs.declared.record.FileUse.{FileUse}
 use Rattle.avr_desk.specs.declared.record.Writing.{Writing}
 use Rattle.avr_desk.specs.declared.system.OpenFile.{OpenFile}
-use Rattle.avr_desk.specs.declared.system.OpenFile.TheVariants.{Nothing, Input, ToRead, ToWrite, Output}
+use Rattle.avr_desk.specs.declared.system.OpenFile.TheVariants.{Output}
 use Rattle.avr_laws.specs.Recorded.{RecordsFiles, RecordsOutput}
 
 -- ---- files

@@ -1,5 +1,5 @@
 -- Texts that are cut at a colon or after a prefix.
-use Rattle.std.proofs.Common.{◌≡◌, ◌∙◌, ◌≤◌, ◌==◌, ◌&&◌, ◌++◌, inl, inr, refl, sym, ap, Bool, true, false, ℕ, zero, suc, [], ◌∷◌, length, rules, arith, Option, Some, None, take, get_or, slice_index, ◌-◌, nat_le}
+use Rattle.std.proofs.Common.{◌≡◌, ◌==◌, ◌&&◌, ◌++◌, inl, inr, refl, ap, Bool, ℕ, zero, suc, [], ◌∷◌, length, rules, arith, Option, Some, None, take, get_or, slice_index, ◌-◌, nat_le}
 use Rattle.std.specs.Prelude.{if◌then◌else◌}
 use Rattle.std.proofs.lemmas.Bool.{cases_Bool, and_parts}
 use Rattle.std.proofs.lemmas.Bool.Decides.{nat_tests}

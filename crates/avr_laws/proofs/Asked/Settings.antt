@@ -1,18 +1,17 @@
 -- The settings of an accepted command line are those that its options ask for.
-use Rattle.std.proofs.Common.{◌≡◌, ◌⊎◌, inl, inr, subst, ℕ, [], ◌∙◌, refl, sym, ap, true, false, List, rules, arith, codes, count_by, Option, Some, None, Result, Ok, Err, nat_le, ok_or}
+use Rattle.std.proofs.Common.{◌≡◌, ◌⊎◌, inr, ℕ, [], refl, false, List, rules, codes, count_by, Option, Some, None, Result, Ok, Err, nat_le, ok_or}
 use Rattle.std.specs.Prelude.{⊤}
 use Rattle.std.specs.List.{list_any}
 use Rattle.std.specs.Option.{option_map_or}
 use Rattle.std.proofs.lemmas.Bool.{cases_Bool}
-use Rattle.std.proofs.lemmas.Bool.Decides.{nat_tests}
 use Rattle.std.proofs.lemmas.Slice.Eq.{bytes_eq-Decides}
 use Rattle.clap.specs.Words.{Row, first_of, matches_of}
 use Rattle.avr_part.specs.PartFile.{Bytes, ◌>>=◌}
-use Rattle.avr_plan.specs.Port.{port_number, port_of_option, port_to_serve}
+use Rattle.avr_plan.specs.Port.{port_number, port_of_option}
 use Rattle.avr_plan.specs.Settings.{Entries, checked_programmer, checked_streams, settings_of, run_settings, serve_settings, switches_of, updates_of}
 use Rattle.avr_plan.specs.Standard.{is_port_taken, is_standard, uses_input, uses_standard}
 use Rattle.avr_plan.specs.declared.settings.Port.{Port}
-use Rattle.avr_plan.specs.declared.settings.Port.TheVariants.{Stdio, Emulated, Network, Served}
+use Rattle.avr_plan.specs.declared.settings.Port.TheVariants.{Stdio, Emulated, Served}
 use Rattle.avr_plan.specs.declared.settings.Settings.{Settings}
 use Rattle.avr_plan.specs.declared.settings.SettingsFault.{SettingsFault}
 use Rattle.avr_plan.specs.declared.update.Update.{Update}
@@ -119,17 +118,8 @@ settings_are rows s is none =
     search (rules, port_given, programmer_is, not_standard)
 
 pub settings_read : (rows : List Row) (s : Settings) → AsksFor rows s → settings_of (entries_of rows) ≡ Ok s
-settings_read rows s a = search (
-  rules,
-  programmer_read,
-  port_read,
-  all_read,
-  checked,
-  names_file,
-  port_apart,
-  ok_or,
-  run_read,
-)
+settings_read rows s a =
+    search (rules, programmer_read, port_read, all_read, checked, names_file, port_apart, ok_or, run_read)
 
 -- ---- with `--serve`
 

@@ -1,5 +1,5 @@
 -- The updates that texts ask for, if their reader finds no fault.
-use Rattle.std.proofs.Common.{◌≡◌, ◌∙◌, ◌⊎◌, ◌+◌, ◌<◌, ◌≤◌, ◌==◌, ◌++◌, inl, inr, refl, sym, ap, subst, cond, Bool, true, false, ℕ, suc, List, [], ◌∷◌, length, rules, arith, find, Option, Some, None, Result, Ok, Err, unwrap_or, ok_or, bytes_eq}
+use Rattle.std.proofs.Common.{◌≡◌, ◌∙◌, ◌⊎◌, ◌+◌, ◌<◌, ◌≤◌, ◌==◌, ◌++◌, inl, inr, refl, sym, ap, cond, Bool, true, false, ℕ, suc, List, [], ◌∷◌, length, rules, find, Option, Some, None, Result, Ok, Err, unwrap_or, ok_or, bytes_eq}
 use Rattle.std.specs.Prelude.{if◌then◌else◌}
 use Rattle.std.specs.Option.{option_map_or}
 use Rattle.std.specs.Result.{result_map_both}

@@ -1,5 +1,5 @@
 -- Over few bad exchanges each step gives its data.
-use Rattle.std.proofs.Common.{◌≡◌, ℕ, zero, suc, ◌+◌, ◌≤◌, List, [], ◌∷◌, ◌++◌, length, refl, sym, ap, ◌∙◌, subst, arith, inl, inr, ◌⊎◌, Ok, rules}
+use Rattle.std.proofs.Common.{◌≡◌, ℕ, zero, suc, ◌+◌, ◌≤◌, List, [], ◌∷◌, ◌++◌, length, refl, ◌∙◌, subst, arith, inl, inr, ◌⊎◌, Ok, rules}
 use Rattle.std.specs.Prelude.{⊤}
 use Rattle.stk_frame.specs.declared.command.Command.{Command}
 use Rattle.stk_frame.specs.Commands.{body}
@@ -7,7 +7,7 @@ use Rattle.stk_host.specs.declared.fault.StepFault.{StepFault}
 use Rattle.stk_host.specs.declared.fault.StepFault.TheVariants.{NoAnswer}
 use Rattle.stk_host.specs.Dialog.{Dialog, Done, Emit, Ask}
 use Rattle.stk_host.specs.Bound.{AsksAtMost}
-use Rattle.stk_host.specs.Steps.{Reply, Data, Again, Stop, StepOutcome, reply_from_reading, with_data, exchange, attempt, step}
+use Rattle.stk_host.specs.Steps.{Reply, Data, Again, StepOutcome, reply_from_reading, with_data, exchange, attempt, step}
 use Rattle.stk_host.proofs.Dialogs.Logic.{OnReply, done, ask, wider, attempts}
 use Rattle.stk_emu.specs.Exchange.{Exchange, after_exchange, reading_of_exchange, first_exchange, later_exchanges}
 use Rattle.stk_emu.specs.Programmer.{Programmer}

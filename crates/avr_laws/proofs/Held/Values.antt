@@ -1,5 +1,5 @@
 -- The image that values on the command line make, if their reader finds no fault.
-use Rattle.std.proofs.Common.{◌≡◌, ◌∙◌, ◌+◌, ◌≤◌, ◌<◌, ap, subst, ℕ, zero, suc, List, [], ◌∷◌, length, refl, Some, None, Option, Result, Ok, Err, Bool, true, false, arith, rules}
+use Rattle.std.proofs.Common.{◌≡◌, ◌∙◌, ◌+◌, ◌≤◌, ◌<◌, ap, subst, ℕ, suc, List, [], ◌∷◌, length, refl, Some, Option, Result, Ok, Err, Bool, true, false, arith, rules}
 use Rattle.std.proofs.lemmas.Bool.{and_parts}
 use Rattle.std.proofs.lemmas.Bool.Decides.{nat_tests}
 use Rattle.std.proofs.lemmas.List.{length-map}

@@ -1,5 +1,5 @@
 -- A run over the emulator with status 0: its plan was kept for the chip of its file.
-use Rattle.std.proofs.Common.{◌≡◌, ◌∙◌, inl, inr, ap, subst, sym, refl, ℕ, List, [], ◌∷◌, ◌++◌, append-nil, append_assoc, Option, None, Some, arith, rules}
+use Rattle.std.proofs.Common.{◌≡◌, ◌∙◌, inl, inr, ap, sym, refl, ℕ, List, [], ◌∷◌, ◌++◌, append-nil, append_assoc, Option, None, Some, arith, rules}
 use Rattle.std.proofs.lemmas.Grind.{common_steps}
 use Rattle.std.proofs.lemmas.Bool.Decides.{nat_tests}
 use Rattle.avr_plan.specs.declared.settings.Settings.{Settings}

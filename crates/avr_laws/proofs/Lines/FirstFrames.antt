@@ -8,7 +8,7 @@ use Rattle.stk_host.specs.Tape.{Tape, Reading, answer, leading_bytes, reply_byte
 use Rattle.stk_host.specs.Dialog.{Dialog, Done, Emit, Ask, played, continue_with_reading, next, frames_in}
 use Rattle.stk_emu.specs.Device.{Device, after_frame}
 use Rattle.stk_emu.specs.Lawful.{IsFrameBody}
-use Rattle.stk_emu.specs.Exchange.{Exchange, Execution, NoReply, Disturbed, after_execution, after_exchange}
+use Rattle.stk_emu.specs.Exchange.{Exchange, Execution, NoReply, Disturbed, after_execution}
 use Rattle.stk_emu.specs.DialogOverExchanges.{state_after, SendsValidBodies}
 use Rattle.avr_laws.specs.AnyTape.{after_sent_frames, exchange_by}
 use Rattle.avr_laws.specs.Kept.{NoneForged}

@@ -1,5 +1,5 @@
 -- No frame is forged, as a test: for worked runs, where it computes.
-use Rattle.std.proofs.Common.{◌≡◌, ◌∙◌, ◌⊎◌, sym, rules, ℕ, zero, suc, Bool, true, false, List, [], ◌∷◌, take, refl, inl, inr, Option, Some, None}
+use Rattle.std.proofs.Common.{◌≡◌, ◌∙◌, ◌⊎◌, sym, rules, ℕ, zero, suc, Bool, true, false, List, [], ◌∷◌, take, inl, inr, Option, Some, None}
 use Rattle.std.proofs.lemmas.Slice.Eq.{bytes_eq-Decides}
 use Rattle.std.proofs.lemmas.Bool.{true≢false}
 use Rattle.std.specs.Prelude.{not, ◌&&◌, ◌||◌}

@@ -19,7 +19,7 @@ use Rattle.avr_tool.specs.OverNet.{RunsOverNet, new_link}
 use Rattle.avr_tool.specs.Program.{ActsAtPort, StartsProgram}
 use Rattle.avr_tool.specs.Sockets.{Peers}
 use Rattle.avr_tool.specs.declared.command_line.CommandLine.{Ghosts as CommandLine}
-use Rattle.stk_host.specs.Dialog.{Dialog, Event, Played, Emitted, prepend_events, bytes_sent, frames_in, outputs, played}
+use Rattle.stk_host.specs.Dialog.{Dialog, Event, Emitted, prepend_events, bytes_sent, frames_in, outputs, played}
 use Rattle.stk_host.specs.Play.{IsBytePrefixOf}
 use Rattle.stk_host.specs.Tape.{Tape, on_tape}
 use Rattle.stk_host.specs.Transcript.{LinkState, Transcript, heard, sent}

@@ -1,5 +1,5 @@
 -- What a plan writes, compares and saves, by its actions and by its tasks.
-use Rattle.std.proofs.Common.{◌≡◌, ◌∙◌, ap, ap₂, sym, refl, Bool, true, false, List, [], ◌∷◌, ◌++◌, rules}
+use Rattle.std.proofs.Common.{◌≡◌, ◌∙◌, ap, ap₂, sym, refl, Bool, false, List, [], ◌∷◌, ◌++◌, rules}
 use Rattle.std.specs.Prelude.{◌&&◌, not, if◌then◌else◌}
 use Rattle.avr_plan.specs.declared.settings.Switches.{Switches}
 use Rattle.avr_desk.specs.declared.record.Writing.{Writing}

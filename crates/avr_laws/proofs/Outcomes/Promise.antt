@@ -1,5 +1,5 @@
 -- Status 0 means the images, over any link that forges no frame.
-use Rattle.std.proofs.Common.{◌≡◌, ℕ, length, arith, All, List, [], ◌++◌, map, Option, Some, refl, sym, ap, ◌∙◌, subst, rules}
+use Rattle.std.proofs.Common.{◌≡◌, ℕ, length, All, List, [], ◌++◌, map, Some, refl, sym, ap, ◌∙◌, subst, rules}
 use Rattle.std.proofs.lemmas.List.{append-nil, take_all}
 use Rattle.avr_plan.specs.declared.settings.Settings.{Settings}
 use Rattle.avr_desk.specs.Record.{ChangesRecord}
@@ -143,7 +143,7 @@ module _ (s : Settings) (x y : Devices) (r : IsRun s x y 0) where
         frames_are = sym (frames_sent done_other (sends_whole (session other) 1 tape bodies)) ∙ ap frames other_sent
 
         stands : (state_after real.device count (session other) p exchanges).programmer ≡ q
-        stands = search (rules, take_all, frames_are, goes.programmer, real.device)
+        stands = search (rules, take_all, frames_are, goes.programmer)
 
         ended : ((state_after real.device count (session other) p exchanges).dialog ≡ Done 0)
             × (outputs done_other ≡ outputs_after real.device count (session other) p exchanges)

@@ -1,5 +1,5 @@
 -- With status 0 each file that a memory was read into has the text of what the chip held then.
-use Rattle.std.proofs.Common.{◌≡◌, ◌∙◌, sym, ap, subst, ℕ, Bool, true, false, List, [], ◌∷◌, ◌++◌, append_assoc, append-nil, refl, Result, Ok, Err, if◌then◌else◌, rules}
+use Rattle.std.proofs.Common.{◌≡◌, ◌∙◌, sym, ap, subst, ℕ, Bool, true, false, List, [], ◌∷◌, ◌++◌, append_assoc, append-nil, refl, Result, if◌then◌else◌, rules, arith}
 use Rattle.std.specs.Prelude.{codes, not}
 use Rattle.std.proofs.lemmas.Bool.{cases_Bool}
 use Rattle.std.proofs.lemmas.List.Elements.{filter-append}
@@ -15,10 +15,10 @@ use Rattle.avr_desk.specs.declared.record.Opening.TheVariants.{Absent, Found}
 use Rattle.avr_desk.specs.declared.record.Writing.{Writing}
 use Rattle.avr_part.specs.Part.{Part}
 use Rattle.avr_plan.specs.Plan.{Plan}
-use Rattle.avr_session.specs.Actions.{SkippedErase, SkippedWrite, Action, OpenSession, EraseChip, WriteImage, CompareImage, SaveMemory, SkipAction, actions}
+use Rattle.avr_session.specs.Actions.{SkippedErase, Action, OpenSession, CompareImage, SaveMemory, SkipAction, actions}
 use Rattle.avr_session.specs.Lines.{informs, warns}
 use Rattle.avr_session.specs.Session.{fault_line_or, saving_output, status_of}
-use Rattle.avr_session.specs.Standing.{Standing, NoFault, Faulty, Over}
+use Rattle.avr_session.specs.Standing.{Standing, NoFault}
 use Rattle.stk_host.specs.declared.fault.HostFault.{HostFault}
 use Rattle.stk_emu.specs.Effect.{Memories, effects}
 use Rattle.stk_host.specs.Dialog.{Event, Frame, Emitted, outputs}
@@ -97,10 +97,13 @@ one_unprinted event r = search rules
 all_unprinted : (output_events : List OutputEvent) (r : Record)
     → unprinted (after_events output_events (unprinted r)) ≡ unprinted (after_events output_events r)
 all_unprinted [] r = refl
-all_unprinted (event ∷ output_events) r =
-    sym (all_unprinted output_events (after event (unprinted r)))
-    ∙ (ap (λ (k : Record). unprinted (after_events output_events k)) (one_unprinted event r)
-    ∙ all_unprinted output_events (after event r))
+all_unprinted (event ∷ output_events) r = search (
+  rules,
+  one_unprinted,
+  all_unprinted output_events (after event
+      (unprinted r)),
+  all_unprinted output_events (after event r),
+)
 
 lines_dropped : (events : List (Event OutputEvent)) (r : Record)
     → unprinted (after_events (outputs (without_lines events)) r) ≡ unprinted (after_events (outputs events) r)
@@ -130,8 +133,7 @@ pub reading_writes : (output_events : List OutputEvent) → OnlyReadsAndPrints o
 reading_writes [] reads = none
 reading_writes (Opens opening ∷ output_events) reads =
     both (Opens opening ∷ []) output_events [] [] (opened opening) (reading_writes output_events reads)
-reading_writes (PrintsLine bytes ∷ output_events) reads =
-    both (PrintsLine bytes ∷ []) output_events [] [] (line bytes) (reading_writes output_events reads)
+reading_writes (PrintsLine bytes ∷ output_events) reads = grind (arith, both, line, reading_writes output_events reads)
 reading_writes (event ∷ output_events) reads = absurd reads
 
 -- ---- the actions of the expected run

@@ -1,12 +1,11 @@
 -- The text of a saved file is what a session writes.
 use Rattle.std.proofs.lemmas.Bool.Decides.{nat_tests}
 use Rattle.std.proofs.lemmas.Grind.{common_steps}
-use Rattle.std.proofs.Common.{◌≡◌, ◌∙◌, refl, ap, arith, ℕ, zero, suc, ◌+◌, ◌-◌, ◌/◌, ◌%◌, List, [], ◌∷◌, ◌++◌, append-nil, length, map, Bool, true, false, nat_lt, if◌then◌else◌, Option, Some, rules}
+use Rattle.std.proofs.Common.{◌≡◌, ◌∙◌, refl, arith, ℕ, zero, suc, ◌+◌, ◌-◌, ◌%◌, List, [], ◌∷◌, append-nil, length, map, Bool, nat_lt, if◌then◌else◌, Option, Some, rules}
 use Rattle.avr_plan.specs.declared.update.Format.{Format}
-use Rattle.avr_plan.specs.declared.update.Format.TheVariants as format
 use Rattle.avr_image.specs.Runs.{runs}
 use Rattle.avr_records.specs.Sparse.{image_text, last_held, row_size, run_at}
-use Rattle.avr_records.specs.Text.{address_size, ihex_record, ihex_rows, low_bytes, rows_behind, srec_record, srec_rows, upper_record, width_of}
+use Rattle.avr_records.specs.Text.{address_size, ihex_rows, rows_behind, srec_rows, width_of}
 use Rattle.avr_records.specs.declared.address_size.AddressSize.{AddressSize}
 use Rattle.avr_records.specs.declared.address_size.AddressSize.TheVariants.{Two, Three, Four}
 use Rattle.avr_records.specs.declared.kind.Kind.TheVariants.{Ihex, Srec}
@@ -46,11 +45,11 @@ srec_of_bytes (b ∷ bytes) =
 
 ihex_same : (upper : ℕ) (rs : List (ℕ × List ℕ)) → ihex_rows upper rs ≡ saved_ihex upper rs
 ihex_same upper [] = refl
-ihex_same upper ((addr, bytes) ∷ more) = search (rules, ihex_same (addr / 65536) more)
+ihex_same upper ((addr, bytes) ∷ more) = search rules
 
 srec_same : (size : AddressSize) (rs : List (ℕ × List ℕ)) → srec_rows size rs ≡ saved_srec (width_of size) rs
 srec_same size [] = refl
-srec_same size ((addr, bytes) ∷ more) = search (rules, srec_same size more)
+srec_same size ((addr, bytes) ∷ more) = search rules
 
 width_if : (two three : Bool) → width_of (if two then Two else if three then Three else Four)
     ≡ (if two then 2 else if three then 3 else 4)

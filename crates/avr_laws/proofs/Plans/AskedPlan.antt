@@ -1,6 +1,6 @@
 -- A plan that was made over some openings is the one that settings and these files ask for.
 use Rattle.std.proofs.Common.{rules, arith}
-use Rattle.std.proofs.Common.{◌≡◌, ◌≤◌, ◌∙◌, ap, ℕ, Bool, true, false, List, [], ◌∷◌, ◌++◌, append_assoc, append-nil, refl, Some, None, Option, Result, Ok, inl, inr, length}
+use Rattle.std.proofs.Common.{◌≡◌, ◌≤◌, ◌∙◌, ap, ℕ, Bool, true, List, [], ◌∷◌, ◌++◌, append_assoc, append-nil, refl, Some, Option, Result, Ok, inl, inr, length}
 use Rattle.std.specs.Prelude.{ok_or, if◌then◌else◌}
 use Rattle.std.proofs.lemmas.Bool.{cases_Bool}
 use Rattle.std.proofs.lemmas.Bool.Decides.{nat_tests}
@@ -27,7 +27,6 @@ use Rattle.avr_laws.proofs.Held.Files.{held_file}
 use Rattle.avr_laws.proofs.Held.Parts.{held_parts}
 use Rattle.avr_laws.proofs.Held.Values.{held_values}
 use Rattle.avr_laws.proofs.Plans.Fitted.{Image, given, settled}
-use Rattle.avr_image.specs.Values.{image_of_values}
 use Rattle.avr_laws.specs.HeldImage.{HoldsImageAs}
 use Rattle.avr_laws.specs.AskedPlan.{GivesText, HasImage, IsTaskOf, AreTasksOf, ArePartsOf, IsAsked}
 use Rattle.avr_plan.specs.ImageFile.{image_within, kind_of, image_of_file}

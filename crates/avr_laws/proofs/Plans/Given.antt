@@ -1,5 +1,5 @@
 -- What openings gave: at files in memory, and by the record of any desk.
-use Rattle.std.proofs.Common.{◌≡◌, ◌∙◌, sym, ap, subst, List, [], ◌∷◌, ◌++◌, append-nil, refl, rules}
+use Rattle.std.proofs.Common.{◌≡◌, ◌∙◌, ap, subst, List, [], ◌∷◌, ◌++◌, append-nil, refl, rules}
 use Rattle.avr_plan.specs.declared.settings.Settings.{Settings}
 use Rattle.avr_desk.proofs.FileUses.Uses.{openings_used}
 use Rattle.avr_desk.proofs.Stages.Breaks.{openings_in, openings_shown}

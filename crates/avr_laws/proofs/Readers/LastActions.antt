@@ -1,6 +1,6 @@
 -- A session over a device of which only reading is believed: after status 0 the actions at its end, which only read,
 -- found what they compared.
-use Rattle.std.proofs.Common.{◌≡◌, ◌∙◌, ℕ, List, [], ◌∷◌, ◌++◌, refl, sym, subst, arith, inl, inr}
+use Rattle.std.proofs.Common.{◌≡◌, ◌∙◌, ℕ, List, [], ◌∷◌, ◌++◌, refl, sym, subst, arith, inl, inr, rules}
 use Rattle.std.specs.Prelude.{⊤}
 use Rattle.avr_desk.specs.OutputEvents.{OutputEvent}
 use Rattle.avr_part.specs.Part.{Part, IsPart}
@@ -192,8 +192,7 @@ module _ (plan : Plan) (sound : IsPart plan.part) (real : Real plan.part) (IsIn 
   session_goes : (z : Spot real.P) → IsIn z.0
       → Goes sound real IsIn Reads t (λ status y. status ≡ 0 → Agrees (real.memories y.0)) (session plan) z
   unfolding session
-  session_goes z i = prints_then real.device Anything (λ emitted y now. now) (dialog_goes z i)
-      (λ at emitted y claim. record { holds = λ good. claim (succeeded at good) })
+  session_goes z i = search (rules, prints_then, dialog_goes, succeeded)
 
   along : (p : real.P) → IsIn p → (exchanges : List Exchange) (k : ℕ)
       → (state_after real.device k (session plan) p exchanges).dialog ≡ Done 0
@@ -229,8 +228,6 @@ session_agrees plan sound m view IsIn Reads t done rest are fits reads p i excha
       executed = t.stays;
       restarted = λ q i. (t.keeps.restarts q i).is;
       sizes = t.sizes;
-      works = λ actions x each.
-          actions_work plan.part sound m view IsIn IsIn (ReadsOneOf Reads plan.part) t.keeps actions x
-          (all_work plan.part sound m view IsIn Reads t actions x each);
+      works = search (rules, actions_work, all_work);
     })
     done rest are fits reads p i exchanges k ended

@@ -1,7 +1,7 @@
 -- What the definitions of the promise just refuse, and for two limits the last value that they allow.
-use Rattle.std.proofs.Common.{rules, ◌≡◌, ap, sym, arith, ℕ, zero, suc, List, [], ◌∷◌, ◌++◌, ◌∙◌, append-nil, drop, length, refl, inl, inr, Option, Some, true}
+use Rattle.std.proofs.Common.{rules, ◌≡◌, arith, ℕ, zero, suc, List, [], ◌∷◌, ◌++◌, append-nil, length, refl, inl, inr, Option, Some, true}
 use Rattle.std.proofs.lemmas.List.{append_cancel_left}
-use Rattle.std.specs.Prelude.{codes, replicate, slice_index}
+use Rattle.std.specs.Prelude.{codes, replicate}
 use Rattle.avr_plan.specs.declared.update.Format.TheVariants.{Raw}
 use Rattle.avr_plan.specs.declared.planned.Task.{Task}
 use Rattle.avr_desk.specs.Record.{Bytes, Record, all_uses, openings_among}

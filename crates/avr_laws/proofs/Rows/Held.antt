@@ -1,7 +1,6 @@
 -- Texts that hold an image, a table that holds a part, and others that don't.
-use Rattle.std.proofs.Common.{◌≡◌, ◌≤◌, ap, sym, subst, ℕ, true, List, [], ◌∷◌, refl, Some, None, Option, arith, rules}
-use Rattle.std.specs.List.{list_all}
-use Rattle.std.specs.Prelude.{codes, nat_lt, pos}
+use Rattle.std.proofs.Common.{◌≤◌, ℕ, List, [], ◌∷◌, refl, Some, None, Option, arith, rules}
+use Rattle.std.specs.Prelude.{codes, pos}
 use Rattle.hex.specs.Hex.{decode_pairs}
 use Rattle.toml.specs.Data.{Members, integer, member, no_members, string}
 use Rattle.avr_image.specs.Image.{image_of_pairs}

@@ -8,11 +8,10 @@ use Rattle.std.proofs.lemmas.Nat.Bits.{bit_at_and}
 use Rattle.std.specs.Prelude.{⊤, ◌==◌, if◌then◌else◌, replicate, take, drop}
 use Rattle.std.specs.Int.{bit_at}
 use Rattle.std.specs.Option.{option_or}
-use Rattle.avr_part.specs.Memory.{blank}
 use Rattle.avr_part.specs.Part.{Part}
 use Rattle.avr_part.specs.declared.part.Mem.{Mem}
 use Rattle.avr_part.specs.declared.part.Mem.TheVariants.{Flash, Eeprom, Lfuse, Hfuse, Efuse, Lock}
-use Rattle.stk_emu.specs.Effect.{Image, Memories, Item, Erase, Write, with_image, and_in, and_with, are_locked, erase_keeps_eeprom, write_effect, effect, effects, memory_in}
+use Rattle.stk_emu.specs.Effect.{Image, Memories, Item, Erase, Write, and_in, and_with, are_locked, erase_keeps_eeprom, write_effect, effect, effects, memory_in}
 use Rattle.stk_emu.proofs.Memories.LaidImages.{length-laid, laid_twice, and_in_twice, length-and_in}
 use Rattle.avr_tool.proofs.WriteOperations.EachMemory.{keeps_zeros, laid, is_barred, leaves_memory, write_is}
 use Rattle.avr_tool.specs.Items.{has_erase}

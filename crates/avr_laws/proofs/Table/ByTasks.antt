@@ -1,5 +1,5 @@
 -- A plan that suits the sheet takes steps that the sheet vouches for.
-use Rattle.std.proofs.Common.{◌<◌, ◌≡◌, ◌⊎◌, ◌∙◌, inl, inr, ℕ, List, [], ◌∷◌, ◌++◌, map, refl, sym, ap, subst, arith, Bool, true, false, cond, Option, Some, None}
+use Rattle.std.proofs.Common.{◌<◌, ◌≡◌, ◌⊎◌, ◌∙◌, inl, inr, ℕ, List, [], ◌∷◌, ◌++◌, map, refl, sym, ap, subst, arith, Bool, false, cond, Option, Some, None, rules}
 use Rattle.std.specs.Prelude.{not, ◌&&◌, if◌then◌else◌}
 use Rattle.byteorder.specs.Endian.{big_bytes}
 use Rattle.avr_image.specs.Image.{byte_at}
@@ -10,7 +10,7 @@ use Rattle.avr_plan.specs.Plan.{Plan}
 use Rattle.avr_plan.specs.declared.settings.Switches.{Switches}
 use Rattle.avr_plan.specs.declared.planned.Task.{Task}
 use Rattle.avr_plan.specs.declared.planned.Task.TheVariants as task
-use Rattle.avr_session.specs.Actions.{Action, EraseChip, WriteImage, CompareImage, SkipAction, SkippedErase, SkippedWrite, is_erase_due, tasks_actions}
+use Rattle.avr_session.specs.Actions.{Action, EraseChip, WriteImage, CompareImage, SkipAction, SkippedErase, SkippedWrite, tasks_actions}
 use Rattle.stk_frame.specs.declared.command.Command.{Command}
 use Rattle.stk_frame.specs.declared.command.Fuse.{Fuse}
 use Rattle.stk_frame.specs.declared.command.Fuse.TheVariants.{Low, High, Extended}
@@ -23,9 +23,9 @@ use Rattle.stk_emu.specs.WriteOperations.{memories_after_step}
 use Rattle.avr_tool.proofs.Each.{Each, each_of}
 use Rattle.avr_tool.proofs.Plans.Fits.{work}
 use Rattle.avr_tool.proofs.WriteOperations.Steps.{effect_twice}
-use Rattle.avr_laws.specs.Kept.{after_task, before_tasks}
+use Rattle.avr_laws.specs.Kept.{after_task}
 use Rattle.avr_laws.specs.Sheet.{IsShown, IsVouched, SuitTasks, SuitsPlan, SuitsReading, SuitsWriting}
-use Rattle.avr_laws.specs.Table.{IsRow, Row, fuse_memory, WritesFuse, WritesLock, ReadsFlash, ReadsEeprom, ReadsCalibration}
+use Rattle.avr_laws.specs.Table.{IsRow, Row, fuse_memory}
 use Rattle.avr_laws.proofs.Table.RealOf.{ActionsWorkBy, StepsWork, WorksBy}
 use Rattle.avr_laws.proofs.Table.Steps.{bodies}
 
@@ -87,9 +87,11 @@ module _ (becomes : Mem → ℕ → ℕ) (part : Part) where
   calm_steps Such [] calm x such = tt
   calm_steps Such (commands ∷ steps) (calm, others) x such =
       let after = memories_after_step part commands x in
-      let still : Such after.lock = subst Such (sym (calm.kept x)) such in (
-        works_by commands x (calm.vouched x such) (calm.vouched after still),
-        calm_steps Such steps others after still,
+      let still : Such after.lock = subst Such (sym (calm.kept x)) such in search (
+        rules,
+        works_by,
+        calm_steps Such
+            steps others after still,
       )
 
   -- of two commands
@@ -183,8 +185,7 @@ module _ (becomes : Mem → ℕ → ℕ) (part : Part) where
       (each_of (Calm IsShown) (run_steps_at part image) 0 _ (λ i. if_any IsShown _ _ (calm_two _ _ (λ y. refl)))) x
       suits
   write_works Lfuse image x suits = grind (arith, fuse_works, suits_fuse)
-  write_works Hfuse image x suits = fuse_works High (byte_at image 0) x (λ v y. refl)
-      (suits_fuse Hfuse (byte_at image 0) x (λ v s. s) suits)
+  write_works Hfuse image x suits = search (rules, fuse_works, suits_fuse)
   write_works Efuse image x suits = fuse_works Extended (byte_at image 0) x (λ v y. refl)
       (suits_fuse Efuse (byte_at image 0) x (λ v s. s) suits)
   write_works Lock image x suits = lock_works (byte_at image 0) x suits

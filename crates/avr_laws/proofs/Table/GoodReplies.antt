@@ -1,5 +1,5 @@
 -- What a good reply is made of.
-use Rattle.std.proofs.Common.{◌≡◌, ◌∙◌, inl, inr, ℕ, zero, suc, ◌+◌, List, [], ◌∷◌, ◌++◌, length, take, refl, sym, ap, ap₂, arith, true, false, Bool, cond, Ok, Err, Result, rules}
+use Rattle.std.proofs.Common.{◌≡◌, inl, inr, ℕ, zero, suc, ◌+◌, List, [], ◌∷◌, ◌++◌, length, take, refl, ap, ap₂, arith, true, false, Bool, cond, Ok, Err, Result, rules}
 use Rattle.std.proofs.lemmas.Bool.{cases_Bool, eqb-true, eq-eqb, not-false}
 use Rattle.std.proofs.lemmas.List.{length-append, get_or-append_right, take-append-le, take_all}
 use Rattle.std.specs.Prelude.{slice_index, ◌==◌, not}

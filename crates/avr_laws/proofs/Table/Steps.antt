@@ -9,14 +9,14 @@ use Rattle.stk_frame.specs.declared.command.Fuse.TheVariants.{Low, High, Extende
 use Rattle.stk_frame.specs.declared.answer.Shape.TheVariants.{Bytes, Closed}
 use Rattle.stk_frame.specs.Commands.{code, body, judge, shape, data_in_shape}
 use Rattle.stk_frame.specs.HostCommands.{erase, program_page, program_eeprom_block, program_fuse, program_lock, read_flash_block, read_eeprom_block, read_fuse, read_lock, read_signature, read_calibration}
-use Rattle.stk_host.specs.Places.{flash_address, load_flash, load_eeprom}
+use Rattle.stk_host.specs.Places.{load_flash, load_eeprom}
 use Rattle.stk_emu.specs.Effect.{Memories, Erase, Write, effects}
 use Rattle.stk_emu.specs.StepData.{data_of_step}
 use Rattle.stk_emu.specs.WriteOperations.{memories_after_step, image_at, IsStep, Erases, ProgramsPage, ProgramsEepromRun, ProgramsFuse, ProgramsLock, IsPage, FitsEepromPage, IsBlock, AreWords}
 use Rattle.stk_emu.specs.WriteOperations as steps
 use Rattle.stk_emu.proofs.Memories.Pages.{flash_address_back, page_even}
 use Rattle.avr_tool.proofs.WriteOperations.Steps.{effect_twice, address_fits}
-use Rattle.avr_laws.specs.Table.{Row, IsRow, load_body, writing, block, fuse_memory, ErasesChip, WritesFlashPage, WritesEepromRun, WritesFuse, WritesLock, ReadsFlash, ReadsEeprom, ReadsFuse, ReadsLock, ReadsSignature, ReadsCalibration}
+use Rattle.avr_laws.specs.Table.{Row, IsRow, load_body, fuse_memory, ErasesChip, WritesFlashPage, WritesEepromRun, WritesFuse, WritesLock, ReadsFlash, ReadsEeprom, ReadsFuse, ReadsLock, ReadsSignature, ReadsCalibration}
 use Rattle.avr_laws.proofs.Table.GoodReplies.{Verdict, first_two, closed_is, bytes_is, closed_from}
 
 -- ---- the good replies
