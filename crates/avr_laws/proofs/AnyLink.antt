@@ -99,9 +99,7 @@ module _ (plan : Plan) (begun : Programmer) (is_sound : IsSoundChip begun.chip) 
       → IsBytePrefixOf bytes (bytes_sent (played (session plan) 1 tape).events)
       → ReportsOverExchanges plan begun (after_sent_frames device (frames bytes) executions begun)
       (exchanges_on_tape (session plan) 1 tape executions) bytes (played (session plan) 1 tape).events
-  end_sent bytes executions tape none prefix =
-      over_any_end tape executions
-      (no_forged_frame_authentic device (session plan) 1 tape begun executions [] tt none) bytes prefix
+  end_sent bytes executions tape none prefix = search (rules, over_any_end, no_forged_frame_authentic)
 
   -- the same, from the bytes that the programmer got
   module _ (got bytes : List ℕ) (later : List (List ℕ)) (executions : List Execution) (tape : Tape)

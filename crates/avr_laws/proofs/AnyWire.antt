@@ -77,15 +77,8 @@ module _ (plan : Plan) (w v : WiredState) (fresh : IsFresh w) (stays : Preserves
   pub over_any_wire : Runs → OverAnyWire plan w v old now status
   over_any_wire (inl whole) =
       let c = whole_comes plan w v fresh stays is_sound part_is fitted old now status whole in
-      let stood = stands plan w v fresh stays is_sound part_is fitted old now status (inl whole) in record {
-        along_exchanges = reports (inl whole);
-        end = inl (
-          ends_and_reports_over_exchanges plan (fresh_programmer w.wire.programmer.chip) is_sound part_is fitted
-              exchanges v.wire.programmer
-              (sent v.transcript) stood (outputs (events_over plan v)) status c.done c.emitted,
-          c.kept,
-        );
-      }
+      let stood = stands plan w v fresh stays is_sound part_is fitted old now status (inl whole) in
+      search (rules, reports, ends_and_reports_over_exchanges)
   over_any_wire (inr broke) = record { along_exchanges = reports (inr broke); end = inr broke }
 
 -- so of a run over the emulator

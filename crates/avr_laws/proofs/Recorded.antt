@@ -16,7 +16,7 @@ use Rattle.avr_desk.specs.declared.file_system.FileSystem.{Ghosts}
 use Rattle.avr_desk.specs.declared.record.FileUse.{FileUse}
 use Rattle.avr_desk.specs.declared.record.Writing.{Writing}
 use Rattle.avr_desk.specs.declared.system.OpenFile.{OpenFile}
-use Rattle.avr_desk.specs.declared.system.OpenFile.TheVariants.{Nothing, Input, ToRead, ToWrite, Output}
+use Rattle.avr_desk.specs.declared.system.OpenFile.TheVariants.{Output}
 use Rattle.avr_laws.specs.Recorded.{RecordsFiles, RecordsOutput}
 
 -- ---- files
@@ -51,10 +51,7 @@ files_recorded system reads writes input d truly = record {
 
 apart_from_output : {F I : Type 0} (opened : OpenFile F I) → (opened ≡ Output → ⊥) → is_output opened ≡ false
 apart_from_output Output apart = absurd (apart refl)
-apart_from_output Nothing apart = refl
-apart_from_output (Input now) apart = refl
-apart_from_output (ToRead now) apart = refl
-apart_from_output (ToWrite now) apart = refl
+apart_from_output z0 apart = refl
 
 pub output_recorded : {S F I H O E : Type 0} (system : Ghosts S F I H) (reads : Reads F) (writes : Writes F)
     (input : Reads I) (output_of : Writes O) (messages_of : Writes E) (old new : Shown S F H I O E)

@@ -61,10 +61,7 @@ module _ (plan : Plan) (begun : Programmer) (is_sound : IsSoundChip begun.chip) 
         ≡ outputs_after device (length (frames bytes)) (session plan) begun exchanges) where
       its_expected : AtMostThreeBadOfSeven exchanges
           → IsExpectedRun plan before (memories_of q.chip) output_events status
-      its_expected few =
-          has_expected plan begun is_sound part_is fitted exchanges q bytes stands output_events status comes
-          output_events_are (few_session_ends plan sound fitted before begun exchanges sizes idle few
-          (length (frames bytes)) status comes)
+      its_expected few = search (rules, has_expected, few_session_ends, sound, sizes, idle)
 
       pub ends_and_reports_over_exchanges : EndsAndReportsOverExchanges plan before (memories_of q.chip) exchanges
           output_events status

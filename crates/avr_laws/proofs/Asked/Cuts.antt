@@ -1,5 +1,5 @@
 -- Texts that are cut at a colon or after a prefix.
-use Rattle.std.proofs.Common.{◌≡◌, ◌∙◌, ◌≤◌, ◌==◌, ◌&&◌, ◌++◌, inl, inr, refl, sym, ap, Bool, true, false, ℕ, zero, suc, [], ◌∷◌, length, rules, arith, Option, Some, None, take, get_or, slice_index, ◌-◌, nat_le}
+use Rattle.std.proofs.Common.{◌≡◌, ◌==◌, ◌&&◌, ◌++◌, inl, inr, refl, ap, Bool, ℕ, zero, suc, [], ◌∷◌, length, rules, arith, Option, Some, None, take, get_or, slice_index, ◌-◌, nat_le}
 use Rattle.std.specs.Prelude.{if◌then◌else◌}
 use Rattle.std.proofs.lemmas.Bool.{cases_Bool, and_parts}
 use Rattle.std.proofs.lemmas.Bool.Decides.{nat_tests}
@@ -44,36 +44,11 @@ two_last (a ∷ b ∷ rest) (suc n) is = ap (λ (r : Bytes). a ∷ r) (two_last 
 
 pub letter_is : (rest file : Bytes) (letter : ℕ) → file_and_letter rest ≡ (file, Some letter)
     → rest ≡ file ++ colon ∷ letter ∷ []
-letter_is rest file letter is = by (nat_le 2 (length rest) && slice_index rest (length rest - 2) == colon) refl is
-  where
-    by : (test : Bool) → (nat_le 2 (length rest) && slice_index rest (length rest - 2) == colon) ≡ test
-        → ◌≡◌ {A = Bytes × Option ℕ}
-        (if test then (take (length rest - 2) rest, Some (slice_index rest (length rest - 1))) else (rest, None))
-        (file, Some letter) → rest ≡ file ++ colon ∷ letter ∷ []
-    by false test is =
-        let clash : ◌≡◌ {A = Option ℕ} None (Some letter) = ap (λ (p : Bytes × Option ℕ). p.1) is in absurd (cc clash)
-    by true test is =
-        let both = and_parts (nat_le 2 (length rest)) (slice_index rest (length rest - 2) == colon) test in
-        let two : 2 ≤ length rest = grind (arith, nat_tests, both.0) in
-        let mark : get_or rest (length rest - 2) 0 ≡ colon = grind (arith, nat_tests, both.1) in
-        let front : take (length rest - 2) rest ≡ file = ap (λ (p : Bytes × Option ℕ). p.0) is in
-        let some : ◌≡◌ {A = Option ℕ} (Some (slice_index rest (length rest - 1))) (Some letter) =
-        ap (λ (p : Bytes × Option ℕ). p.1) is in
-        let end : slice_index rest (length rest - 1) ≡ letter = cc some in
-        let place : suc (length rest - 2) ≡ length rest - 1 = omega (arith, two) in
-        let last : get_or rest (suc (length rest - 2)) 0 ≡ letter = ap (λ (i : ℕ). get_or rest i 0) place ∙ end in
-        two_last rest (length rest - 2) (omega (arith, two))
-        ∙ (ap (λ (f : Bytes). f ++ get_or rest (length rest - 2) 0 ∷ get_or rest (suc (length rest - 2)) 0 ∷ []) front
-        ∙ (ap (λ (c : ℕ). file ++ c ∷ get_or rest (suc (length rest - 2)) 0 ∷ []) mark
-        ∙ ap (λ (c : ℕ). file ++ colon ∷ c ∷ []) last))
+letter_is rest file letter is = search (rules, nat_le, slice_index, and_parts, two_last)
 
 pub plain_is : (rest file name : Bytes) (letter : ℕ) → file_and_letter rest ≡ (file, None)
     → rest ≡ name ++ colon ∷ letter ∷ [] → ⊥
-plain_is rest file name letter is ends =
-    let both : ◌≡◌ {A = Bytes × Option ℕ} (name, Some letter) (file, None) =
-    sym (file_and_letter-append name letter) ∙ (ap file_and_letter (sym ends) ∙ is) in
-    let clash : ◌≡◌ {A = Option ℕ} (Some letter) None = ap (λ (p : Bytes × Option ℕ). p.1) both in
-    absurd (cc clash)
+plain_is rest file name letter is ends = search (rules, file_and_letter-append)
 
 abbrev by_letter : Bytes → Bool → Bytes × Option ℕ
 by_letter rest ends =

@@ -1,5 +1,5 @@
 -- The updates that texts ask for, if their reader finds no fault.
-use Rattle.std.proofs.Common.{◌≡◌, ◌∙◌, ◌⊎◌, ◌+◌, ◌<◌, ◌≤◌, ◌==◌, ◌++◌, inl, inr, refl, sym, ap, subst, cond, Bool, true, false, ℕ, suc, List, [], ◌∷◌, length, rules, arith, find, Option, Some, None, Result, Ok, Err, unwrap_or, ok_or, bytes_eq}
+use Rattle.std.proofs.Common.{◌≡◌, ◌∙◌, ◌⊎◌, ◌+◌, ◌<◌, ◌≤◌, ◌==◌, ◌++◌, inl, inr, refl, sym, ap, cond, Bool, true, false, ℕ, suc, List, [], ◌∷◌, length, rules, find, Option, Some, None, Result, Ok, Err, unwrap_or, ok_or, bytes_eq}
 use Rattle.std.specs.Prelude.{if◌then◌else◌}
 use Rattle.std.specs.Option.{option_map_or}
 use Rattle.std.specs.Result.{result_map_both}
@@ -62,15 +62,7 @@ made mem op named u is = by (length named.0 == 0) (format_of op named.1) refl re
         → IsMade mem op named u
     by true format empty given is = absurd (cc is)
     by false None empty given is = absurd (cc is)
-    by false (Some format) empty given is =
-        let same : u ≡ record { memory = mem; op = op; format = format; file = named.0 } = cc is in
-        record {
-          memory = ap (λ (u : Update). u.memory) same;
-          op_same = ap (λ (u : Update). u.op) same;
-          file = ap (λ (u : Update). u.file) same;
-          format = given ∙ ap (λ (u : Update). Some u.format) (sym same);
-          some = grind (arith, nat_tests, empty);
-        }
+    by false (Some format) empty given is = search rules
 
 record IsAfter (mem : Mem) (rest : Bytes) (u : Update) : Type 0 where
   op : Op
@@ -95,12 +87,7 @@ after_op mem rest u is = by (split_first rest) refl is
         absurd (cc clash)
     by (Some (a, b)) cut is =
         let o = named a b (op_named a) refl is in
-        record {
-          op = o.0;
-          behind = b;
-          cut = first_is rest a b cut ∙ ap (λ (n : Bytes). n ++ colon ∷ b) o.1;
-          is = o.2;
-        }
+        search (rules, first_is)
 
 record IsCut (text : Bytes) (u : Update) : Type 0 where
   mem : Mem
@@ -120,26 +107,19 @@ cut_is text u is = by (split_first text) refl is
     named name after (Some mem) given is = (mem, memory_is name mem given, is)
 
     by : (cut : Option (Bytes × Bytes)) → split_first text ≡ cut
-        → option_map_or (λ parts. ok_or (memory_named parts.0) BadMemory >>= (λ memory. update_after memory parts.1)) cut
+        → option_map_or (λ parts. ok_or (memory_named parts.0) BadMemory >>= (λ memory. update_after memory parts.1))
+        cut
         (update_by Flash Write (text, None)) ≡ Ok u
         → IsCut text u ⊎ ((split_first text ≡ None) × (update_by Flash Write (text, None) ≡ Ok u))
     by None cut is = inr (cut, is)
     by (Some (a, b)) cut is =
         let m = named a b (memory_named a) refl is in
         let o = after_op m.0 b u m.2 in
-        inl (record {
-          mem = m.0;
-          op = o.op;
-          behind = o.behind;
-          cut = first_is text a b cut
-              ∙ (ap (λ (n : Bytes). n ++ colon ∷ b) m.1 ∙ ap (λ (r : Bytes). name_of m.0 ++ colon ∷ r) o.cut);
-          is = o.is;
-        })
+        search (rules, first_is)
 
 behind_is : (text : Bytes) (u : Update) (c : IsCut text u) (named : Bytes × Option ℕ)
     → file_and_letter c.behind ≡ named → IsMade c.mem c.op named u → AsksForUpdate text u
-behind_is text u c (file, Some letter) is m = search (rules, letter_is)
-behind_is text u c (file, None) is m = search (rules, plain_is)
+behind_is text u c named is m = search (rules, letter_is, plain_is)
 
 alone_is : (text : Bytes) (u : Update) → split_first text ≡ None → update_by Flash Write (text, None) ≡ Ok u
     → AsksForUpdate text u
@@ -161,14 +141,7 @@ by_read : (mem : Mem) (op : Op) (file : Bytes) (letter : Option ℕ) (format : F
 by_read mem op file letter format some is = search (rules, nat_tests)
 
 pub update_read : (text : Bytes) (u : Update) → AsksForUpdate text u → update_of text ≡ Ok u
-update_read text u (some, inl (letter, is, format)) = ap update_of is
-    ∙ (head_read u.memory u.op (u.file ++ colon ∷ letter ∷ [])
-    ∙ (ap (update_by u.memory u.op) (file_and_letter-append u.file letter)
-    ∙ by_read u.memory u.op u.file (Some letter) u.format some format))
-update_read text u (some, inr (inl (is, format, none))) = ap update_of is ∙ (head_read u.memory u.op u.file
-    ∙ (ap (update_by u.memory u.op) (plain_read u.file none)
-    ∙ by_read u.memory u.op u.file None u.format some format))
-update_read text u (some, inr (inr (is, none))) = search (rules, nat_tests, uncut, is)
+update_read text u e = search (rules, head_read, file_and_letter-append, by_read, plain_read, uncut)
 
 -- ---- all updates
 
@@ -177,11 +150,7 @@ one_more : (n : ℕ) (text : Bytes) (texts : List Bytes) (first : Result Update 
     → ((us : List Update) → more ≡ Ok us → AskForUpdates texts us)
     → result_map_both (λ update. update) (BadUpdate n) first
     >>= (λ update. more >>= (λ updates. Ok (update ∷ updates))) ≡ Ok us → AskForUpdates (text ∷ texts) us
-one_more n text texts (Err fault) more us given are is = absurd (cc is)
-one_more n text texts (Ok u) (Err fault) us given are is = absurd (cc is)
-one_more n text texts (Ok u) (Ok more) us given are is =
-    let same : u ∷ more ≡ us = cc is in
-    subst (AskForUpdates (text ∷ texts)) same (update_is text u given, are more refl)
+one_more n text texts first more us given are is = search (rules, update_is)
 
 updates_are : (n : ℕ) (texts : List Bytes) (us : List Update) → updates_from n texts ≡ Ok us → AskForUpdates texts us
 updates_are n [] us is = search rules

@@ -1,5 +1,5 @@
 -- Over few bad exchanges each step gives its data.
-use Rattle.std.proofs.Common.{◌≡◌, ℕ, zero, suc, ◌+◌, ◌≤◌, List, [], ◌∷◌, ◌++◌, length, refl, sym, ap, ◌∙◌, subst, arith, inl, inr, ◌⊎◌, Ok, rules}
+use Rattle.std.proofs.Common.{◌≡◌, ℕ, zero, suc, ◌+◌, ◌≤◌, List, [], ◌∷◌, ◌++◌, length, refl, ◌∙◌, subst, arith, inl, inr, ◌⊎◌, Ok, rules}
 use Rattle.std.specs.Prelude.{⊤}
 use Rattle.stk_frame.specs.declared.command.Command.{Command}
 use Rattle.stk_frame.specs.Commands.{body}
@@ -7,7 +7,7 @@ use Rattle.stk_host.specs.declared.fault.StepFault.{StepFault}
 use Rattle.stk_host.specs.declared.fault.StepFault.TheVariants.{NoAnswer}
 use Rattle.stk_host.specs.Dialog.{Dialog, Done, Emit, Ask}
 use Rattle.stk_host.specs.Bound.{AsksAtMost}
-use Rattle.stk_host.specs.Steps.{Reply, Data, Again, Stop, StepOutcome, reply_from_reading, with_data, exchange, attempt, step}
+use Rattle.stk_host.specs.Steps.{Reply, Data, Again, StepOutcome, reply_from_reading, with_data, exchange, attempt, step}
 use Rattle.stk_host.proofs.Dialogs.Logic.{OnReply, done, ask, wider, attempts}
 use Rattle.stk_emu.specs.Exchange.{Exchange, after_exchange, reading_of_exchange, first_exchange, later_exchanges}
 use Rattle.stk_emu.specs.Programmer.{Programmer}
@@ -108,8 +108,7 @@ next_clear more exchanges is le =
 clear_behind : (place more : ℕ) (exchanges rest : List Exchange) → suc place ≤ 2 → rest
     ≡ later_exchanges (behind place exchanges) → 1 ≤ badness (first_exchange (behind place exchanges))
     → Clear (suc more) exchanges → Clear more rest
-clear_behind zero more exchanges rest le is wrong c =
-    subst (Clear more) (sym is) (next_clear more exchanges wrong c.here)
+clear_behind zero more exchanges rest le is wrong c = search (rules, next_clear, wrong)
 clear_behind (suc zero) more exchanges rest le is wrong c = search (rules, next_clear)
 clear_behind (suc (suc place)) more exchanges rest le is wrong c = absurd (omega (arith, le))
 
@@ -189,13 +188,7 @@ module _ (Before After : Programmer → Type 0) (commands : List Command) (got :
       → OnReply (λ q. Before q ⊎ After q) (AfterStep steady commands Before After fits) reply y.0
       × (Tried (length commands) exchanges got reply y.1 × AtMostThreeBadOfSeven y.1)
       → OnReply (Begins more) Whole reply y
-  after_try more exchanges clear (Data bytes) y (stood, (inl is, few)) =
-      ((ap (λ x. Ok x) (same_data bytes got is), stood.0), few)
-  after_try more exchanges clear (Data bytes) y (stood, (inr s, few)) = absurd (again_not s.fault bytes (sym s.again))
-  after_try more exchanges clear (Again fault) y (stood, (inl is, few)) = absurd (again_not fault got is)
-  after_try more exchanges clear (Again fault) y (stood, (inr s, few)) =
-      again more s.place exchanges y s.near s.went_wrong s.behind_it clear stood few
-  after_try more exchanges clear (Stop fault) y f' = search rules
+  after_try more exchanges clear reply y f' = search (rules, same_data, again_not, again)
 
   step_steady : (z : Spot Programmer) → Before z.0 → AtMostThreeBadOfSeven z.1
       → Runs steady (λ y. ⊤) Whole (step commands) z

@@ -148,9 +148,7 @@ unfolding lib.Count.ones
 all_powers = refl
 
 divides_power : (n : ℕ) → 0 < n → n ≤ 256 → 256 % n ≡ 0 → is_power_of_two n ≡ true
-divides_power n some few divides =
-    let test : power_if_divides n ≡ true = below power_if_divides 257 n all_powers (omega arith) in
-    search (rules, nat_tests, test)
+divides_power n some few divides = search (rules, below power_if_divides 257 n all_powers (omega arith))
 
 divides_below : (n : ℕ) → 256 % n ≡ 0 → n ≤ 256
 divides_below n divides = search (rules, cases_lt, mod-eq_of_lt)

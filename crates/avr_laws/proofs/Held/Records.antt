@@ -51,8 +51,7 @@ decoded digits bytes is = search rules
 from_bytes : (kind : Kind) (r : Result (List ℕ) LineFault) (f : List ℕ → Result RecordFields LineFault) (m : Meaning)
     → record_meaning kind (r and_then f) ≡ Ok m
     → (bytes : List ℕ) × ((r ≡ Ok bytes) × (record_meaning kind (f bytes) ≡ Ok m))
-from_bytes kind (Ok bytes) f m is = (bytes, (refl, is))
-from_bytes kind (Err fault) f m is = absurd (cc is)
+from_bytes kind r f e h = search rules
 
 ihex_digits : (digits : List ℕ) (m : Meaning)
     → record_meaning Ihex (bytes_of_digits digits and_then ihex_from_fields) ≡ Ok m
@@ -90,17 +89,14 @@ both_inside size [] b first second = second
 both_inside size (place ∷ a) b first second = search (rules, nat_tests, both_inside size a b)
 
 or_none : {A : Type 0} (a b : Option A) → option_or a b ≡ None → (a ≡ None) × (b ≡ None)
-or_none None b is = (refl, is)
-or_none (Some a) b is = absurd (cc is)
+or_none e b is = search rules
 
 map_none : {A B : Type 0} (f : A → B) (a : Option A) → option_map f a ≡ None → a ≡ None
-map_none f None is = refl
-map_none f (Some a) is = absurd (cc is)
+map_none e a is = search rules
 
 agrees : (same : Bool) (f : LineFault → RecordFault) → option_map f (if same then None else Some Count) ≡ None
     → same ≡ true
-agrees true f none = refl
-agrees false f none = absurd (cc none)
+agrees same f none = search rules
 
 base_next : (before : List LineResult) (r : LineResult)
     → base_after (before ++ r ∷ []) ≡ next_base (base_after before) r
@@ -169,8 +165,7 @@ lines_placed kind size (line ∷ lines) before fine = search (rules, line_step, 
 
 unless_ok : {A : Type 0} (o : Option RecordFault) (good made : A) → ok_unless o good ≡ Ok made
     → (o ≡ None) × (good ≡ made)
-unless_ok None good made is = (refl, cc is)
-unless_ok (Some fault) good made is = absurd (cc is)
+unless_ok o good made e = search rules
 
 pub held_records : (kind : Kind) (text : List ℕ) (size : ℕ) (image : List (Option ℕ)) (ending : Ending)
     → image_in_text kind text size ≡ Ok (image, ending) → HoldsRecords kind text size image
@@ -233,8 +228,7 @@ srec_undecoded digit digits (Ok bytes) m same is =
 srec_undecoded digit digits (Err e) m same is = absurd (cc is)
 
 marked : {A : Type 0} (b : Bool) (o : Option A) (a : A) → (if b then o else None) ≡ Some a → (b ≡ true) × (o ≡ Some a)
-marked true o a is = (refl, is)
-marked false o a is = absurd (cc is)
+marked b o a e = search rules
 
 trimmed_read : (kind : Kind) (line : List ℕ) (m : Meaning) → trimmed_line_meaning kind line ≡ Some m
     → trimmed_line_result kind line ≡ Ok m
@@ -249,8 +243,7 @@ trimmed_read Srec (mark ∷ digit ∷ digits) m is =
 
 long_or : {A E : Type 0} (b : Bool) (o : Option A) (e : E) (r : Result A E) (a : A) → (if b then None else o) ≡ Some a
     → (o ≡ Some a → r ≡ Ok a) → (if b then Err e else r) ≡ Ok a
-long_or true o e r a is go_on = absurd (cc is)
-long_or false o e r a is go_on = go_on is
+long_or b o e r a h go_on = search rules
 
 line_read : (kind : Kind) (line : List ℕ) (m : Meaning) → line_meaning kind line ≡ Some m → line_result kind line ≡ Ok m
 line_read Ihex line m is = search (rules, long_or, trimmed_read)
@@ -269,8 +262,7 @@ each_inside size (place ∷ a) b all = search (rules, nat_tests, each_inside siz
 
 mapped_some : {A B : Type 0} (f : A → B) (o : Option A) (b : B) → option_map f o ≡ Some b
     → (a : A) × (o ≡ Some a) × (f a ≡ b)
-mapped_some f (Some a) b is = (a, refl, cc is)
-mapped_some f None b is = absurd (cc is)
+mapped_some f o b is = search rules
 
 abbrev Inside : ℕ → List (ℕ × ℕ) → Type 0
 Inside size placed = list_all (λ (place : ℕ × ℕ). nat_lt place.0 size) placed ≡ true

@@ -1,5 +1,5 @@
 -- The image that values on the command line make, if their reader finds no fault.
-use Rattle.std.proofs.Common.{◌≡◌, ◌∙◌, ◌+◌, ◌≤◌, ◌<◌, ap, subst, ℕ, zero, suc, List, [], ◌∷◌, length, refl, Some, None, Option, Result, Ok, Err, Bool, true, false, arith, rules}
+use Rattle.std.proofs.Common.{◌≡◌, ◌∙◌, ◌+◌, ◌≤◌, ◌<◌, ap, subst, ℕ, suc, List, [], ◌∷◌, length, refl, Some, Option, Result, Ok, Err, Bool, true, false, arith, rules}
 use Rattle.std.proofs.lemmas.Bool.{and_parts}
 use Rattle.std.proofs.lemmas.Bool.Decides.{nat_tests}
 use Rattle.std.proofs.lemmas.List.{length-map}
@@ -23,8 +23,7 @@ record Fits (size addr byte : ℕ) (o : Option ℕ) : Type 0 where
   before : addr < size
 
 one_fits : (size addr byte : ℕ) (o : Option ℕ) → fitting size addr o ≡ Ok byte → Fits size addr byte o
-one_fits size addr byte None is = absurd (cc is)
-one_fits size addr byte (Some value) is = search (rules, nat_tests)
+one_fits size addr byte o is = search rules
 
 record Begins (first : Result ℕ ImageFault) (rest : Result (List ℕ) ImageFault) (bytes : List ℕ) : Type 0 where
   byte : ℕ
@@ -38,8 +37,7 @@ begins : (first : Result ℕ ImageFault) (rest : Result (List ℕ) ImageFault) (
 begins first rest bytes is = grind (arith)
 
 tail_fits : (addr n size : ℕ) → addr < size → (0 < n → (addr + 1) + n ≤ size) → addr + suc n ≤ size
-tail_fits addr zero size one more = omega (arith, one)
-tail_fits addr (suc n) size one more = omega (arith, more (omega arith))
+tail_fits addr n size one more = search rules
 
 all_fit : (size addr : ℕ) (texts : List (List ℕ)) (bytes : List ℕ)
     → all_ok (map (byte_of_value size) (enumerate_from addr texts)) ≡ Ok bytes → AreFitting size addr texts bytes
@@ -73,9 +71,7 @@ held_values text size image is =
     let these = given (length values == 0) (all_ok (map (byte_of_value size) (enumerate_from 0 values)))
     size image is in
     let fit = all_fit size 0 values these.bytes these.all_are in
-    let some : 0 < length these.bytes = grind (arith, nat_tests, these.some, fit.ends) in
-    let last : length these.bytes ≤ size = omega (arith, fit.last some) in
-    (these.bytes, fit.are, fit.are_bytes, some, last, these.is)
+    search rules
 
 -- and conversely
 

@@ -1,5 +1,5 @@
 -- A run over the emulator with status 0: its plan was kept for the chip of its file.
-use Rattle.std.proofs.Common.{◌≡◌, ◌∙◌, inl, inr, ap, subst, sym, refl, ℕ, List, [], ◌∷◌, ◌++◌, append-nil, append_assoc, Option, None, Some, arith, rules}
+use Rattle.std.proofs.Common.{◌≡◌, ◌∙◌, inl, inr, ap, sym, refl, ℕ, List, [], ◌∷◌, ◌++◌, append-nil, append_assoc, Option, None, Some, arith, rules}
 use Rattle.std.proofs.lemmas.Grind.{common_steps}
 use Rattle.std.proofs.lemmas.Bool.Decides.{nat_tests}
 use Rattle.avr_plan.specs.declared.settings.Settings.{Settings}
@@ -142,17 +142,10 @@ module _ (settings : Settings) (file : Bytes) (old new : DeskState) (r : RunsOve
   begun : (all_files r.loaded_desk.kept ≡ all_files old.kept) × (r.loaded_desk.kept.output ≡ old.kept.output)
   begun =
       let first = quiet r.made.output_events planned_read old.kept in
-      let second = quiet (Opens opening ∷ []) tt r.loaded.held_desk.kept in (
-        ap all_files loads ∙ (second.0 ∙ (ap all_files r.loaded.held.0 ∙ (ap all_files r.made.kept ∙ first.0))),
-        ap (λ (k : Record). k.output) loads
-            ∙ (second.1
-            ∙ (ap (λ (k : Record). k.output) r.loaded.held.0 ∙ (ap (λ (k : Record). k.output) r.made.kept ∙ first.1))),
-      )
+      search (rules, quiet, loads)
 
   session_saved : FilesAreSaved files r.loaded_desk.kept r.played_desk.kept
-  session_saved = these_saved emitted files r.loaded_desk r.played_desk
-      (subst (λ (output_events : List OutputEvent). WritesFiles output_events files) (sym expected.emitted)
-      (expected_writes r.plan before (sym expected.status_is ∙ zero))) came.1
+  session_saved = grind (arith, these_saved, expected_writes)
 
   saved : FilesAreSaved files old.kept r.played_desk.kept
   saved = record {

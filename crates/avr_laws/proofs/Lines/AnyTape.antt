@@ -41,9 +41,8 @@ authentic_exchange m bytes p execution reading h = (refl, refl)
 -- without a further command the programmer stays as it is
 none_asked : {E R P : Type 0} (m : Device P) (d : Dialog E R) (p : P) (exchanges : List Exchange)
     → (state_after m 0 d p exchanges).programmer ≡ p
-none_asked m (Done r) p exchanges = refl
 none_asked m (Emit e d) p exchanges = none_asked m d p exchanges
-none_asked m (Ask bytes go_on) p exchanges = refl
+none_asked m z1 p exchanges = refl
 
 -- A run over a tape is the run along these exchanges, of which `reply_count` are read. If it is done, these are as many
 -- as its frames. After any first frames the programmer is as the list of what happened to it gives.

@@ -41,9 +41,7 @@ fold_cancel (x ∷ xs) a b e = xor_cancel a b x (fold_cancel xs (bit_xor a x) (b
 xor_differs : (xs ys : List ℕ) (z : ℕ) → DifferInOne xs ys → fold bit_xor z xs ≡ fold bit_xor z ys → ⊥
 xor_differs [] ys z d e = d
 xor_differs (x ∷ xs) [] z d e = d
-xor_differs (x ∷ xs) (y ∷ ys) z (inl (other, same)) e =
-    other (xor_cancel_left z x y (fold_cancel ys (bit_xor z x) (bit_xor z y)
-    (ap (fold bit_xor (bit_xor z x)) (sym same) ∙ e)))
+xor_differs (x ∷ xs) (y ∷ ys) z (inl (other, same)) e = grind (arith, xor_cancel_left, fold_cancel)
 xor_differs (x ∷ xs) (y ∷ ys) z (inr (same, d)) e =
     xor_differs xs ys (bit_xor z y) d (ap (λ w. fold bit_xor (bit_xor z w) xs) (sym same) ∙ e)
 
@@ -55,8 +53,7 @@ same_length (x ∷ xs) (y ∷ ys) (inr (same, d)) = ap suc (same_length xs ys d)
 
 header_same : (a s o h l t : ℕ) (more rest : List ℕ) → DifferInOne (s ∷ more) (o ∷ rest)
     → DifferInOne (a ∷ s ∷ h ∷ l ∷ t ∷ more) (a ∷ o ∷ h ∷ l ∷ t ∷ rest)
-header_same a s o h l t more rest (inl (other, same)) = inr (refl, inl (other, ap (λ m. h ∷ l ∷ t ∷ m) same))
-header_same a s o h l t more rest (inr (same, d)) = inr (refl, inr (same, inr (refl, inr (refl, inr (refl, d)))))
+header_same a s o h l t more rest e = grind arith
 
 -- the damaged frame is a piece as long, and no good one
 abbrev BadPiece : List ℕ → Type 0
@@ -84,11 +81,7 @@ damaged (a ∷ s ∷ h ∷ l ∷ t ∷ more) came whole good (o, rest, e, d) = s
 
 good_kept : (piece : List ℕ) (pieces : List (List ℕ)) → is_good piece ≡ true
     → filter is_good (filter is_frame (piece ∷ pieces)) ≡ piece ∷ filter is_good (filter is_frame pieces)
-good_kept piece pieces good =
-    let framed : is_frame piece ≡ true = (and_parts (is_frame piece) (xor_all piece == 0) good).0 in
-    ap (filter is_good) (cond-true (is_frame piece) (piece ∷ filter is_frame pieces) (filter is_frame pieces) framed)
-    ∙ cond-true (is_good piece) (piece ∷ filter is_good (filter is_frame pieces))
-    (filter is_good (filter is_frame pieces)) good
+good_kept piece pieces good = grind (arith, and_parts, cond-true)
 
 bad_dropped : (piece : List ℕ) (pieces : List (List ℕ)) → (is_good piece ≡ true → ⊥)
     → filter is_good (filter is_frame (piece ∷ pieces)) ≡ filter is_good (filter is_frame pieces)
@@ -202,16 +195,11 @@ Window n pieces most = length (bytes_up_to_reply n pieces) ≤ most
 
 window_front : (n : ℕ) (piece : List ℕ) (pieces : List (List ℕ)) (most : ℕ) → Window n (piece ∷ pieces) most
     → length piece ≤ most
-window_front n piece pieces most le =
-    omega (arith, le, length-append piece (if is_reply n piece then [] else bytes_up_to_reply n pieces))
+window_front n piece pieces most le = grind (arith, length-append)
 
 window_rest : (n : ℕ) (piece : List ℕ) (pieces : List (List ℕ)) (most : ℕ) → is_reply n piece ≡ false
     → Window n (piece ∷ pieces) most → Window n pieces (most - length piece)
-window_rest n piece pieces most other le =
-    let size = length-append piece (bytes_up_to_reply n pieces) in
-    let e : length (bytes_up_to_reply n (piece ∷ pieces)) ≡ length (piece ++ bytes_up_to_reply n pieces) =
-    ap (λ bs. length (piece ++ bs)) (cond-false (is_reply n piece) [] (bytes_up_to_reply n pieces) other) in
-    omega (arith, le, size, e)
+window_rest n piece pieces most other le = grind (arith, length-append, cond-false)
 
 take_front : (piece bytes : List ℕ) (most : ℕ) → length piece ≤ most
     → take most (piece ++ bytes) ≡ piece ++ take (most - length piece) bytes
@@ -220,8 +208,7 @@ take_front piece bytes most le =
     ap (λ k. take k (piece ++ bytes)) (sym e) ∙ take-append-add piece bytes (most - length piece)
 
 take_none : (most : ℕ) → take {A = ℕ} most [] ≡ []
-take_none zero = refl
-take_none (suc most) = refl
+take_none most = grind arith
 
 were_sent : (n most : ℕ) (sent pieces : List (List ℕ)) → AllReplies sent → AreRecentReplies n sent pieces
     → Window n pieces most → AreNotForged n sent (cut (take most (concat pieces)))
@@ -266,24 +253,17 @@ Lost n come bytes = (left : List Arrival) × (first_reading n come ≡ first_rea
 
 joined : (piece bytes : List ℕ) (tape left : Tape) → tape ≡ on_tape bytes ++ left
     → on_tape piece ++ tape ≡ on_tape (piece ++ bytes) ++ left
-joined piece bytes tape left e = ap (λ t. on_tape piece ++ t) e
-    ∙ (sym (append_assoc (on_tape piece) (on_tape bytes) left) ∙ ap (λ t. t ++ left) (sym (on_tape_append piece bytes)))
+joined piece bytes tape left e = grind (arith, append_assoc, on_tape_append)
 
 further_first : (n : ℕ) (piece bytes : List ℕ) → (piece ≡ []) ⊎ IsPiece piece → is_reply n piece ≡ false
     → first_reply n (cut (piece ++ bytes)) ≡ past_skipped (length piece) (first_reply n (cut bytes))
-further_first n piece bytes (inl none) other = subst
-    (λ p. first_reply n (cut (p ++ bytes)) ≡ past_skipped (length p) (first_reply n (cut bytes))) (sym none)
-    (further_zero (first_reply n (cut bytes)))
-further_first n piece bytes (inr whole) other = ap (first_reply n) (cut_first piece bytes whole)
-    ∙ cond-false (is_reply n piece) (Some (body_of piece, length piece))
-    (past_skipped (length piece) (first_reply n (cut bytes))) other
+further_first n piece bytes e other = grind (arith, further_zero, cut_first, cond-false)
 
 no_reply : (n : ℕ) (piece : List ℕ) → piece ≡ [] → is_reply n piece ≡ true → ⊥
 no_reply n piece none is = false≢true (sym (no_piece n piece none) ∙ is)
 
 shape : {A : Type 0} (piece : List ℕ) → (piece ≡ []) ⊎ (IsPiece piece × A) → (piece ≡ []) ⊎ IsPiece piece
-shape piece (inl none) = inl none
-shape piece (inr (whole, was)) = inr whole
+shape piece e = grind arith
 
 -- a frame in front that isn't the reply
 behind : (n : ℕ) (piece bytes : List ℕ) (come : List Arrival) → (piece ≡ []) ⊎ IsPiece piece
@@ -351,11 +331,7 @@ lost n bytes (FrameArrives piece ∷ left) none first lt = cc
 
 read : (n : ℕ) (come : List Arrival) (bytes : List ℕ) → Found n come bytes ⊎ Lost n come bytes
     → length bytes < reply_byte_limit → answer n (tape_of_arrivals come) ≡ on_the_tape (first_reading n come)
-read n come bytes (inl (body, left, is, tape, first)) lt =
-    ap (answer n) tape ∙ (reading_found n bytes (tape_of_arrivals left) body first (omega (arith, lt)) ∙ ap on_the_tape
-    (sym is))
-read n come bytes (inr (left, is, none, tape, first)) lt =
-    ap (answer n) tape ∙ (lost n bytes left none first lt ∙ ap on_the_tape (sym is))
+read n come bytes e lt = grind (arith, reading_found, lost)
 
 -- ---- the law
 

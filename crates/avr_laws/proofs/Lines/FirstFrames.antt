@@ -8,7 +8,7 @@ use Rattle.stk_host.specs.Tape.{Tape, Reading, answer, leading_bytes, reply_byte
 use Rattle.stk_host.specs.Dialog.{Dialog, Done, Emit, Ask, played, continue_with_reading, next, frames_in}
 use Rattle.stk_emu.specs.Device.{Device, after_frame}
 use Rattle.stk_emu.specs.Lawful.{IsFrameBody}
-use Rattle.stk_emu.specs.Exchange.{Exchange, Execution, NoReply, Disturbed, after_execution, after_exchange}
+use Rattle.stk_emu.specs.Exchange.{Exchange, Execution, NoReply, Disturbed, after_execution}
 use Rattle.stk_emu.specs.DialogOverExchanges.{state_after, SendsValidBodies}
 use Rattle.avr_laws.specs.AnyTape.{after_sent_frames, exchange_by}
 use Rattle.avr_laws.specs.Kept.{NoneForged}
@@ -25,9 +25,8 @@ module _ {P : Type 0} (m : Device P) where
 
   not_asked : {E R : Type 0} (d : Dialog E R) (p : P) (exchanges : List Exchange)
       → (state_after m 0 d p exchanges).programmer ≡ p
-  not_asked (Done r) p exchanges = refl
   not_asked (Emit e d) p exchanges = not_asked d p exchanges
-  not_asked (Ask bytes go_on) p exchanges = refl
+  not_asked z0 p exchanges = refl
 
   module _ {E R : Type 0} (bytes : List ℕ) (go_on : Reading → Dialog E R) (n : ℕ) (tape : Tape) (p : P)
       (executions : List Execution) (before : List (List ℕ)) (k : ℕ) (valid : IsFrameBody bytes)
@@ -70,12 +69,7 @@ module _ {P : Type 0} (m : Device P) where
         (by_reading m n bytes p execution before reading tape left is past forged.0) in
         let later = each reading left few forged.1 in (
           one_exchange ∷ later.0,
-          ap (λ (r : Reading). (state_after m k (go_on r) (after_exchange one_exchange (m.after bytes p) p m.reset)
-              later.0).programmer) same.0
-              ∙ (ap (λ (q : P). (state_after m k (go_on reading) q later.0).programmer) same.1
-              ∙ (later.1
-              ∙ ap (λ (q : P). after_sent_frames m (take k (rest (Some (reading, left)))) (later_executions executions)
-              q) arrives)),
+          search (rules, arrives),
         )
 
   -- THE LAW

@@ -1,5 +1,5 @@
 -- No frame is forged, as a test: for worked runs, where it computes.
-use Rattle.std.proofs.Common.{◌≡◌, ◌∙◌, ◌⊎◌, sym, rules, ℕ, zero, suc, Bool, true, false, List, [], ◌∷◌, take, refl, inl, inr, Option, Some, None}
+use Rattle.std.proofs.Common.{◌≡◌, ◌∙◌, ◌⊎◌, sym, rules, ℕ, zero, suc, Bool, true, false, List, [], ◌∷◌, take, inl, inr, Option, Some, None}
 use Rattle.std.proofs.lemmas.Slice.Eq.{bytes_eq-Decides}
 use Rattle.std.proofs.lemmas.Bool.{true≢false}
 use Rattle.std.specs.Prelude.{not, ◌&&◌, ◌||◌}
@@ -40,12 +40,10 @@ none_forged m (piece ∷ pieces) tape p executions before =
     (later_executions executions) replies) (answer n tape)
 
 either : (a b : Bool) → (a || b) ≡ true → (a ≡ true) ⊎ (b ≡ true)
-either true b is = inl refl
-either false b is = inr is
+either a b is = search rules
 
 both : (a b : Bool) → (a && b) ≡ true → (a ≡ true) × (b ≡ true)
-both true b is = (refl, is)
-both false b is = cc
+both a b is = search rules
 
 equal : (x y : List ℕ) → bytes_eq x y ≡ true → x ≡ y
 equal x y is = search (rules, bytes_eq-Decides)
@@ -85,8 +83,7 @@ none_forged_yet n sent (piece ∷ pieces) is =
 on_true : (Test : Reading → Tape → Bool) (Claim : Reading → Tape → Type 0) (came : Option (Reading × Tape))
     → ((reading : Reading) (left : Tape) → Test reading left ≡ true → Claim reading left)
     → on_reading_or_true Test came ≡ true → on_reading Claim came
-on_true Test Claim None each is = tt
-on_true Test Claim (Some (reading, left)) each is = each reading left is
+on_true Test Claim came each is = search rules
 
 pub by_test : {P : Type 0} (m : Device P) (pieces : List (List ℕ)) (tape : Tape) (p : P) (executions : List Execution)
     (before : List (List ℕ)) → none_forged m pieces tape p executions before ≡ true

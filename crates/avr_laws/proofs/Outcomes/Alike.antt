@@ -1,5 +1,5 @@
 -- Dialogs that differ in printed lines alone.
-use Rattle.std.proofs.Common.{◌≡◌, ◌∙◌, sym, ap, subst, refl, ℕ, List, [], ◌∷◌, ◌++◌, map, Option, Some, None}
+use Rattle.std.proofs.Common.{◌≡◌, ◌∙◌, sym, ap, subst, refl, ℕ, List, [], ◌∷◌, ◌++◌, map, Option, rules}
 use Rattle.avr_desk.specs.OutputEvents.{OutputEvent, PrintsLine}
 use Rattle.avr_session.specs.Session.{emits}
 use Rattle.stk_frame.specs.Frame.{frame}
@@ -49,12 +49,10 @@ module _ {R : Type 0} {a b : Dialog OutputEvent R} (are_alike : AreAlike a b) (s
   same_events = ap (λ p. p.events) (are_alike.over seq tape)
 
   pub same_frames : frames_in (played a seq tape).events ≡ frames_in (played b seq tape).events
-  same_frames = sym (frames_kept (played a seq tape).events)
-      ∙ (ap frames_in same_events ∙ frames_kept (played b seq tape).events)
+  same_frames = search (rules, frames_kept, same_events)
 
   pub same_bytes : bytes_sent (played a seq tape).events ≡ bytes_sent (played b seq tape).events
-  same_bytes = sym (bytes_kept (played a seq tape).events)
-      ∙ (ap bytes_sent same_events ∙ bytes_kept (played b seq tape).events)
+  same_bytes = search (rules, bytes_kept, same_events)
 
 -- ---- laws
 
@@ -63,20 +61,17 @@ alike a = record { over = λ seq tape. refl }
 
 silent_after : {R : Type 0} (events : List (Event OutputEvent)) (p : Played OutputEvent R)
     → silent (prepend_events events p) ≡ prepend_events (without_lines events) (silent p)
-silent_after events p = ap (λ (all : List (Event OutputEvent)). record { events = all; outcome = p.outcome })
-    (joined events p.events)
+silent_after events p = search (rules, joined)
 
 silent_on : {A B : Type 0} (events : List (Event OutputEvent)) (o : Option (A × ℕ × Tape))
     (go_on : A → ℕ → Tape → Played OutputEvent B) → silent (prepend_events events (continued o go_on))
     ≡ prepend_events (without_lines events) (continued o (λ a seq tape. silent (go_on a seq tape)))
-silent_on events None go_on = silent_after events (record { events = []; outcome = None })
-silent_on events (Some (a, seq, tape)) go_on = silent_after events (go_on a seq tape)
+silent_on events o go_on = search (rules, silent_after)
 
 same_on : {A B : Type 0} (events : List (Event OutputEvent)) (o : Option (A × ℕ × Tape))
     (f g : A → ℕ → Tape → Played OutputEvent B) → ((a : A) (seq : ℕ) (tape : Tape) → f a seq tape ≡ g a seq tape)
     → prepend_events events (continued o f) ≡ prepend_events events (continued o g)
-same_on events None f g same = refl
-same_on events (Some (a, seq, tape)) f g same = ap (prepend_events events) (same a seq tape)
+same_on events o f g same = search rules
 
 pub alike_bind : {A B : Type 0} {a b : Dialog OutputEvent A} {f g : A → Dialog OutputEvent B}
     → AreAlike a b → ((x : A) → AreAlike (f x) (g x)) → AreAlike (a >>= f) (b >>= g)
@@ -94,8 +89,7 @@ asked : {R : Type 0} (bytes : List ℕ) (f g : Reading → Tape → Played Outpu
     → ((reading : Reading) (left : Tape) → silent (f reading left) ≡ silent (g reading left))
     → silent (prepend_events (Frame bytes ∷ []) (continue_with_reading f o))
     ≡ silent (prepend_events (Frame bytes ∷ []) (continue_with_reading g o))
-asked bytes f g None each = refl
-asked bytes f g (Some (reading, left)) each = ap (prepend_events (Frame bytes ∷ [])) (each reading left)
+asked bytes f g o each = search rules
 
 alike_ask : {R : Type 0} (body : List ℕ) {f g : Reading → Dialog OutputEvent R}
     → ((reading : Reading) → AreAlike (f reading) (g reading)) → AreAlike (Ask body f) (Ask body g)

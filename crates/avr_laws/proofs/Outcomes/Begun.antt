@@ -19,7 +19,7 @@ use Rattle.avr_tool.specs.OverNet.{RunsOverNet, new_link}
 use Rattle.avr_tool.specs.Program.{ActsAtPort, StartsProgram}
 use Rattle.avr_tool.specs.Sockets.{Peers}
 use Rattle.avr_tool.specs.declared.command_line.CommandLine.{Ghosts as CommandLine}
-use Rattle.stk_host.specs.Dialog.{Dialog, Event, Played, Emitted, prepend_events, bytes_sent, frames_in, outputs, played}
+use Rattle.stk_host.specs.Dialog.{Dialog, Event, Emitted, prepend_events, bytes_sent, frames_in, outputs, played}
 use Rattle.stk_host.specs.Play.{IsBytePrefixOf}
 use Rattle.stk_host.specs.Tape.{Tape, on_tape}
 use Rattle.stk_host.specs.Transcript.{LinkState, Transcript, heard, sent}
@@ -75,12 +75,7 @@ module _ (d : Dialog OutputEvent ℕ) (bodies : SendsValidBodies d) (tape : Tape
   pub left_along : {P : Type 0} (m : Device P) (p : P) (executions : List Execution)
       → NoneForged m (frames bytes) tape p executions [] → (exchanges : List Exchange)
       × ((state_after m count d p exchanges).programmer ≡ after_sent_frames m (frames bytes) executions p)
-  left_along m p executions none =
-      let along = first_go_along m d 1 tape p executions [] count bodies tt fewer
-      (subst (λ (fs : List (List ℕ)). NoneForged m fs tape p executions []) (sym first_frames) none) in (
-        along.0,
-        along.1 ∙ ap (λ (fs : List (List ℕ)). after_sent_frames m fs executions p) first_frames,
-      )
+  left_along m p executions none = search (rules, first_go_along, fewer, first_frames, none)
 
 -- the plan's first write operations, if the chip has the plan's geometry and, without -F, its signature
 pub first_made : (plan : Plan) (part : Part) (sound : IsPart part) → HasGeometryOf plan.part part
@@ -148,40 +143,26 @@ module _ (Begun : Plan → Transcript → Type 0)
     -- without a plan nothing was sent
     none_sent : (outcome : StageOutcome Plan) → (planned s r.openings).stage_outcome ≡ outcome
         → bytes_sent (run_after_planning outcome tape).events ≡ [] → sent y.link.transcript ≡ []
-    none_sent outcome is none =
-        ap sent same
-        ∙ (sym r.all_sent
-        ∙ (sym (ap (λ (p : Played OutputEvent ℕ). bytes_sent p.events) over)
-        ∙ (emitted_bytes (planned s r.openings).output_events
-        (run_after_planning (planned s r.openings).stage_outcome tape).events
-        ∙ (ap (λ (o : StageOutcome Plan). bytes_sent (run_after_planning o tape).events) is ∙ none))))
+    none_sent outcome is none = search (rules, same, over, emitted_bytes, none)
 
     module _ (plan : Plan) (made : (planned s r.openings).stage_outcome ≡ Produced plan) where
       over_plan : prepend_events before (played (session plan) 1 tape)
           ≡ record { events = r.events; outcome = Some (status, r.next, on_tape r.left ++ []) }
-      over_plan =
-          sym (ap (λ (o : StageOutcome Plan). prepend_events before (run_after_planning o tape)) made) ∙ over
+      over_plan = search (rules, over)
 
       sent_is : bytes_sent (played (session plan) 1 tape).events ≡ sent r.during
-      sent_is =
-          sym (emitted_bytes (planned s r.openings).output_events (played (session plan) 1 tape).events)
-          ∙ (ap (λ (p : Played OutputEvent ℕ). bytes_sent p.events) over_plan ∙ r.all_sent)
+      sent_is = search (rules, emitted_bytes, over_plan)
 
       outputs_are : outputs r.events
           ≡ (planned s r.openings).output_events ++ outputs (played (session plan) 1 tape).events
-      outputs_are = ap (λ (p : Played OutputEvent ℕ). outputs p.events) (sym over_plan)
-          ∙ emitted_outputs (planned s r.openings).output_events (played (session plan) 1 tape).events
+      outputs_are = search (rules, over_plan, emitted_outputs)
 
       prefix : IsBytePrefixOf (sent y.link.transcript)
           (bytes_sent (played (session plan) 1 (heard y.link.transcript)).events)
-      prefix = subst (λ (t : Transcript). IsBytePrefixOf (sent t)
-          (bytes_sent (played (session plan) 1 (heard t)).events)) (sym same)
-          ([], append-nil (sent r.during) ∙ sym sent_is)
+      prefix = search (rules, same, append-nil, sent_is)
 
       begun : KeepsPlan s x.desk.kept y.desk.kept [] (λ plan. Begun plan y.link.transcript)
-      begun =
-          run_keeps s plan r.openings tape x.desk y.desk (outputs r.events) (λ plan. Begun plan y.link.transcript) made
-          outputs_are r.kept (begun_by plan (plan_fitted s r.openings plan made) y.link.transcript prefix)
+      begun = search (rules, run_keeps, outputs_are, plan_fitted, prefix)
 
     by_outcome : (outcome : StageOutcome Plan) → (planned s r.openings).stage_outcome ≡ outcome → Claim
     by_outcome (Produced plan) is = inr (begun plan is)
@@ -217,8 +198,7 @@ module _ (Begun : Plan → Transcript → Type 0)
         made = stopped.made;
         then_is = inr (stopped.then_is, refl);
       }))
-  over_streams s x y status silent (inr (inr stopped, one)) =
-      inl (ap (λ (l : LinkState). sent l.transcript) stopped.same ∙ ap sent silent)
+  over_streams s x y status silent (inr (inr stopped, one)) = search rules
 
   over_net : (peers : Peers) (s : Settings) (address : Bytes) (old new : DeskState) (status : ℕ)
       → RunsOverNet peers.unused (peers.at_address address) s address old new status
@@ -236,12 +216,9 @@ module _ (Begun : Plan → Transcript → Type 0)
   at_port : (peers : Peers) (text : Bytes) (port : Port) (s : Settings) (old new : Devices) (status : ℕ)
       → NamesPort text port → old.link.transcript ≡ [] → ActsAtPort peers port s old new status
       → BeginsPlanAt Begun peers.at_address peers.unused port s new.link.transcript old.desk.kept new.desk.kept
-  at_port peers text Stdio s old new status names silent (runs, unused) =
-      (over_streams s old new status silent runs, unused)
-  at_port peers text (Emulated file) s old new status names silent (runs, same, unused) =
-      (none old new same silent, unused)
-  at_port peers text (Network address) s old new status names silent (runs, same) =
-      (none old new same silent, over_net peers s address old.desk new.desk status runs)
+  at_port peers text Stdio s old new status names silent (runs, unused) = search (rules, over_streams)
+  at_port peers text (Emulated file) s old new status names silent (runs, same, unused) = search (rules, none, same)
+  at_port peers text (Network address) s old new status names silent (runs, same) = search (rules, none, same, over_net)
   at_port peers text (Served port file) s old new status names silent acts = absurd names
 
   served : (peers : Peers) (port file : Bytes) (s : Settings) (old new : Devices) (status : ℕ)
@@ -259,11 +236,7 @@ module _ (Begun : Plan → Transcript → Type 0)
         are,
         elim (serves_or_asks words s took.asked) [
           | inl (serves, (port, file, is)) ↦
-              inl (
-                serves,
-                served peers port file s old new status silent
-                    (subst (λ (p : Port). ActsAtPort peers p s old new status) is took.runs),
-              )
+              search (rules, served)
           | inr asks ↦ inr (s, asks, at_port peers asks.port.0 s.port s old new status asks.port.2 silent took.runs)
         ],
       )

@@ -1,5 +1,5 @@
 -- What a plan writes, compares and saves, by its actions and by its tasks.
-use Rattle.std.proofs.Common.{◌≡◌, ◌∙◌, ap, ap₂, sym, refl, Bool, true, false, List, [], ◌∷◌, ◌++◌}
+use Rattle.std.proofs.Common.{◌≡◌, ◌∙◌, ap, ap₂, sym, refl, Bool, false, List, [], ◌∷◌, ◌++◌, rules}
 use Rattle.std.specs.Prelude.{◌&&◌, not, if◌then◌else◌}
 use Rattle.avr_plan.specs.declared.settings.Switches.{Switches}
 use Rattle.avr_desk.specs.declared.record.Writing.{Writing}
@@ -49,21 +49,15 @@ module _ (part : Part) (m : Memories) (later : List Action) where
 
     there : (dry off : Bool) → EachComparisonAgrees part (write dry off ++ later) m
         → IsThere dry off × EachComparisonAgrees part later (after_write dry)
-    there true off agree = (λ wet on. absurd (cc wet), agree.1)
-    there false true agree = (λ wet on. absurd (cc on), agree.1)
-    there false false agree = (λ wet on. agree.1.0, agree.1.1)
+    there dry off agree = search rules
 
     compared : (dry off : Bool) → IsThere dry off → EachComparisonAgrees part later (after_write dry)
         → EachComparisonAgrees part (write dry off ++ later) m
-    compared true off is rest = (tt, rest)
-    compared false true is rest = (tt, rest)
-    compared false false is rest = (tt, (is refl refl, rest))
+    compared dry off is rest = search rules
 
     none_saved : (s : Switches) (dry off : Bool)
         → actions_files part s (write dry off ++ later) m ≡ actions_files part s later (after_write dry)
-    none_saved s true off = refl
-    none_saved s false true = refl
-    none_saved s false false = refl
+    none_saved s dry off = search rules
 
   abbrev erase : Bool → Bool → Bool → List Action
   erase dry asked due =
@@ -74,24 +68,15 @@ module _ (part : Part) (m : Memories) (later : List Action) where
 
   behind : (dry asked due : Bool) → EachComparisonAgrees part (erase dry asked due ++ later) m
       → EachComparisonAgrees part later (after_erase dry due)
-  behind true true due agree = agree.1
-  behind true false due agree = agree
-  behind false asked true agree = agree.1
-  behind false asked false agree = agree
+  behind dry asked due agree = search rules
 
   begun : (dry asked due : Bool) → EachComparisonAgrees part later (after_erase dry due)
       → EachComparisonAgrees part (erase dry asked due ++ later) m
-  begun true true due agree = (tt, agree)
-  begun true false due agree = agree
-  begun false asked true agree = (tt, agree)
-  begun false asked false agree = agree
+  begun dry asked due agree = search rules
 
   no_file : (s : Switches) (dry asked due : Bool)
       → actions_files part s (erase dry asked due ++ later) m ≡ actions_files part s later (after_erase dry due)
-  no_file s true true due = refl
-  no_file s true false due = refl
-  no_file s false asked true = refl
-  no_file s false asked false = refl
+  no_file s dry asked due = search rules
 
 -- ---- by the tasks
 
@@ -117,9 +102,12 @@ module _ (part : Part) (s : Switches) where
   files_of_tasks : (tasks : List Task) (m : Memories)
       → actions_files part s (tasks_actions s tasks) m ≡ tasks_files part s tasks m
   files_of_tasks [] m = refl
-  files_of_tasks (task.Write mem image ∷ tasks) m =
-      none_saved part m (tasks_actions s tasks) mem image s s.dry s.no_verify
-      ∙ files_of_tasks tasks (after_task part s (task.Write mem image) m)
+  files_of_tasks (task.Write mem image ∷ tasks) m = search (
+    rules,
+    none_saved,
+    files_of_tasks tasks (after_task part s
+        (task.Write mem image) m),
+  )
   files_of_tasks (task.Verify mem image ∷ tasks) m = files_of_tasks tasks m
   files_of_tasks (task.Read mem format file ∷ tasks) m =
       ap₂ (λ (text : Bytes) (files : List Writing). record { name = file; bytes = text } ∷ files)
@@ -133,8 +121,7 @@ module _ (plan : Plan) (m : Memories) where
   due = is_erase_due plan.switches plan.tasks
 
   pub tasks_agree : ComparisonsAgree plan m → PlanAgrees plan m
-  tasks_agree agree = agree_by_tasks plan.part plan.switches plan.tasks (before_tasks plan m)
-      (behind plan.part m these plan.switches.dry plan.switches.erase due agree.1)
+  tasks_agree agree = search (rules, agree_by_tasks, behind)
 
   pub actions_agree : PlanAgrees plan m → ComparisonsAgree plan m
   actions_agree agree = (
@@ -144,15 +131,13 @@ module _ (plan : Plan) (m : Memories) where
   )
 
   pub files_by_tasks : actions_files plan.part plan.switches (actions plan) m ≡ saved_files plan m
-  files_by_tasks = no_file plan.part m these plan.switches plan.switches.dry plan.switches.erase due
-      ∙ files_of_tasks plan.part plan.switches plan.tasks (before_tasks plan m)
+  files_by_tasks = search (rules, no_file, files_of_tasks)
 
 -- ---- what was done
 
 pub made_by_tasks : (plan : Plan) (before after : Memories) → IsDone plan before after
     → after ≡ effects plan.part (asked_items plan) before
-made_by_tasks plan before after done =
-    done.memories ∙ ap (λ (items : List Item). effects plan.part items before) (items_by_tasks plan)
+made_by_tasks plan before after done = search (rules, items_by_tasks)
 
 pub is_done : (plan : Plan) (before after : Memories) (old now : Record) → Keeps plan before after old now
     → IsDone plan before after

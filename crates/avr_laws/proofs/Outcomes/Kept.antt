@@ -1,5 +1,5 @@
 -- Status 0 means the plan, by what was sent and received alone.
-use Rattle.std.proofs.Common.{◌≡◌, ◌⊎◌, ℕ, All, List, [], ◌∷◌, ◌++◌, take, sym, ap, arith, ◌∙◌, append-nil, inl, inr, subst, Option, Some, None}
+use Rattle.std.proofs.Common.{◌≡◌, ◌⊎◌, ℕ, All, List, [], ◌∷◌, ◌++◌, take, sym, ap, arith, ◌∙◌, append-nil, inl, inr, subst, Option, Some, None, rules}
 use Rattle.std.specs.Prelude.{false}
 use Rattle.avr_plan.specs.declared.settings.Settings.{Settings}
 use Rattle.avr_desk.specs.OutputEvents.{OutputEvent}
@@ -173,11 +173,7 @@ module _ (s : Settings) (plan : Plan) (x y : Devices) (r : IsRun s x y 0)
         none_of : {E R : Type 0} (d : Dialog E R) (more : List (List ℕ))
             → frames (sent passed) ≡ frames_in (played d 1 tape).events ++ more
             → ForgesNoFrame real.device d 1 tape p executions []
-        none_of d more are =
-            none_forged real.device d 1 tape p executions [] more
-            (subst (λ (fs : List (List ℕ)). NoneForged real.device fs tape p executions []) are
-            (subst (λ (t : Transcript). NoneForged real.device (frames (sent passed)) (heard t) p executions []) these
-            none))
+        none_of d more are = search (rules, none_forged, these)
 
         sent_first : IsFirstPart (played handshake 1 tape) (run (from_handshake plan handshake))
         sent_first = first_frames plan handshake 1 tape (sends_valid its_plan handshake

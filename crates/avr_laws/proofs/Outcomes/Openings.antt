@@ -90,9 +90,7 @@ reported_none : {A : Type 0} (operation : Dialog ⊥ (Result A HostFault))
     (outcome_output : Result A HostFault → List OutputEvent)
     → ((outcome : Result A HostFault) → NoneOpened (outcome_output outcome))
     → OpensNone (reported operation outcome_output)
-reported_none operation outcome_output each =
-    bound (lifted operation) (λ outcome. emits (outcome_output outcome) (Done (standing outcome))) (silent operation)
-    (λ outcome. emitted (outcome_output outcome) (Done (standing outcome)) (each outcome) tt)
+reported_none operation outcome_output each = search (rules, bound, silent, emitted)
 
 unless_none : (dialog : Dialog OutputEvent Standing) → OpensNone dialog → (before : Standing)
     → OpensNone (unless_fault dialog before)
@@ -100,8 +98,7 @@ unless_none dialog opens before = search rules
 
 module _ (part : Part) (s : Switches) where
   action_none : (action : Action) → OpensNone (action_dialog part s action)
-  action_none OpenSession = search (rules, reported_none, opening_none)
-  action_none action = search (rules, reported_none, bytes_none, read_none, emitted, skipped_none)
+  action_none action = search (rules, reported_none, opening_none, bytes_none, read_none, emitted, skipped_none)
 
   actions_none : (all : List Action) → OpensNone (actions_dialog part s all)
   actions_none [] = tt
@@ -112,10 +109,7 @@ module _ (part : Part) (s : Switches) where
 
 session_none : (plan : Plan) → OpensNone (session plan)
 unfolding session
-session_none plan =
-    bound (session_dialog plan) (λ after. Done (status_of after))
-    (bound (actions_dialog plan.part plan.switches (actions plan)) (ending plan.part plan.switches)
-    (actions_none plan.part plan.switches (actions plan)) (ending_none plan.part plan.switches)) (λ after. tt)
+session_none plan = search (rules, bound, actions_none, ending_none)
 
 pub session_opens_none : (plan : Plan) (seq : ℕ) (tape : Tape)
     → openings_in (outputs (played (session plan) seq tape).events) ≡ []
@@ -142,11 +136,20 @@ session_opened : (plan : Plan) (old new : Devices) (status : ℕ) → RunsSessio
 session_opened plan old new status (inl (after, ran)) =
     let none = session_opens_none plan start.next (on_tape start.unread ++ (heard ran.during ++ [])) in
     search (rules, since old.desk new.desk (outputs ran.events) ran.kept, ran.plays.plays [], none, append-nil)
-session_opened plan old new status (inr (broke, one)) =
-    let none = prefix_none broke.shown
-    (played (session plan) start.next (on_tape start.unread ++ heard broke.during)).events broke.breaks.prefix
-    (session_opens_none plan start.next (on_tape start.unread ++ heard broke.during)) in
-    search (rules, openings_shown (outputs broke.shown) old.desk.kept, broke.kept, none, append-nil)
+session_opened plan old new status (inr (broke, one)) = search (
+  rules,
+  prefix_none,
+  session_opens_none,
+  openings_shown,
+  append-nil,
+  broke.shown,
+  start.next,
+  start.unread,
+  broke.during,
+  broke.breaks.prefix,
+  old.desk.kept,
+  broke.kept,
+)
 
 -- ---- so a run opens the files that ask for its plan, and no others
 
@@ -169,11 +172,9 @@ pub session_keeps : (s : Settings) (x y : Devices) (status : ℕ) (IsSo : Plan �
 session_keeps s x y status IsSo with so =
     let first = since x.desk with.between with.made.output_events with.made.kept in
     let later = session_opened with.plan (devices x.link with.between) y status with.then_is in
-    let asked = went_asked s with.plan x.desk with.between with.made in (
-      with.plan,
-      openings_in with.made.output_events,
-      opened_by_uses x.desk.kept y.desk.kept (openings_in with.made.output_events ++ [])
-          (search (rules, first, later, append-nil)),
-      asked,
-      so,
+    let asked = went_asked s with.plan x.desk with.between with.made in search (
+      rules,
+      openings_in,
+      opened_by_uses,
+      append-nil,
     )

@@ -1,5 +1,5 @@
 -- Status 0 means the images, over a link that loses, delays and damages frames.
-use Rattle.std.proofs.Common.{◌≡◌, ◌∙◌, ap, append-nil, ℕ, true, Bool, List, [], ◌∷◌, ◌++◌, Option, Some, None, sym, subst}
+use Rattle.std.proofs.Common.{◌≡◌, append-nil, ℕ, true, Bool, List, [], ◌∷◌, ◌++◌, Option, sym, subst, rules}
 use Rattle.std.proofs.lemmas.List.Elements.{All-nil, All-cons}
 use Rattle.std.specs.Prelude.{All}
 use Rattle.avr_plan.specs.declared.settings.Settings.{Settings}
@@ -51,8 +51,7 @@ all_pieces (f ∷ fs) whole = All-cons IsPiece f fs whole.0.piece (all_pieces fs
 good_by : {E R : Type 0} (go_on : Reading → Tape → Played E R) (o : Option (Reading × Tape))
     → ((reading : Reading) (left : Tape) → All IsGood (frames_in (go_on reading left).events))
     → All IsGood (frames_in (continue_with_reading go_on o).events)
-good_by go_on None each = All-nil IsGood
-good_by go_on (Some (reading, left)) each = each reading left
+good_by go_on o each = search rules
 
 sends_good : {E R : Type 0} (d : Dialog E R) (n : ℕ) (t : Tape) → SendsValidBodies d
     → All IsGood (frames_in (played d n t).events)
@@ -87,9 +86,7 @@ module _ (s : Settings) (plan : Plan) (x y : Devices) (r : IsRun s x y 0)
   executions = executions_by_arrival through
 
   forges_none : ForgesNoFrame device (session plan) 1 (tape s x y r) p executions []
-  forges_none = subst (λ (t : Tape). ForgesNoFrame device (session plan) 1 t p executions [])
-      (sym is ∙ ap heard (same s x y r plan made_is silent))
-      (brings_no_frame device reply_fits_frame (session plan) 1 come p executions [] tt brings)
+  forges_none = search (rules, same, brings_no_frame, reply_fits_frame)
 
   -- the session of the plan for the chip's own part
   abbrev its : Dialog OutputEvent ℕ
@@ -111,8 +108,7 @@ module _ (s : Settings) (plan : Plan) (x y : Devices) (r : IsRun s x y 0)
   these = frames_alike s plan x y r made_is silent (on_part p.chip.part plan) are bodies
 
   own : frames_in (played (session plan) 1 (tape s x y r)).events ++ [] ≡ frames (sent y.link.transcript)
-  own = append-nil (frames_in (played (session plan) 1 (tape s x y r)).events)
-      ∙ (same_frames are 1 (tape s x y r) ∙ sym these)
+  own = search (rules, append-nil, tape, same_frames, are, these)
 
   pub over_damage : KeepsOnPart p.chip.part plan (memories_of p.chip)
       (memories_of (after_frames device (frames got) p).chip) x.desk.kept y.desk.kept

@@ -48,8 +48,7 @@ succeeds_by : {R : Type 0} (r : R) (seq : ℕ) (left : Tape) (Claim : Type 0)
     (go_on : Reading → Tape → Played OutputEvent R) (o : Option (Reading × Tape))
     → ((reading : Reading) (rest : Tape) → o ≡ Some (reading, rest) → (go_on reading rest).outcome ≡ Some (r, seq, left)
     → Claim) → (continue_with_reading go_on o).outcome ≡ Some (r, seq, left) → Claim
-succeeds_by r seq left Claim go_on None each is = absurd (cc is)
-succeeds_by r seq left Claim go_on (Some (reading, rest)) each is = each reading rest refl is
+succeeds_by r seq left Claim go_on o each is = search rules
 
 cut_frame : (f bytes : List ℕ) → IsWhole f → frames (f ++ bytes) ≡ f ∷ frames bytes
 cut_frame f bytes whole = search (rules, cut_first, cond-true)
@@ -106,9 +105,7 @@ module _ (plan : Plan) where
       (λ reading. played (from_handshake (go_on reading)) (next n)) (answer n tape)
       (λ reading left. first_frames (go_on reading) (next n) left (valid.1 reading)) in (
         rest.0,
-        cut_frame (frame n body) (bytes_sent (continue_with_reading (λ reading.
-            played (from_handshake (go_on reading)) (next n)) (answer n tape)).events) (whole_frame n body valid.0)
-            ∙ ap (λ more. frame n body ∷ more) rest.1,
+        search (rules, cut_frame, whole_frame),
       )
 
   -- ---- a session with status 0 took the signature that it found

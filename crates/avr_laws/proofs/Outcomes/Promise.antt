@@ -1,5 +1,5 @@
 -- Status 0 means the images, over any link that forges no frame.
-use Rattle.std.proofs.Common.{◌≡◌, ℕ, length, arith, All, List, [], ◌++◌, map, Option, Some, refl, sym, ap, ◌∙◌, subst, rules}
+use Rattle.std.proofs.Common.{◌≡◌, ℕ, length, All, List, [], ◌++◌, map, Some, refl, sym, ap, ◌∙◌, subst, rules}
 use Rattle.std.proofs.lemmas.List.{append-nil, take_all}
 use Rattle.avr_plan.specs.declared.settings.Settings.{Settings}
 use Rattle.avr_desk.specs.Record.{ChangesRecord}
@@ -71,8 +71,7 @@ module _ (s : Settings) (x y : Devices) (r : IsRun s x y 0) where
 
     over_plan : prepend_events before (played (session plan) 1 tape)
         ≡ record { events = r.events; outcome = Some (0, r.next, left_over) }
-    over_plan = sym (ap (λ (stage_outcome : StageOutcome Plan). prepend_events before (run_after_planning stage_outcome
-        tape)) made_is) ∙ over
+    over_plan = search (rules, over)
 
     pub played_is : played (session plan) 1 tape ≡ record { events = done; outcome = Some (0, r.next, left_over) }
     played_is = ap (λ (p : Played OutputEvent ℕ). record { events = done; outcome = p.outcome }) over_plan
@@ -81,8 +80,7 @@ module _ (s : Settings) (x y : Devices) (r : IsRun s x y 0) where
     sent_is = search (rules, emitted_bytes, over_plan)
 
     outputs_are : outputs r.events ≡ (planned s r.openings).output_events ++ outputs done
-    outputs_are = ap (λ (p : Played OutputEvent ℕ). outputs p.events) (sym over_plan)
-        ∙ emitted_outputs (planned s r.openings).output_events done
+    outputs_are = search (rules, over_plan, emitted_outputs)
 
     only_read : OnlyReadsAndPrints (planned s r.openings).output_events
     only_read = subst (λ (stage_outcome : StageOutcome Plan). OnlyReadsAndPrints
@@ -90,8 +88,7 @@ module _ (s : Settings) (x y : Devices) (r : IsRun s x y 0) where
 
     -- so the plan is the one that the settings and the files that were opened ask for
     pub keeps_plan : (IsSo : Plan → Type 0) → IsSo plan → KeepsPlan s x.desk.kept y.desk.kept [] IsSo
-    keeps_plan IsSo so =
-        run_keeps s plan r.openings tape x.desk y.desk (outputs r.events) IsSo made_is outputs_are r.kept so
+    keeps_plan IsSo so = search (rules, run_keeps, outputs_are)
 
     -- A plan whose session differs from this one in printed lines alone was kept: this plan on a chip of another
     -- signature.
@@ -101,8 +98,7 @@ module _ (s : Settings) (x y : Devices) (r : IsRun s x y 0) where
 
       other_played : played (session other) 1 tape
           ≡ record { events = done_other; outcome = Some (0, r.next, left_over) }
-      other_played = ap (λ (o : Option (ℕ × ℕ × Tape)). record { events = done_other; outcome = o })
-          (sym (same_outcome are_alike 1 tape) ∙ ap (λ (p : Played OutputEvent ℕ). p.outcome) played_is)
+      other_played = search (rules, same_outcome, played_is)
 
       pub other_sent : bytes_sent done_other ≡ sent r.during
       other_sent = sym (same_bytes are_alike 1 tape) ∙ sent_is
@@ -141,17 +137,13 @@ module _ (s : Settings) (x y : Devices) (r : IsRun s x y 0) where
         bodies = session_asks other sound fitted
 
         goes : GoesAlongExchanges real.device (session other) 1 tape p executions
-        goes = goes_as real.device (session other) 1 tape p executions bodies
-            (no_forged_frame_authentic real.device (session other) 1 tape p executions [] tt none)
+        goes = search (rules, goes_as, bodies, no_forged_frame_authentic)
 
         frames_are : frames_in done_other ≡ frames (sent r.during)
         frames_are = sym (frames_sent done_other (sends_whole (session other) 1 tape bodies)) ∙ ap frames other_sent
 
         stands : (state_after real.device count (session other) p exchanges).programmer ≡ q
-        stands =
-            goes.programmer count (omega arith)
-            ∙ ap (λ (fs : List (List ℕ)). after_sent_frames real.device fs executions p)
-            (take_all count (frames_in done_other) (omega arith) ∙ frames_are)
+        stands = search (rules, take_all, frames_are, goes.programmer)
 
         ended : ((state_after real.device count (session other) p exchanges).dialog ≡ Done 0)
             × (outputs done_other ≡ outputs_after real.device count (session other) p exchanges)
@@ -164,8 +156,7 @@ module _ (s : Settings) (x y : Devices) (r : IsRun s x y 0) where
         expected_there : IsExpectedRun other m0
             (real.memories (state_after real.device count (session other) p exchanges).programmer)
             (outputs_after real.device count (session other) p exchanges) 0
-        expected_there = session_succeeds other sound real m0 sizes fitted signs works p exchanges idle count 0 ended.0
-            refl
+        expected_there = search (rules, session_succeeds, ended.0)
 
         pub promise_for : Keeps other m0 (real.memories q) x.desk.kept y.desk.kept
         promise_for = record {

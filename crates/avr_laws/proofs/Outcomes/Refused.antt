@@ -1,5 +1,5 @@
 -- Outcomes that no run over a wire has.
-use Rattle.std.proofs.Common.{◌≡◌, ◌<◌, ◌*◌, ℕ, List, [], ◌++◌, map, ap, sym, ◌∙◌, subst, refl, arith, Option, Some, rules}
+use Rattle.std.proofs.Common.{◌≡◌, ◌<◌, ◌*◌, ℕ, List, [], ◌++◌, map, ap, sym, ◌∙◌, subst, refl, Option, Some, rules}
 use Rattle.avr_desk.specs.Record.{DeskState, ChangesRecord}
 use Rattle.avr_desk.specs.declared.record.Opening.{Opening}
 use Rattle.avr_desk.specs.OutputEvents.{after_events}
@@ -29,8 +29,7 @@ some_is a b e = cc
 pub too_much : (plan : Plan) (w v : WiredState) (d e : DeskState) (status : ℕ) (weight : Weight)
     → 4 * total_weight weight (bodies_in (run_steps plan)) < total_weight weight
     (map body_of (frames (sent v.transcript))) → SessionOverWire plan w v d e status → ⊥
-too_much plan w v d e status weight more over = let most = over.along_exchanges.four weight in
-    absurd (omega (arith, more, most))
+too_much plan w v d e status weight more over = search rules
 
 pub not_all_written : (plan : Plan) (w v : WiredState) (d e : DeskState)
     → (memories v ≡ effects plan.part (items plan) (memories w) → ⊥) → SessionOverWire plan w v d e 0 → ⊥
@@ -85,10 +84,7 @@ module _ (transcript : Transcript) (a b : ℕ) (d e : DeskState) (status : ℕ) 
 
 pub another_status : (transcript : Transcript) (a b : ℕ) (d e : DeskState) → heard transcript ≡ worked_replies
     → IsRun worked_settings (devices (link_state [] a) d) (devices (link_state transcript b) e) 1 → ⊥
-another_status transcript a b d e all x = absurd (one_no (worked_status transcript a b d e 1 all x))
-  where
-    one_no : ◌≡◌ {A = ℕ} 1 0 → ⊥
-    one_no e = cc
+another_status transcript a b d e all x = search (rules, worked_status transcript a b d e 1 all x)
 
 pub another_frame : (transcript : Transcript) (a b : ℕ) (d e : DeskState) (status : ℕ)
     → heard transcript ≡ worked_replies → (sent transcript ≡ worked_frames → ⊥)

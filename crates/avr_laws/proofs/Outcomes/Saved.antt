@@ -1,5 +1,5 @@
 -- With status 0 each file that a memory was read into has the text of what the chip held then.
-use Rattle.std.proofs.Common.{◌≡◌, ◌∙◌, sym, ap, subst, ℕ, Bool, true, false, List, [], ◌∷◌, ◌++◌, append_assoc, append-nil, refl, Result, Ok, Err, if◌then◌else◌, rules}
+use Rattle.std.proofs.Common.{◌≡◌, ◌∙◌, sym, ap, subst, ℕ, Bool, true, false, List, [], ◌∷◌, ◌++◌, append_assoc, append-nil, refl, Result, if◌then◌else◌, rules, arith}
 use Rattle.std.specs.Prelude.{codes, not}
 use Rattle.std.proofs.lemmas.Bool.{cases_Bool}
 use Rattle.std.proofs.lemmas.List.Elements.{filter-append}
@@ -15,10 +15,10 @@ use Rattle.avr_desk.specs.declared.record.Opening.TheVariants.{Absent, Found}
 use Rattle.avr_desk.specs.declared.record.Writing.{Writing}
 use Rattle.avr_part.specs.Part.{Part}
 use Rattle.avr_plan.specs.Plan.{Plan}
-use Rattle.avr_session.specs.Actions.{SkippedErase, SkippedWrite, Action, OpenSession, EraseChip, WriteImage, CompareImage, SaveMemory, SkipAction, actions}
+use Rattle.avr_session.specs.Actions.{SkippedErase, Action, OpenSession, CompareImage, SaveMemory, SkipAction, actions}
 use Rattle.avr_session.specs.Lines.{informs, warns}
 use Rattle.avr_session.specs.Session.{fault_line_or, saving_output, status_of}
-use Rattle.avr_session.specs.Standing.{Standing, NoFault, Faulty, Over}
+use Rattle.avr_session.specs.Standing.{Standing, NoFault}
 use Rattle.stk_host.specs.declared.fault.HostFault.{HostFault}
 use Rattle.stk_emu.specs.Effect.{Memories, effects}
 use Rattle.stk_host.specs.Dialog.{Event, Frame, Emitted, outputs}
@@ -62,8 +62,7 @@ line : (bytes : Bytes) → WritesFiles (PrintsLine bytes ∷ []) []
 line bytes = record { created = λ r. sym (append-nil (all_files r)); output = λ r. sym (append-nil r.output) }
 
 if_line : (b : Bool) (bytes : Bytes) → WritesFiles (if b then [] else PrintsLine bytes ∷ []) []
-if_line true bytes = none
-if_line false bytes = line bytes
+if_line b bytes = search (rules, none, line)
 
 opened : (opening : Opening) → WritesFiles (Opens opening ∷ []) []
 opened (Absent name) = record {
@@ -93,17 +92,18 @@ abbrev unprinted : Record → Record
 unprinted r = record r { messages = [] }
 
 one_unprinted : (event : OutputEvent) (r : Record) → unprinted (after event (unprinted r)) ≡ unprinted (after event r)
-one_unprinted (Opens (Absent name)) r = refl
-one_unprinted (Opens (Found reading)) r = refl
-one_unprinted event r = refl
+one_unprinted event r = search rules
 
 all_unprinted : (output_events : List OutputEvent) (r : Record)
     → unprinted (after_events output_events (unprinted r)) ≡ unprinted (after_events output_events r)
 all_unprinted [] r = refl
-all_unprinted (event ∷ output_events) r =
-    sym (all_unprinted output_events (after event (unprinted r)))
-    ∙ (ap (λ (k : Record). unprinted (after_events output_events k)) (one_unprinted event r)
-    ∙ all_unprinted output_events (after event r))
+all_unprinted (event ∷ output_events) r = search (
+  rules,
+  one_unprinted,
+  all_unprinted output_events (after event
+      (unprinted r)),
+  all_unprinted output_events (after event r),
+)
 
 lines_dropped : (events : List (Event OutputEvent)) (r : Record)
     → unprinted (after_events (outputs (without_lines events)) r) ≡ unprinted (after_events (outputs events) r)
@@ -133,8 +133,7 @@ pub reading_writes : (output_events : List OutputEvent) → OnlyReadsAndPrints o
 reading_writes [] reads = none
 reading_writes (Opens opening ∷ output_events) reads =
     both (Opens opening ∷ []) output_events [] [] (opened opening) (reading_writes output_events reads)
-reading_writes (PrintsLine bytes ∷ output_events) reads =
-    both (PrintsLine bytes ∷ []) output_events [] [] (line bytes) (reading_writes output_events reads)
+reading_writes (PrintsLine bytes ∷ output_events) reads = grind (arith, both, line, reading_writes output_events reads)
 reading_writes (event ∷ output_events) reads = absurd reads
 
 -- ---- the actions of the expected run
@@ -154,42 +153,31 @@ saved_then file text quiet pieces =
 -- of an outcome without files
 notice : {A : Type 0} (part : Part) (good : A → List OutputEvent) (outcome : Result A HostFault)
     → ((a : A) → WritesFiles (good a) []) → WritesFiles (fault_line_or part good outcome) []
-notice part good (Ok a) each = each a
-notice part good (Err fault) each = line _
+notice part good outcome each = search (rules, line)
 
 same_signature : (b : Bool) (output_events : List OutputEvent) → WritesFiles output_events []
     → WritesFiles (if b then [] else output_events) []
-same_signature true output_events writes = none
-same_signature false output_events writes = writes
+same_signature b output_events writes = search (rules, none)
 
 module _ (part : Part) (s : Switches) where
   of_action : (action : Action) (m : Memories) → WritesFiles (action_expected part s action m).output_events
       (action_files part s action m)
   of_action OpenSession m = search (rules, both, informed, warned, same_signature)
-  of_action EraseChip m = search (rules, informed)
-  of_action (WriteImage mem image) m = search (rules, informed)
   of_action (CompareImage mem image) m = search (rules, notice, informed)
   of_action (SaveMemory mem format file) m = search (rules, saved_then)
   of_action (SkipAction SkippedErase) m = search (rules, warned)
-  of_action (SkipAction (SkippedWrite mem image)) m = search (rules, informed)
+  of_action z0 m = search (rules, informed)
 
   leaves : (action : Action) (m : Memories)
       → (action_expected part s action m).memories ≡ effects part (action_items action) m
-  leaves OpenSession m = refl
-  leaves EraseChip m = refl
-  leaves (WriteImage mem image) m = refl
-  leaves (CompareImage mem image) m = refl
-  leaves (SaveMemory mem format file) m = refl
-  leaves (SkipAction what) m = refl
+  leaves action m = search rules
 
   in_turn : (first : Expected) (standing : Standing) (next : Memories → Expected) (fs gs : List Writing)
       → first.standing ≡ standing → WritesFiles first.output_events fs
       → ((next first.memories).standing ≡ NoFault → WritesFiles (next first.memories).output_events gs)
       → (then_from first standing next).standing ≡ NoFault → WritesFiles (then_from first standing next).output_events
       (fs ++ gs)
-  in_turn first NoFault next fs gs is one more fine = both _ _ fs gs one (more fine)
-  in_turn first Faulty next fs gs is one more fine = absurd (cc (sym is ∙ fine))
-  in_turn first Over next fs gs is one more fine = absurd (cc (sym is ∙ fine))
+  in_turn first standing next fs gs is one more fine = search (rules, both)
 
   of_actions : (all : List Action) (m : Memories) → (actions_expected part s all m).standing ≡ NoFault
       → WritesFiles (actions_expected part s all m).output_events (actions_files part s all m)
@@ -204,9 +192,7 @@ module _ (part : Part) (s : Switches) where
       (of_actions all (effects part (action_items action) m))) fine
 
 fine_by : (standing : Standing) → status_of standing ≡ 0 → standing ≡ NoFault
-fine_by NoFault is = refl
-fine_by Faulty is = absurd (cc is)
-fine_by Over is = absurd (cc is)
+fine_by standing is = search rules
 
 pub expected_writes : (plan : Plan) (m : Memories) → (expected_run plan m).status ≡ 0
     → WritesFiles (expected_run plan m).output_events (saved_files plan m)
@@ -224,8 +210,7 @@ expected_writes plan m zero =
 
 pub created_by_uses : (files : List Writing) (old now : Record) → all_files now ≡ all_files old ++ named_files files
     → files_among (all_uses now) ≡ files_among (all_uses old) ++ named_files files
-created_by_uses files old now is =
-    files_used now ∙ (is ∙ ap (λ (first : List Writing). first ++ named_files files) (sym (files_used old)))
+created_by_uses files old now is = search (rules, files_used)
 
 pub these_saved : (output_events : List OutputEvent) (files : List Writing) (old now : DeskState)
     → WritesFiles output_events files → ChangesRecord (after_events output_events) old now

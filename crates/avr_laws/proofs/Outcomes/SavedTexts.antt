@@ -1,12 +1,11 @@
 -- The text of a saved file is what a session writes.
 use Rattle.std.proofs.lemmas.Bool.Decides.{nat_tests}
 use Rattle.std.proofs.lemmas.Grind.{common_steps}
-use Rattle.std.proofs.Common.{◌≡◌, ◌∙◌, refl, ap, arith, ℕ, zero, suc, ◌+◌, ◌-◌, ◌/◌, ◌%◌, List, [], ◌∷◌, ◌++◌, append-nil, length, map, Bool, true, false, nat_lt, if◌then◌else◌, Option, Some, rules}
+use Rattle.std.proofs.Common.{◌≡◌, ◌∙◌, refl, arith, ℕ, zero, suc, ◌+◌, ◌-◌, ◌%◌, List, [], ◌∷◌, append-nil, length, map, Bool, nat_lt, if◌then◌else◌, Option, Some, rules}
 use Rattle.avr_plan.specs.declared.update.Format.{Format}
-use Rattle.avr_plan.specs.declared.update.Format.TheVariants as format
 use Rattle.avr_image.specs.Runs.{runs}
 use Rattle.avr_records.specs.Sparse.{image_text, last_held, row_size, run_at}
-use Rattle.avr_records.specs.Text.{address_size, ihex_record, ihex_rows, low_bytes, rows_behind, srec_record, srec_rows, upper_record, width_of}
+use Rattle.avr_records.specs.Text.{address_size, ihex_rows, rows_behind, srec_rows, width_of}
 use Rattle.avr_records.specs.declared.address_size.AddressSize.{AddressSize}
 use Rattle.avr_records.specs.declared.address_size.AddressSize.TheVariants.{Two, Three, Four}
 use Rattle.avr_records.specs.declared.kind.Kind.TheVariants.{Ihex, Srec}
@@ -29,15 +28,11 @@ by_32 : (taken addr : ℕ) (bytes : List ℕ) → (addr + taken) % 32 ≡ 0
     → rows_behind taken (row_size Ihex) addr bytes ≡ rows_behind taken (λ at. 32) addr bytes
 by_32 taken addr [] is = refl
 by_32 (suc taken) addr (b ∷ bytes) is = by_32 taken (addr + 1) bytes (omega (arith, is))
-by_32 zero addr (b ∷ bytes) is =
-    let wide : row_size Ihex addr ≡ 32 = omega (arith, is) in
-    let more = by_32 31 (addr + 1) bytes (omega (arith, is)) in
-    grind (arith, nat_tests, wide, more)
+by_32 zero addr (b ∷ bytes) is = search (rules, by_32 31 (addr + 1) bytes (omega (arith, is)))
 
 ihex_of_bytes : (bytes : List ℕ) → image_text Ihex (run_at 0 bytes) ≡ ihex_rows 0 (rows_behind 0 (λ addr. 32) 0 bytes)
 ihex_of_bytes [] = refl
-ihex_of_bytes (b ∷ bytes) =
-    grind (arith, nat_tests, common_steps, one_run 0 b bytes, append-nil, by_32 0 0 (b ∷ bytes) refl)
+ihex_of_bytes (b ∷ bytes) = search (rules, one_run, append-nil, by_32)
 
 srec_of_bytes : (bytes : List ℕ)
     → image_text Srec (run_at 0 bytes) ≡ srec_rows (address_size (length bytes - 1))
@@ -50,31 +45,19 @@ srec_of_bytes (b ∷ bytes) =
 
 ihex_same : (upper : ℕ) (rs : List (ℕ × List ℕ)) → ihex_rows upper rs ≡ saved_ihex upper rs
 ihex_same upper [] = refl
-ihex_same upper ((addr, bytes) ∷ more) =
-    ap (λ (text : List ℕ). upper_record upper (addr / 65536) ++ ihex_record 0 (addr % 65536) bytes ++ text)
-    (ihex_same (addr / 65536) more)
+ihex_same upper ((addr, bytes) ∷ more) = search rules
 
 srec_same : (size : AddressSize) (rs : List (ℕ × List ℕ)) → srec_rows size rs ≡ saved_srec (width_of size) rs
 srec_same size [] = refl
-srec_same size ((addr, bytes) ∷ more) =
-    ap (λ (text : List ℕ). srec_record (width_of size - 1) (low_bytes (width_of size) addr ++ bytes) ++ text)
-    (srec_same size more)
+srec_same size ((addr, bytes) ∷ more) = search rules
 
 width_if : (two three : Bool) → width_of (if two then Two else if three then Three else Four)
     ≡ (if two then 2 else if three then 3 else 4)
-width_if true three = refl
-width_if false true = refl
-width_if false false = refl
+width_if two three = search rules
 
 width_same : (last : ℕ) → width_of (address_size last) ≡ address_width last
 width_same last = width_if (nat_lt last 65536) (nat_lt last 16777216)
 
 pub text_is_saved : (kind : Format) (bytes : List ℕ) → file_text kind bytes ≡ saved_text kind bytes
 unfolding file_text saved_text
-text_is_saved format.Ihex bytes = ihex_of_bytes bytes ∙ ihex_same 0 (rows_behind 0 (λ addr. 32) 0 bytes)
-text_is_saved format.Srec bytes =
-    let these = rows_behind 0 (λ addr. 32) 0 bytes in
-    srec_of_bytes bytes
-    ∙ (srec_same (address_size (length bytes - 1)) these
-    ∙ ap (λ (width : ℕ). saved_srec width these) (width_same (length bytes - 1)))
-text_is_saved kind bytes = search rules
+text_is_saved kind bytes = search (rules, ihex_of_bytes, ihex_same, srec_of_bytes, srec_same, width_same)

@@ -1,5 +1,5 @@
 -- Without -F a chip of another signature is left as it was, whatever the status.
-use Rattle.std.proofs.Common.{◌≡◌, ◌∙◌, ℕ, All, false, List, [], ◌++◌, length, refl, sym, subst, Ok, Err, Result}
+use Rattle.std.proofs.Common.{◌≡◌, ◌∙◌, ℕ, All, false, List, [], ◌++◌, length, refl, sym, subst, Ok, Err, Result, rules}
 use Rattle.avr_desk.specs.OutputEvents.{OutputEvent}
 use Rattle.avr_desk.specs.Record.{Bytes}
 use Rattle.avr_part.specs.Part.{Part, IsPart}
@@ -61,17 +61,12 @@ module _ (plan : Plan) (part : Part) (sound : IsPart part) (real : Real part) (u
 
   opened : (z : Spot real.P) → HasMemories real m z.0 → Prints real.device Anything Kept Refused
       (reported (handshake >>= λ outcome. Done (judged outcome)) (opening_output plan.switches.quiet plan.part)) z
-  opened z idle =
-      prints_reported real.device Anything {Then = Refused} (opening_output plan.switches.quiet plan.part)
-      (on_link real.device (began z.0 idle)) (λ y i. i)
-      (λ r y x. (any_outputs (opening_output plan.switches.quiet plan.part r) y.0, x))
+  opened z idle = search (rules, prints_reported, on_link, began, any_outputs)
 
   no_more : (next : Dialog OutputEvent Standing) (at : Standing) (emitted : List OutputEvent) (y : Spot real.P)
       → Refused at emitted y → Prints real.device Anything (λ x. Kept (emitted ++ x))
       (λ b x. Refused b (emitted ++ x)) (unless_fault next at) y
-  no_more next NoFault emitted y r = absurd (r.0 refl)
-  no_more next Faulty emitted y r = stops real.device Anything Refused Faulty emitted y r
-  no_more next Over emitted y r = stops real.device Anything Refused Over emitted y r
+  no_more next at emitted y r = search (rules, stops)
 
   ends : (at : Standing) (emitted : List OutputEvent) (y : Spot real.P) → Refused at emitted y
       → Prints real.device Anything (λ x. Kept (emitted ++ x)) (λ (b : Standing) x. Kept (emitted ++ x))

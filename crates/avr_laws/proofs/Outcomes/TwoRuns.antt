@@ -1,5 +1,5 @@
 -- A run that ended anywhere, and then one with status 0, leave what one run leaves.
-use Rattle.std.proofs.Common.{◌≡◌, ℕ, true, false, List, [], All, refl, subst, sym}
+use Rattle.std.proofs.Common.{◌≡◌, ℕ, true, false, List, [], All, refl, subst, sym, rules}
 use Rattle.avr_desk.specs.Record.{Record}
 use Rattle.avr_part.specs.Part.{Part, IsPart}
 use Rattle.avr_part.specs.Sound.{IsSoundChip}
@@ -107,8 +107,7 @@ module _ (plan : Plan) (first second : Transcript) (old now : Record) (p q : Pro
     after = memories_of (after_sent_frames device (frames (sent second)) others q).chip
 
     there : KeepsOnPart p.chip.part plan (memories_of q.chip) after old now
-    there = subst (λ (part : Part). KeepsOnPart part plan (memories_of q.chip) after old now) part_then
-        (kept q others sound_then (subst (HasGeometryOf plan.part) (sym part_then) fits) none_then)
+    there = search rules
 
     -- so the first run, too, differs in printed lines alone from one for the chip's own part
     are_alike : AreAlike (session plan) (session its_plan)

@@ -1,6 +1,6 @@
 -- A plan that was made over some openings is the one that settings and these files ask for.
 use Rattle.std.proofs.Common.{rules, arith}
-use Rattle.std.proofs.Common.{◌≡◌, ◌≤◌, ◌∙◌, ap, ℕ, Bool, true, false, List, [], ◌∷◌, ◌++◌, append_assoc, append-nil, refl, Some, None, Option, Result, Ok, inl, inr, length}
+use Rattle.std.proofs.Common.{◌≡◌, ◌≤◌, ◌∙◌, ap, ℕ, Bool, true, List, [], ◌∷◌, ◌++◌, append_assoc, append-nil, refl, Some, Option, Result, Ok, inl, inr, length}
 use Rattle.std.specs.Prelude.{ok_or, if◌then◌else◌}
 use Rattle.std.proofs.lemmas.Bool.{cases_Bool}
 use Rattle.std.proofs.lemmas.Bool.Decides.{nat_tests}
@@ -27,7 +27,6 @@ use Rattle.avr_laws.proofs.Held.Files.{held_file}
 use Rattle.avr_laws.proofs.Held.Parts.{held_parts}
 use Rattle.avr_laws.proofs.Held.Values.{held_values}
 use Rattle.avr_laws.proofs.Plans.Fitted.{Image, given, settled}
-use Rattle.avr_image.specs.Values.{image_of_values}
 use Rattle.avr_laws.specs.HeldImage.{HoldsImageAs}
 use Rattle.avr_laws.specs.AskedPlan.{GivesText, HasImage, IsTaskOf, AreTasksOf, ArePartsOf, IsAsked}
 use Rattle.avr_plan.specs.ImageFile.{image_within, kind_of, image_of_file}
@@ -122,16 +121,14 @@ module _ (Gives : GivesText) where
 
   within_checked : (name : Bytes) (kind : Format) (size : ℕ) (text : Bytes) (made : Image × Ending)
       → checked_image name kind size text ≡ Ok made → IsWithin kind text size made
-  within_checked name kind size text made is =
-      within kind text size made (given name (image_within LARGEST_IMAGE_FILE kind text size) made is)
+  within_checked name kind size text made is = search (rules, within, given)
 
   -- ---- the plan
 
   -- a warning opens no file
   if_warned : (b : Bool) (line : Bytes) (os : List Opening) → AreRead (if b then PrintsLine line ∷ [] else []) os
       → os ≡ []
-  if_warned true line os are = are
-  if_warned false line os are = are
+  if_warned b line os are = search rules
 
   file_image : (switches : Switches) (name : Bytes) (kind : Format) (size : ℕ) (openings opened : List Opening)
       (image : Image) → Saw (file_image_stage switches name kind size) openings opened image
@@ -150,21 +147,14 @@ module _ (Gives : GivesText) where
       let same : first.0.0 ≡ image = cc after.5.made in
       let is = within_checked name kind size file.0 first.0 file.2 in
       let held = held_file (kind_of kind file.0) file.0 size image first.0.1
-      (is.1 ∙ ap (λ (i : Image). Ok (i, first.0.1)) same) in (
-        file.0,
-        (search (rules, only_first)),
-        is.0,
-        held,
-      )
+      (is.1 ∙ ap (λ (i : Image). Ok (i, first.0.1)) same) in search (rules, only_first)
 
   image : (switches : Switches) (memory : Mem) (size : ℕ) (name : Bytes) (kind : Format)
       (openings opened : List Opening) (made : Image)
       → Saw (image_stage switches memory size name kind) openings opened made
       → HasImage Gives name kind size made opened
-  image switches memory size name format.Immediate openings opened made saw =
-      let is : image_of_values name size ≡ Ok made = search rules in search (rules, held_values name size made is)
-  image switches memory size name kind openings opened made saw =
-      file_image switches name kind size openings opened made saw
+  image switches memory size name format.Immediate openings opened made saw = search (rules, held_values)
+  image switches memory size name kind openings opened made saw = search (rules, file_image)
 
   module _ (switches : Switches) (part : Part) where
     imaged : (u : Update) (make : Image → Task) (openings opened : List Opening) (task : Task)
@@ -193,19 +183,14 @@ module _ (Gives : GivesText) where
         let first = saw_first (task_stage switches part u)
         (λ task. tasks_stage switches part (before ++ task ∷ []) updates) openings opened made saw in
         let rest = tasks (before ++ first.0 ∷ []) updates (task_stage switches part u openings).openings_left first.2
-        made first.5 in (
-          first.0 ∷ rest.0,
-          (search (rules, append_assoc)),
-          (search (rules, operation)),
-        )
+        made first.5 in search (rules, append_assoc, operation)
 
     all_tasks : (updates : List Update) (openings opened : List Opening) (made : List Task)
         → Saw (tasks_stage switches part [] updates) openings opened made → AreTasksOf Gives part updates made opened
     all_tasks updates openings opened made saw = search (rules, tasks [] updates openings opened made saw)
 
   found : (o : Option Part) (part : Part) → ok_or o NoSuchPart ≡ Ok part → o ≡ Some part
-  found (Some part) other is = cc is
-  found None other is = absurd (cc is)
+  found o other is = search rules
 
   part_given : (id : Bytes) (r : Result Part PartFault) (part : Part) → or_line (λ fault. no_part_line id) r ≡ Ok part
       → r ≡ Ok part
@@ -217,8 +202,7 @@ module _ (Gives : GivesText) where
 
   parts_saw : (file : Option Bytes) (openings opened : List Opening) (parts : List Part)
       → Saw (parts_stage file) openings opened parts → ArePartsOf Gives file parts opened
-  parts_saw None openings opened parts saw = search rules
-  parts_saw (Some name) openings opened parts saw = search (rules, file_saw, limited_parts, held_parts, parts_given)
+  parts_saw file openings opened parts saw = search (rules, file_saw, limited_parts, held_parts, parts_given)
 
   -- THE LAW
   pub plan_asked : (s : Settings) (openings opened : List Opening) (plan : Plan)
@@ -227,8 +211,4 @@ module _ (Gives : GivesText) where
   plan_asked s openings opened plan are made =
       let one = saw_first (parts_stage s.parts) (after_parts s) openings opened plan
       (record { made = made; are = are }) in
-      let left = (parts_stage s.parts openings).openings_left in
-      let two = saw_first (part_stage s.part one.0) (after_part s) left one.2 plan one.5 in
-      let three = saw_first (tasks_stage s.switches two.0 [] s.updates) (made_of s two.0)
-      (part_stage s.part one.0 left).openings_left two.2 plan two.5 in
-      search (rules, only_first, only_rest, none_read, parts_saw, found, part_given, settled, all_tasks)
+      search (rules, saw_first, only_first, only_rest, none_read, parts_saw, found, part_given, settled, all_tasks)

@@ -7,7 +7,7 @@ use Rattle.avr_plan.specs.declared.update.Format.{Format}
 use Rattle.avr_desk.specs.Memory.{Stock, content_of_name}
 use Rattle.avr_desk.specs.Record.{Bytes}
 use Rattle.avr_desk.specs.OutputEvents.{OutputEvent, Opens, PrintsLine}
-use Rattle.avr_desk.specs.Stage.{Stage, StageResult, StageOutcome, Produced, Refused, NotReadToEnd, all_events_of, with_events_before, continued_stage, ◌>>=◌, output_stage, result_stage, renamed_opening, content_stage, file_stage}
+use Rattle.avr_desk.specs.Stage.{Stage, StageResult, Produced, NotReadToEnd, all_events_of, with_events_before, ◌>>=◌, output_stage, result_stage, renamed_opening, content_stage, file_stage}
 use Rattle.avr_desk.specs.Truth.{IsTrueOpening}
 use Rattle.avr_desk.specs.declared.record.Opening.{Opening}
 use Rattle.avr_laws.proofs.Limits.{LARGEST_IMAGE_FILE, LARGEST_PART_FILE}
@@ -65,21 +65,7 @@ module _ (stock : Stock) where
   onward : {A B : Type 0} (stage : Stage A) (go_on : A → Stage B) (prefix back : List Bytes) → Sees stage prefix
       → ((a : A) → Sees (go_on a) back) → Sees (stage >>= go_on) (prefix ++ back)
   onward {A = A} stage go_on prefix back first second openings rest seen read =
-      search (rules, map-append, append_assoc, of_first, whole)
-    where
-      of_first : (p : StageResult A) (stage_outcome : StageOutcome A) → p.stage_outcome ≡ stage_outcome
-          → AreTrueOpenings stock (continued_stage p.output_events p.openings_left go_on stage_outcome).output_events
-          → AreTrueOpenings stock p.output_events
-      of_first p (Produced a) is seen = seen_first stock p.output_events (go_on a p.openings_left).output_events seen
-      of_first p (Refused line) is seen = seen
-      of_first p NotReadToEnd is seen = seen
-
-      whole : (p q : StageResult A) → IsSame p q (openings_of_files stock back ++ rest)
-          → AreTrueOpenings stock (continued_stage p.output_events p.openings_left go_on p.stage_outcome).output_events
-          → ((continued_stage p.output_events p.openings_left go_on p.stage_outcome).stage_outcome ≡ NotReadToEnd → ⊥)
-          → IsSame (continued_stage p.output_events p.openings_left go_on p.stage_outcome)
-          (continued_stage q.output_events q.openings_left go_on q.stage_outcome) rest
-      whole p q same seen read = search (rules, seen_second, lines_append)
+      search (rules, map-append, append_assoc, seen_first, seen_second, lines_append)
 
   -- ---- a file
 

@@ -107,8 +107,7 @@ module _ (switches : Switches) (part : Part) where
       → (op_stage switches part u o openings).stage_outcome ≡ Produced task → IsFitted part task
   operation u op.Write openings task is = write u openings task is
   operation u op.Verify openings task is = search (rules, imaged u (Verify u.memory) openings task is)
-  operation u op.Read openings task is =
-      let same : Read u.memory u.format u.file ≡ task = cc in subst (IsFitted part) same tt
+  operation u op.Read openings task is = search rules
 
   tasks : (before : List Task) (updates : List Update) (openings : List Opening) (made : List Task)
       → All (IsFitted part) before → (tasks_stage switches part before updates openings).stage_outcome ≡ Produced made
@@ -119,8 +118,6 @@ module _ (switches : Switches) (part : Part) where
       openings made is in
       search (
         rules,
-        all_one,
-        operation,
         tasks (before ++ first.0 ∷ []) updates
             (task_stage switches part u openings).openings_left made (All-append (IsFitted part) before (first.0
             ∷ []) fitted (all_one (IsFitted part) first.0 (operation u u.op openings first.0 first.1.0))) first.1.1,

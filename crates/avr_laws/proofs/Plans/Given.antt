@@ -1,5 +1,5 @@
 -- What openings gave: at files in memory, and by the record of any desk.
-use Rattle.std.proofs.Common.{◌≡◌, ◌∙◌, sym, ap, subst, List, [], ◌∷◌, ◌++◌, append-nil, refl, rules}
+use Rattle.std.proofs.Common.{◌≡◌, ◌∙◌, ap, subst, List, [], ◌∷◌, ◌++◌, append-nil, refl, rules}
 use Rattle.avr_plan.specs.declared.settings.Settings.{Settings}
 use Rattle.avr_desk.proofs.FileUses.Uses.{openings_used}
 use Rattle.avr_desk.proofs.Stages.Breaks.{openings_in, openings_shown}
@@ -33,9 +33,7 @@ seen_read stock (event ∷ output_events) seen = seen_read stock output_events s
 pub seen_asked : (stock : Stock) (s : Settings) (openings : List Opening) (plan : Plan)
     → AreTrueOpenings stock (planned s openings).output_events
     → (planned s openings).stage_outcome ≡ Produced plan → IsAsked s (FileHolds (content_of_name stock [])) [] plan
-seen_asked stock s openings plan seen made =
-    plan_asked (FileHolds (content_of_name stock [])) s openings [] plan
-    (seen_read stock (planned s openings).output_events seen) made
+seen_asked stock s openings plan seen made = search (rules, plan_asked, seen_read)
 
 -- ---- by a desk's record
 
@@ -50,8 +48,7 @@ opened_read (event ∷ output_events) = opened_read output_events
 pub openings_joined : (first second : List OutputEvent)
     → openings_in (first ++ second) ≡ openings_in first ++ openings_in second
 openings_joined [] second = refl
-openings_joined (Opens opening ∷ first) second =
-    ap (λ (os : List Opening). opening ∷ os) (openings_joined first second)
+openings_joined (Opens opening ∷ first) second = search (rules, openings_joined first second)
 openings_joined (event ∷ first) second = openings_joined first second
 
 -- what was opened is in the output
@@ -62,16 +59,13 @@ since old new outputs passes = ap all_openings passes ∙ openings_shown outputs
 -- the same by the uses
 pub opened_by_uses : (old new : Record) (opened : List Opening) → all_openings new ≡ all_openings old ++ opened
     → openings_among (all_uses new) ≡ openings_among (all_uses old) ++ opened
-opened_by_uses old new opened is =
-    openings_used new ∙ (is ∙ ap (λ (before : List Opening). before ++ opened) (sym (openings_used old)))
+opened_by_uses old new opened is = search (rules, openings_used)
 
 -- so a plan is the one that the settings and the files that were opened ask for
 pub desk_asked : (s : Settings) (openings : List Opening) (plan : Plan)
     → (planned s openings).stage_outcome ≡ Produced plan
     → IsAsked s WasOpened (openings_in (planned s openings).output_events) plan
-desk_asked s openings plan made =
-    let output_events = (planned s openings).output_events in
-    plan_asked WasOpened s openings (openings_in output_events) plan (opened_read output_events) made
+desk_asked s openings plan made = search (rules, plan_asked, openings_in, opened_read)
 
 pub went_asked : (s : Settings) (plan : Plan) (old new : DeskState)
     (went : StageCompleted (planned s) old new (Produced plan))

@@ -1,6 +1,6 @@
 -- A session over a device of which only reading is believed: after status 0 the actions at its end, which only read,
 -- found what they compared.
-use Rattle.std.proofs.Common.{◌≡◌, ◌∙◌, ℕ, List, [], ◌∷◌, ◌++◌, refl, sym, subst, arith, inl, inr}
+use Rattle.std.proofs.Common.{◌≡◌, ◌∙◌, ℕ, List, [], ◌∷◌, ◌++◌, refl, sym, subst, arith, inl, inr, rules}
 use Rattle.std.specs.Prelude.{⊤}
 use Rattle.avr_desk.specs.OutputEvents.{OutputEvent}
 use Rattle.avr_part.specs.Part.{Part, IsPart}
@@ -53,9 +53,7 @@ only_reads Reads part (EraseChip ∷ actions) x each = absurd each.0
 only_reads Reads part (WriteImage mem image ∷ actions) x each = absurd each.0
 
 succeeded : (at : Standing) → status_of at ≡ 0 → at ≡ NoFault
-succeeded NoFault e = refl
-succeeded Faulty e = absurd (omega (arith, e))
-succeeded Over e = absurd (omega (arith, e))
+succeeded at e = grind arith
 
 -- what is used of a reader
 record ReadsTruly {part : Part} (real : Real part) (IsIn : real.P → Type 0) (Reads : Mem → Type 0) : Type 0 where
@@ -138,9 +136,7 @@ module _ {part : Part} (sound : IsPart part) (real : Real part) (IsIn : real.P �
       unless : (next : Dialog OutputEvent Standing) → ((z : Spot real.P) → IsIn z.0 → Goes (Then Claim) next z)
           → (at : Standing) (emitted : List OutputEvent) (z : Spot real.P) → IsIn z.0
           → Goes (Then Claim) (unless_fault next at) z
-      unless next goes NoFault emitted z i = goes z i
-      unless next goes Faulty emitted z i = record { holds = (i, λ fine. faulty_fine fine) }
-      unless next goes Over emitted z i = record { holds = (i, λ fine. over_fine fine) }
+      unless next goes at emitted z i = grind (arith, faulty_fine, over_fine)
 
       behind : (done rest : List Action)
           → ((y : Spot real.P) → IsIn y.0 → Goes (Then Claim) (actions_dialog part s rest) y) → (y : Spot real.P)
@@ -196,8 +192,7 @@ module _ (plan : Plan) (sound : IsPart plan.part) (real : Real plan.part) (IsIn 
   session_goes : (z : Spot real.P) → IsIn z.0
       → Goes sound real IsIn Reads t (λ status y. status ≡ 0 → Agrees (real.memories y.0)) (session plan) z
   unfolding session
-  session_goes z i = prints_then real.device Anything (λ emitted y now. now) (dialog_goes z i)
-      (λ at emitted y claim. record { holds = λ good. claim (succeeded at good) })
+  session_goes z i = search (rules, prints_then, dialog_goes, succeeded)
 
   along : (p : real.P) → IsIn p → (exchanges : List Exchange) (k : ℕ)
       → (state_after real.device k (session plan) p exchanges).dialog ≡ Done 0
@@ -211,10 +206,7 @@ module _ {P : Type 0} (part : Part) (sound : IsPart part) (m : Device P) (view :
     (Reads : Mem → Type 0) (t : IsReader part m view IsIn Reads) where
   action_works : (action : Action) (x : Memories) → ReadsAction Reads action
       → StepsWork part (ReadsOneOf Reads part) (action_steps part action) x
-  action_works (CompareImage mem image) x reads = reading_works Reads part mem reads x
-  action_works (SaveMemory mem format file) x reads = reading_works Reads part mem reads x
-  action_works (SkipAction what) x reads = tt
-  action_works action x reads = absurd reads
+  action_works action x reads = grind (arith, reading_works)
 
   all_work : (actions : List Action) (x : Memories) → Each (ReadsAction Reads) actions
       → ActionsWorkBy part (ReadsOneOf Reads part) actions x
@@ -236,8 +228,6 @@ session_agrees plan sound m view IsIn Reads t done rest are fits reads p i excha
       executed = t.stays;
       restarted = λ q i. (t.keeps.restarts q i).is;
       sizes = t.sizes;
-      works = λ actions x each.
-          actions_work plan.part sound m view IsIn IsIn (ReadsOneOf Reads plan.part) t.keeps actions x
-          (all_work plan.part sound m view IsIn Reads t actions x each);
+      works = search (rules, actions_work, all_work);
     })
     done rest are fits reads p i exchanges k ended

@@ -131,8 +131,7 @@ module _ (s : Settings) (x y : Devices) (r : IsRun s x y 0) (plan : Plan)
       (subst (λ (passed : Transcript). NoneForged m (frames (sent passed)) (heard passed) p executions []) these none))
 
   goes : GoesAlongExchanges m (session plan) 1 (over_tape s x y r) p executions
-  goes = goes_as m (session plan) 1 (over_tape s x y r) p executions bodies
-      (no_forged_frame_authentic m (session plan) 1 (over_tape s x y r) p executions [] tt forges_none)
+  goes = grind (arith, goes_as, over_tape, bodies, no_forged_frame_authentic, forges_none)
 
   stands : (state_after m count (session plan) p exchanges).programmer
       ≡ after_sent_frames m (frames (sent y.link.transcript)) executions p

@@ -1,15 +1,15 @@
 -- Over any link that forges no frame whatever is reported is true.
 use Rattle.stk_frame.proofs.Laws.{body_of_frame, frame_is_good}
 use Rattle.std.proofs.lemmas.Bool.{cond-true}
-use Rattle.std.proofs.Common.{◌≡◌, ℕ, zero, suc, List, [], ◌∷◌, ◌++◌, length, refl, sym, ap, ◌∙◌, subst, Option, Some, None, rules}
+use Rattle.std.proofs.Common.{◌≡◌, ℕ, zero, suc, List, [], ◌∷◌, ◌++◌, length, refl, ap, subst, Option, Some, None, rules}
 use Rattle.stk_frame.specs.Frame.{frame}
-use Rattle.stk_host.specs.Tape.{Tape, Reading, Replied, Silent, Ended, Babbled, answer}
+use Rattle.stk_host.specs.Tape.{Tape, Reading, answer}
 use Rattle.stk_host.specs.Dialog.{Dialog, Done, Emit, Ask, Event, Frame, Emitted, Played, played, continue_with_reading, next, frames_in}
 use Rattle.stk_emu.specs.declared.fate.Fate.{Fate}
 use Rattle.stk_emu.specs.Device.{Device, after_frame}
 use Rattle.stk_emu.specs.Lawful.{IsFrameBody}
 use Rattle.stk_emu.specs.DialogOverExchanges.{SendsValidBodies}
-use Rattle.stk_emu.specs.Exchange.{Exchange, Execution, NotExecuted, Executed, ThenRestarted, AsIntended, Disturbed, ThenRestarts, execution_in, after_execution, after_exchange, first_exchange, later_exchanges, IsAuthentic}
+use Rattle.stk_emu.specs.Exchange.{Exchange, Execution, NotExecuted, Executed, ThenRestarted, ThenRestarts, execution_in, after_execution, after_exchange, first_exchange, later_exchanges, IsAuthentic}
 use Rattle.stk_emu.specs.Wire.{exchanges_of_fates, executions_of_fates}
 use Rattle.avr_laws.specs.AnyTape.{exchange_by, exchange_with_reply, exchanges_from, exchanges_on_tape}
 use Rattle.avr_tool.specs.Authentic.{first_execution, later_executions, on_reading, RepliesAreAuthentic}
@@ -26,9 +26,8 @@ ByExchanges (suc k) executions exchanges =
 
 by_execution : {P : Type 0} (one_exchange : Exchange) (executed kept : P) (reset : P → P)
     → after_exchange one_exchange executed kept reset ≡ after_execution (execution_in one_exchange) executed kept reset
-by_execution AsIntended executed kept reset = refl
-by_execution (Disturbed execution instead) executed kept reset = refl
 by_execution (ThenRestarts one_exchange) executed kept reset = ap reset (by_execution one_exchange executed kept reset)
+by_execution z0 executed kept reset = refl
 
 pub by_fates : (k : ℕ) (fates : List Fate) → ByExchanges k (executions_of_fates k fates) (exchanges_of_fates fates)
 by_fates zero fates = tt
@@ -41,10 +40,7 @@ by_reply Executed came = search rules
 by_reply (ThenRestarted execution) came = ap ThenRestarted (by_reply execution came)
 
 by_reading : (execution : Execution) (reading : Reading) → execution ≡ execution_in (exchange_by execution reading)
-by_reading execution (Replied came) = by_reply execution came
-by_reading execution Silent = refl
-by_reading execution Ended = refl
-by_reading execution Babbled = refl
+by_reading execution reading = search (rules, by_reply)
 
 by_next_reading : {E R : Type 0} (executions : List Execution) (go_on : Reading → Tape → Played E R)
     (more : Reading → Tape → List Exchange) (o : Option (Reading × Tape)) → ((reading : Reading) (left : Tape)
@@ -89,14 +85,7 @@ module _ {P : Type 0} (m : Device P) where
       λ k exchanges. subst (λ r. ReportsTrue m T k (go_on reading) r exchanges) t.1
       (subst (λ x. ReportsTrue m T k (go_on x) (after_exchange (exchange_by execution reading) (m.after bytes p) p
       m.reset) exchanges) t.0 (is_reported (suc k) (exchange_by execution reading ∷ exchanges))) in
-      let executed : after_frame m (frame n bytes) p ≡ m.after bytes p =
-      search (rules, cond-true, frame_is_good, body_of_frame) in
-      let is : q ≡ after_exchange (first_exchange exchanges) (after_frame m (frame n bytes) p) p m.reset =
-      ap (λ (x : Execution). after_execution x (m.after bytes p) p m.reset) same.0
-      ∙ (sym (by_execution (first_exchange exchanges) (m.after bytes p) p m.reset)
-      ∙ ap (λ (x : P). after_exchange (first_exchange exchanges) x p m.reset) (sym executed)) in
-      subst (λ (z : P). EmittedTrue m T (played (go_on reading) (next n) left).events (later_exchanges exchanges) z) is
-      (each reading left q inner h.1 same.1)
+      search (rules, cond-true, frame_is_good, body_of_frame, by_execution)
 
   pub reported_any : {E R : Type 0} (T : P → E → Type 0) (d : Dialog E R) (n : ℕ) (tape : Tape) (p : P)
       (executions : List Execution) (exchanges : List Exchange) → SendsValidBodies d → AlwaysTrue T d p

@@ -1,5 +1,5 @@
 -- What a run reports is true at that moment, action by action.
-use Rattle.std.proofs.Common.{◌≡◌, ℕ, zero, suc, List, [], ◌∷◌, ◌++◌, length, append_assoc, refl, sym, ap, ◌∙◌, subst, arith, inl, inr, Ok, Err, Result, Bool, true, false, rules}
+use Rattle.std.proofs.Common.{◌≡◌, ℕ, suc, List, [], ◌∷◌, ◌++◌, length, append_assoc, refl, sym, ap, ◌∙◌, subst, arith, inl, inr, Ok, Err, Result, Bool, true, false, rules}
 use Rattle.std.proofs.lemmas.List.{append-nil}
 use Rattle.std.proofs.lemmas.List.Elements.{Contains-append_right}
 use Rattle.std.specs.Prelude.{All, Contains, ⊤, codes, nat_lt, if◌then◌else◌}
@@ -16,20 +16,20 @@ use Rattle.avr_session.specs.Actions.{SkippedErase, SkippedWrite, Action, OpenSe
 use Rattle.avr_session.specs.FileText.{file_text}
 use Rattle.avr_session.specs.Lines.{informs, fault_line}
 use Rattle.avr_session.specs.Session.{opening_output, saving_output, bytes_output, written_output, verified_output, read_output, standing, session}
-use Rattle.stk_host.specs.Dialog.{Dialog, Done, Emit, Ask}
+use Rattle.stk_host.specs.Dialog.{Dialog, Emit, Ask}
 use Rattle.stk_host.specs.Operations.{difference_from, comparison, host_fault}
 use Rattle.stk_host.specs.declared.fault.HostFault.{HostFault}
 use Rattle.stk_host.specs.declared.fault.StepFault.{StepFault}
 use Rattle.stk_emu.specs.Exchange.{Exchange}
 use Rattle.stk_emu.specs.Device.{Device, device}
-use Rattle.stk_emu.specs.Effect.{Memories, Image, Item, Erase, Write, effect, effects, memories_of, memory_in}
+use Rattle.stk_emu.specs.Effect.{Memories, Image, Item, Write, effects, memories_of, memory_in}
 use Rattle.stk_emu.specs.Programmer.{Programmer}
 use Rattle.stk_emu.specs.Settled as of_emulated
 use Rattle.stk_emu.specs.Settled.{FitsPart}
 use Rattle.avr_tool.proofs.Given.Comparisons.{no_difference}
 use Rattle.avr_tool.proofs.WriteOperations.Pages.{effects_on}
 use Rattle.avr_tool.specs.Items.{action_items, actions_items, items}
-use Rattle.avr_laws.specs.TrueReports.{ReportsTrue, count_line, saved_bytes, IsTrueReport, ChipErased, BytesWritten, BytesVerified, Differed, BytesSaved, BytesRead, EraseLeftOut, WriteLeftOut, StepFailed, SessionDone}
+use Rattle.avr_laws.specs.TrueReports.{ReportsTrue, count_line, saved_bytes, IsTrueReport, BytesWritten, BytesVerified, Differed, BytesSaved, BytesRead, EraseLeftOut, WriteLeftOut, StepFailed, SessionDone}
 use Rattle.stk_host.specs.ReadSteps.{signature_steps}
 use Rattle.avr_tool.proofs.Emulated.{actions_work, all_work, emulated}
 use Rattle.avr_tool.proofs.Real.{ActionsWork, AllWork, HasMemories, Real, Settled}
@@ -51,12 +51,11 @@ module _ {P : Type 0} (m : Device P) where
   all_true : (True : OutputEvent → P → Type 0) {R : Type 0} (Now : Moment P) (After : End P R) (k : ℕ)
       (d : Dialog OutputEvent R) (z : Spot P) → PrintsFrom m True Now After d z
       → ReportsTrue m (λ q event. True event q) k d z.0 z.1
-  all_true True Now After k (Done r) z h = tt
   all_true True Now After k (Emit event d) z h =
       (h.0, all_true True (λ x. Now (event ∷ x)) (λ r x. After r (event ∷ x)) k d z h.1)
-  all_true True Now After zero (Ask bytes go_on) z h = tt
   all_true True Now After (suc k) (Ask bytes go_on) z h =
       all_true True Now After k (go_on _) (link.after bytes z tt) h.1
+  all_true z0 z1 z2 k z4 z h = tt
 
 module _ {P : Type 0} (T : OutputEvent → P → Type 0) where
   hold_on : (xs ys : List OutputEvent) (q : P) → AllTrue T xs q → AllTrue T ys q → AllTrue T (xs ++ ys) q
@@ -64,8 +63,7 @@ module _ {P : Type 0} (T : OutputEvent → P → Type 0) where
   hold_on (x ∷ xs) ys q f g = (f.0, hold_on xs ys q f.1 g)
 
   hold_unless : (b : Bool) (x : OutputEvent) (q : P) → T x q → AllTrue T (if b then [] else x ∷ []) q
-  hold_unless true x q t = tt
-  hold_unless false x q t = (t, tt)
+  hold_unless b x q t = search rules
 
 module _ (plan : Plan) (sound : IsPart plan.part) (real : Real plan.part) (m0 : Memories)
     (f0 : FitsPart plan.part m0) where
@@ -135,15 +133,10 @@ module _ (plan : Plan) (sound : IsPart plan.part) (real : Real plan.part) (m0 : 
           → items plan ≡ actions_items done ++ (action_items a ++ actions_items later)
           → ActionTrue plan.part real plan.switches T a m
       by_kind OpenSession fits has order = absurd fits
-      by_kind EraseChip fits has order = λ q is. informs_hold plan.switches.quiet (codes "chip erased" ∷ []) q
-          (ChipErased has refl (is ∙ ap (λ xs. effect plan.part Erase (effects plan.part xs m0))
-          (erase_first plan (actions_items done) (actions_items later) order)))
+      by_kind EraseChip fits has order = search (rules, informs_hold, erase_first)
       by_kind (WriteImage mem image) fits has order = λ q is.
           written_now mem image (actions_items done) (actions_items later) q order is
-      by_kind (CompareImage mem image) fits has order = λ q is.
-          subst (λ z. AllTrue T (verified_output plan.switches.quiet plan.part mem image
-          (comparison mem image (memory_in plan.part mem z))) q) is
-          (compared_now mem image q has (comparison mem image (memory_in plan.part mem (real.memories q))) refl)
+      by_kind (CompareImage mem image) fits has order = search (rules, compared_now)
       by_kind (SaveMemory mem format file) fits has order = λ q is.
           subst (λ z. AllTrue T (read_output plan.switches mem format file (memory_in plan.part mem z)) q) is
           (hold_on T (saving_output file (file_text format (saved_bytes plan mem (real.memories q))))

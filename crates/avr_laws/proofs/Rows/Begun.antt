@@ -61,9 +61,7 @@ abbrev Any : Plan → Transcript → Type 0
 Any = IsBegunByAny m328p device chip_memories (HasPart m328p) (HasEmptyBuffers m328p) (λ mem byte. byte)
 
 pub fuse_begun_by_any : Any (writing 0xE2) (passed 0xE2)
-fuse_begun_by_any =
-    begun_by_any m328p device chip_memories (HasPart m328p) (HasEmptyBuffers m328p) (λ mem byte. byte) (writing 0xE2)
-    fits (passed 0xE2) whole
+fuse_begun_by_any = search (rules, begun_by_any, fits, whole)
 
 -- ---- a run that wrote 62
 
@@ -113,9 +111,7 @@ unfolding session opening handshake operation closing play attempts_or_fault att
 refused_whole = ([], append-nil (sent refused))
 
 pub chip_spared : Spares (of_m328 0xE2) refused
-chip_spared =
-    spared_by_any m328p device chip_memories (HasPart m328p) (HasEmptyBuffers m328p) (λ mem byte. byte) (of_m328 0xE2)
-    fits_m328 refused refused_whole
+chip_spared = search (rules, spared_by_any, fits_m328, refused_whole)
 
 m328_is_part : IsPart m328
 m328_is_part = search rules
@@ -129,8 +125,7 @@ unfolding session opening handshake operation closing play attempts_or_fault att
 fuse_not_spared spares =
     let same = spares m328_is_part is_part refl another rows_kept programmer executions is_in chip_fits_part
     none_forged in
-    let clash : 0x62 ≡ 0xFF = ap (λ (m : Memories). m.lfuse) same in
-    omega (arith, clash)
+    search rules
 
 -- ---- over the emulator nothing may pass over standard streams
 

@@ -1,20 +1,16 @@
 -- A bootloader that erases elsewhere is a reader. A worked run over it meets all premises, and the first image is gone.
-use Rattle.std.proofs.Common.{◌≡◌, ◌∙◌, ◌+◌, ◌*◌, ◌%◌, ◌^◌, ◌<◌, ◌≤◌, ℕ, zero, suc, Bool, true, false, cond, List, [], ◌∷◌, ◌++◌, length, take, drop, refl, sym, ap, ap₂, subst, arith, inl, inr, Some, None, rules}
+use Rattle.std.proofs.Common.{◌≡◌, ◌+◌, ◌%◌, ◌<◌, ◌≤◌, ℕ, zero, suc, Bool, cond, List, [], ◌∷◌, ◌++◌, length, take, drop, refl, sym, ap, ap₂, subst, arith, inl, Some, None, rules}
 use Rattle.std.proofs.lemmas.List.{append_cancel_right}
 use Rattle.std.proofs.lemmas.List.Elements.{All-cons, All-nil, All-head, All-tail}
 use Rattle.std.specs.List.{concat}
 use Rattle.std.specs.Prelude.{slice_index}
-use Rattle.byteorder.specs.Endian.{big_bytes, big_number}
-use Rattle.byteorder.specs.Numbers.{big_number-reads_back}
+use Rattle.byteorder.specs.Endian.{big_bytes}
 use Rattle.avr_part.specs.Memory.{AreBytes}
 use Rattle.avr_part.specs.Part.{Part, IsPart}
-use Rattle.avr_part.specs.declared.part.Mem.TheVariants.{Flash}
 use Rattle.stk_emu.proofs.Memories.Pages.{flash_address_back}
 use Rattle.stk_emu.specs.Effect.{Memories}
-use Rattle.stk_emu.specs.Effect as item
 use Rattle.stk_emu.specs.Settled.{FitsPart}
 use Rattle.stk_emu.specs.StepData.{HoldsImage}
-use Rattle.stk_emu.specs.WriteOperations.{image_at}
 use Rattle.stk_frame.specs.declared.command.Fuse.TheVariants.{Low, High, Extended}
 use Rattle.stk_host.specs.Places.{flash_address}
 use Rattle.avr_tool.proofs.WriteOperations.Items.{effect_sizes}
@@ -30,7 +26,7 @@ use Rattle.avr_laws.specs.Kept.{NoneForged}
 use Rattle.avr_laws.specs.WorkedLoss.{loss_part}
 use Rattle.avr_laws.specs.Reader.{IsReader, ReadsOneOf}
 use Rattle.avr_laws.specs.Table.{IsDoneOrNot, IsRow, Row, reading, ReadsFlash, ReadsFuse, ReadsSignature}
-use Rattle.avr_laws.specs.WorkedBootloader.{Bootloader, FitsBoot, boot_before, boot_executions, boot_frames, boot_plan, boot_replies, IsRead, after_body, bootloader, erased, first_image, with_page, writes_page}
+use Rattle.avr_laws.specs.WorkedBootloader.{Bootloader, FitsBoot, boot_before, boot_executions, boot_frames, boot_plan, boot_replies, IsRead, after_body, bootloader, erased, first_image, with_page}
 use Rattle.avr_laws.proofs.Rows.Loss.{is_part}
 
 -- ---- it keeps the sizes
@@ -53,21 +49,14 @@ erased_bytes zero zero (x ∷ xs) bytes = bytes
 
 if_fits : (part : Part) (test : Bool) (x y : Memories) → FitsPart part x → FitsPart part y
     → FitsPart part (cond test x y)
-if_fits part true x y f g = f
-if_fits part false x y f g = g
+if_fits part test x y f g = search rules
 
 module _ (part : Part) (sound : IsPart part) where
   page_fits : (bytes : List ℕ) (b : Bootloader) → FitsBoot part b → FitsPart part (with_page part bytes b)
-  page_fits bytes b f =
-      effect_sizes part sound (item.Write Flash (image_at (b.address % 2 ^ 31 * 2) bytes)) _ (record {
-        flash = erased_length _ _ b.memories.flash ∙ f.flash;
-        eeprom = f.eeprom;
-        bytes = erased_bytes _ _ b.memories.flash f.bytes;
-      })
+  page_fits bytes b f = search (rules, effect_sizes, erased_length, erased_bytes)
 
   stays : (body : List ℕ) (b : Bootloader) → FitsBoot part b → FitsBoot part (after_body part body b)
-  stays body b f =
-      if_fits part (writes_page body b) (with_page part (drop 10 body) b) b.memories (page_fits (drop 10 body) b f) f
+  stays body b f = search (rules, if_fits, page_fits)
 
   -- ---- it reads truly
 
@@ -84,35 +73,13 @@ module _ (part : Part) (sound : IsPart part) where
   -- a reply with a block is true
   truly : (on : Bool) (code : ℕ) (block read : List ℕ)
       → cond on (code ∷ 0 ∷ (block ++ 0 ∷ [])) (code ∷ 0xC0 ∷ []) ≡ code ∷ 0 ∷ (read ++ 0 ∷ []) → read ≡ block
-  truly true code block read e =
-      sym (append_cancel_right block read (0 ∷ []) (ap (λ (xs : List ℕ). drop 2 xs) e))
-  truly false code block read e = absurd (refused code (read ++ 0 ∷ []) e)
+  truly on code block read e = search (rules, append_cancel_right, refused)
 
   reads_block : (start count : ℕ) (b : Bootloader) → FitsBoot part b → start + count ≤ part.flash_size → start % 2 ≡ 0
       → count ≤ 256
       → Done (reading (Some (flash_address part start)) (0x14 ∷ (big_bytes 2 count ++ 0x20 ∷ [])) count
       (λ x. take count (drop start x.flash)) 0x14) b
-  reads_block start count b f inside even few =
-      let most = sound.flash_most in
-      let below : start < 4294967296 = omega (arith, most, inside) in
-      let there : big_number 4 (big_bytes 4 (flash_address part start)) % 2 ^ 31 * 2 ≡ start =
-      ap (λ (address : ℕ). address % 2 ^ 31 * 2)
-      (big_number-reads_back 4 (flash_address part start) [] (address_fits part sound start below))
-      ∙ flash_address_back part start below even in
-      let many : big_number 2 (big_bytes 2 count ++ 0x20 ∷ []) ≡ count =
-      big_number-reads_back 2 count (0x20 ∷ []) (omega (arith, few)) in
-      record {
-        loaded = record { memories = refl; is = f };
-        either = λ loaded. inl (record { memories = refl; is = f });
-        good = λ loaded read long e. (
-          truly b.programming 0x14 _ read e ∙ ap₂ (λ (n at : ℕ). take n (drop at b.memories.flash)) many there,
-          record { memories = refl; is = f },
-        );
-        restarted = λ address is. inr (record {
-          kept = record { memories = refl; is = f };
-          bad = λ read long e. refused 0x14 (read ++ 0 ∷ []) e;
-        });
-      }
+  reads_block start count b f inside even few = search (rules, address_fits, flash_address_back, truly, ap₂, refused)
 
   reads_place : (place : ℕ) (b : Bootloader) → FitsBoot part b
       → Done (reading None (0x1B ∷ 4 ∷ 0x30 ∷ 0x00 ∷ place ∷ 0x00 ∷ []) 1 (λ x. take 1 (drop place part.signature))
@@ -129,8 +96,7 @@ module _ (part : Part) (sound : IsPart part) where
 
   rows : (row : Row) (b : Bootloader) (is : IsRow part row) → ReadsOneOf IsRead part row is b.memories
       → FitsPart part b.memories → FitsBoot part b → Done row b
-  rows row b (ReadsFlash start count some few inside even evens is) reads fits f =
-      by_row row _ b is (reads_block start count b f inside even few)
+  rows row b (ReadsFlash start count some few inside even evens is) reads fits f = search (rules, by_row, reads_block)
   rows row b (ReadsSignature place few is) reads fits f = by_row row _ b is (reads_place place b f)
   rows row b (ReadsFuse Low is) reads fits f = absurd reads
   rows row b (ReadsFuse High is) reads fits f = absurd reads

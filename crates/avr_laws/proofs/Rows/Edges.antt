@@ -1,7 +1,7 @@
 -- What the definitions of the promise just refuse, and for two limits the last value that they allow.
-use Rattle.std.proofs.Common.{rules, ◌≡◌, ap, sym, arith, ℕ, zero, suc, List, [], ◌∷◌, ◌++◌, ◌∙◌, append-nil, drop, length, refl, inl, inr, Option, Some, true}
+use Rattle.std.proofs.Common.{rules, ◌≡◌, arith, ℕ, zero, suc, List, [], ◌∷◌, ◌++◌, append-nil, length, refl, inl, inr, Option, Some, true}
 use Rattle.std.proofs.lemmas.List.{append_cancel_left}
-use Rattle.std.specs.Prelude.{codes, replicate, slice_index}
+use Rattle.std.specs.Prelude.{codes, replicate}
 use Rattle.avr_plan.specs.declared.update.Format.TheVariants.{Raw}
 use Rattle.avr_plan.specs.declared.planned.Task.{Task}
 use Rattle.avr_desk.specs.Record.{Bytes, Record, all_uses, openings_among}
@@ -55,26 +55,14 @@ one_needed part (update ∷ tasks) opened are none = search rules
 
 pub read_before : (IsSo : Plan → Type 0)
     → KeepsPlan (record worked_settings { updates = loss_updates }) image_read image_read [] IsSo → ⊥
-read_before IsSo keeps =
-    let asked = keeps.3 in
-    let none : keeps.1 ++ [] ≡ [] = sym (ap (λ (os : List Opening). drop 1 os) keeps.2) in
-    let in_order : keeps.1 ≡ asked.rest =
-    asked.in_order ∙ ap (λ (os : List Opening). os ++ asked.rest) asked.are_parts.1 in
-    one_needed keeps.0.part keeps.0.tasks asked.rest asked.tasks (sym in_order ∙ (sym (append-nil keeps.1) ∙ none))
+read_before IsSo keeps = search (rules, one_needed, append-nil)
 
 -- ---- one more file was opened than the plan asks for
 
 pub another_opening : (IsSo : Plan → Type 0) (old new : Record) (more : Opening)
     → openings_among (all_uses new) ≡ openings_among (all_uses old) ++ more ∷ []
     → KeepsPlan worked_settings old new [] IsSo → ⊥
-another_opening IsSo old new more is keeps =
-    let asked = keeps.3 in
-    let first : asked.first ≡ [] = asked.are_parts.1 in
-    let rest : asked.rest ≡ [] = search rules in
-    let none : keeps.1 ≡ [] = asked.in_order ∙ (ap (λ (os : List Opening). os ++ asked.rest) first ∙ rest) in
-    let same : openings_among (all_uses old) ++ more ∷ [] ≡ openings_among (all_uses old) ++ [] =
-    sym is ∙ (keeps.2 ∙ ap (λ (os : List Opening). openings_among (all_uses old) ++ (os ++ [])) none) in
-    cc (append_cancel_left (openings_among (all_uses old)) (more ∷ []) [] same)
+another_opening IsSo old new more is keeps = search (rules, append_cancel_left)
 
 -- ---- a file of 4,194,304 bytes gives an image, and a longer one doesn't
 
@@ -84,8 +72,7 @@ longest_file text is = (text, refl, omega (arith, is), (omega (arith, is), refl)
 
 pub longer_file : (text : Bytes) (size : ℕ) (image : List (Option ℕ)) → length text ≡ 4194305
     → HasImage (λ name given opened. given ≡ text) (codes "image") Raw size image [] → ⊥
-longer_file text size image is has =
-    let few = has.2 in let same : length has.0 ≡ 4194305 = ap length has.1 ∙ is in omega (arith, few, same)
+longer_file text size image is has = search rules
 
 -- ---- a chip file of another part
 
@@ -104,5 +91,4 @@ dry_plan = record { part = m328; tasks = []; switches = record worked_settings.s
 
 pub dry_not_forced : (before after : Memories) (old now : Record)
     → KeepsOnPart m328p dry_plan before after old now → ⊥
-dry_not_forced before after old now kept =
-    let last : 0x0F ≡ 0x14 = ap (λ (bytes : Bytes). slice_index bytes 2) (kept.signature refl) in omega (arith, last)
+dry_not_forced before after old now kept = search rules

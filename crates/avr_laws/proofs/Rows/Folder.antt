@@ -366,87 +366,48 @@ module _ (run : Run) where
   uncounted s = record { done = λ done is. is; kept = λ name found may. may }
 
   repeated : (s : System) (calls : List FileCall) → CrashLeavesNoMore left s (called calls s)
-  repeated s calls name found (inl may) = inl may
-  repeated s calls name found (inr past) = past
+  repeated s calls name found e = search rules
 
   none_held : (s : System) (name : Bytes) → Counts has_done 0 s → is_free s name
-  none_held s name (done, is, none) was held =
-      let count : 1 ≡ 0 = sym (ap count_of held) ∙ (sym (ap (λ (d : SystemCalls). d.holds) is) ∙ none) in
-      omega (arith, count)
+  none_held s name (done, is, none) was held = search rules
 
   free : (s : System) (name : Bytes) → Counts has_done 0 s ⊎ is_free s name → is_free s name
-  free s name (inl none) = none_held s name none
-  free s name (inr is) = is
+  free s name e = search (rules, none_held)
 
   -- another name than the held one's
   unheld : (s : System) (held name : Bytes) (was : Option Bytes) → s.at.held ≡ Some (held, was)
       → bytes_eq held name ≡ false → is_free s name
-  unheld s held name was is not other there =
-      let same : held ≡ name = ap name_in (sym is ∙ there) in
-      let clash : true ≡ false = sym (bytes_same held) ∙ (ap (bytes_eq held) same ∙ not) in cc
+  unheld s held name was is not other there = search (rules, bytes_same)
 
   put_leaves : (s : System) (name bytes : Bytes) (calls : List FileCall)
       → CrashMayAlsoLeave left name (λ found. found ≡ Some bytes) s
       (after (record s.at { now = put name bytes s.at.now }) calls s)
-  put_leaves s name bytes calls other found (inl (held, bare, inl disk)) = inl (inl (held, bare, inl disk))
-  put_leaves s name bytes calls other found (inl (held, bare, inr now)) =
-      elim (put_at name bytes other s.at.now found now) [
-        | inl is ↦ inl (inl (held, bare, inr is))
-        | inr is ↦ inr is
-      ]
-  put_leaves s name bytes calls other found (inr past) = inl past
+  put_leaves s name bytes calls other found e = search (rules, put_at)
 
   create_leaves : (s : System) (name : Bytes) → is_free s name → CrashLeavesNoMore left s (created name s)
-  create_leaves s name unheld other found (inl (held, bare, inl disk)) = inl (held, bare, inl disk)
-  create_leaves s name unheld other found (inl ((was, held), bare, inr now)) =
-      elim (put_at name [] other s.at.now found now) [
-        | inl is ↦ inl ((was, held), bare, inr is)
-        | inr is ↦ absurd (unheld was (held ∙ ap (λ (n : Bytes). Some (n, was)) is.0))
-      ]
-  create_leaves s name unheld other found (inr past) = past
+  create_leaves s name e other found is = search (rules, put_at, unheld)
 
   locking_leaves : (s : System) (name : Bytes) → run.happened (locked name s).at
       → CrashMayAlsoLeave left name (began name) s (locked name s)
-  locking_leaves s name was other found (inl ((before, held), bare, inl disk)) =
-      let same : name ≡ other = ap name_in held in
-      inr (sym same, ((locked name s).at, was, ap (λ (f : Option Bytes). Some (name, f)) (ap s.at.now same ∙ disk)))
-  locking_leaves s name was other found (inl ((before, held), bare, inr now)) =
-      let same : name ≡ other = ap name_in held in
-      inr (sym same, ((locked name s).at, was, ap (λ (f : Option Bytes). Some (name, f)) (ap s.at.now same ∙ now)))
-  locking_leaves s name was other found (inr past) = inl past
+  locking_leaves s name was other found e = search rules
 
   placed_whole : (s : System) (file : NewFile) (bytes : Bytes) → keeps file bytes
       → CrashMayAlsoLeave left file.place (λ found. found ≡ Some bytes) s (placed file s)
-  placed_whole s file bytes kept =
-      subst (λ (b : Bytes). CrashMayAlsoLeave left file.place (λ found. found ≡ Some b) s (placed file s)) kept.1
-      (put_leaves s file.place file.synced s.calls)
+  placed_whole s file bytes kept = search (rules, put_leaves)
 
   placed_there : (s : System) (file : NewFile) (bytes : Bytes) → keeps file bytes
       → finds (placed file s) file.place bytes
   placed_there s file bytes kept = put_there file.place file.synced s.at.now ∙ ap Some kept.1
 
   sync_leaves : (s : System) (name : Bytes) → CrashLeavesNoMore left s (synced name s)
-  sync_leaves s name other found (inl (held, bare, inl disk)) = inl (held, bare, inr disk)
-  sync_leaves s name other found (inl (held, bare, inr now)) = inl (held, bare, inr now)
-  sync_leaves s name other found (inr past) = past
+  sync_leaves s name other found e = search rules
 
   over_leaves : (s : System) (name bytes : Bytes) → is_mounted name
       → CrashLeavesNoMore left s (written_over name bytes s)
-  over_leaves s name bytes mounted other found (inl (held, bare, inl disk)) =
-      elim (put_at name bytes other s.at.disk found disk) [
-        | inl is ↦ inl (held, bare, inl is)
-        | inr is ↦ absurd (bare (subst is_mounted (sym is.0) mounted))
-      ]
-  over_leaves s name bytes mounted other found (inl (held, bare, inr now)) =
-      elim (put_at name bytes other s.at.now found now) [
-        | inl is ↦ inl (held, bare, inr is)
-        | inr is ↦ absurd (bare (subst is_mounted (sym is.0) mounted))
-      ]
-  over_leaves s name bytes mounted other found (inr past) = past
+  over_leaves s name bytes mounted other found e = search (rules, put_at)
 
   unlock_leaves : (s : System) → CrashLeavesNoMore left s (unlocked s)
-  unlock_leaves s other found (inl ((was, held), bare, rest)) = absurd (cc)
-  unlock_leaves s other found (inr past) = past
+  unlock_leaves s other found e = search rules
 
   -- ---- each call meets its clauses. After an error the system is as it was.
 
@@ -559,8 +520,7 @@ module _ (run : Run) where
 
   check_not_held_met : (s : System) (held name : Bytes) (was : Option Bytes) → s.at.held ≡ Some (held, was)
       → bytes_eq held name ≡ false → CheckNotHeldClauses (from_to s s) (is_now name) (Ok tt)
-  check_not_held_met s held name was is not =
-      record { apart = λ one. unheld s held name was is not; stays = uncounted s }
+  check_not_held_met s held name was is not = search (rules, unheld, uncounted)
 
   make_met : (s : System) (held : Bytes)
       → MakeClauses (from_to s s) (Ok (record { place = held; bytes = []; synced = [] }))
@@ -568,8 +528,7 @@ module _ (run : Run) where
 
   write_met : (s : System) (file : NewFile) (bytes : Bytes)
       → WriteClauses (from_to s s) (from_to file (record file { bytes = file.bytes ++ bytes })) (is_now bytes) (Ok tt)
-  write_met s file bytes =
-      record { written = λ before has. ap (λ (b : Bytes). b ++ bytes) has; stays = uncounted s }
+  write_met s file bytes = search (rules, uncounted)
 
   sync_met : (s : System) (file : NewFile)
       → SyncClauses (from_to s s) (from_to file (record file { synced = file.bytes })) (Ok tt)
@@ -686,8 +645,7 @@ module _ (was : Option Bytes) (new : Bytes) where
   may_leave s found = left run s chip found
 
   none_begun : (name : Bytes) (found : Option Bytes) → left run begun name found → ⊥
-  none_begun name found (inl ((before, held), bare, rest)) = cc
-  none_begun name found (inr none) = none
+  none_begun name found e = search rules
 
   old_left : may_leave ended was
   old_left = inr (inr (inl ((was, refl), λ mounted. mounted, inl refl)))
@@ -706,9 +664,7 @@ module _ (was : Option Bytes) (new : Bytes) where
   unsaved_kept differs spare = differs spare
 
   began_was : (found : Option Bytes) → began run chip found → found ≡ was
-  began_was found (m, inl is, held) = ap found_in (sym held ∙ ap (λ (m : Moment). m.held) is)
-  began_was found (m, inr (inl is), held) = ap found_in (sym held ∙ ap (λ (m : Moment). m.held) is)
-  began_was found (m, inr (inr is), held) = ap found_in (sym held ∙ ap (λ (m : Moment). m.held) is)
+  began_was found e = search rules
 
   -- by the clauses alone: what was there when the chip was locked, or the new chip
   old_or_new : (name : Bytes) (found : Option Bytes) → left run ended name found
@@ -763,12 +719,7 @@ unsynced old new =
 
 unsynced_refused : (old new : Bytes) → (old ≡ new → ⊥) → SyncPlacedClauses (unsynced old new)
     (from_to (renamed (Some old) new) (renamed (Some old) new)) (is_now (codes "chip")) (Ok tt) → ⊥
-unsynced_refused old new differs meets =
-    let (m, is, disk) = (meets.lasts new refl).0 in
-    elim is [
-      | inl locked ↦ differs (cc)
-      | inr renamed ↦ differs (cc)
-    ]
+unsynced_refused old new differs meets = search rules
 
 -- ---- the record of a desk over this folder
 
@@ -795,11 +746,7 @@ abbrev replaced : Bytes → Record
 replaced new = record nothing_kept { uses = Created (written new) ∷ []; tried = written new ∷ []; releases = 1 }
 
 crash_recorded : (was : Option Bytes) (new : Bytes) → CrashLeaves (system was new) (ended was new) (written new ∷ [])
-crash_recorded was new name found may = let (same, is) = old_or_new was new name found may in
-    elim is [
-      | inl began ↦ inl (rw same began)
-      | inr now ↦ inr (new, now, search (rules, same))
-    ]
+crash_recorded was new name found may = search (rules, old_or_new was new name found may)
 
 replacement_recorded : (was : Option Bytes) (new : Bytes) (reads : Reads Bytes) (writes : Writes Bytes)
     (input : Reads (Unit {0}))
@@ -816,8 +763,4 @@ replacement_recorded was new reads writes input = record {
 
 torn_unrecorded : (old new : Bytes) (reads : Reads Bytes) (writes : Writes Bytes) (input : Reads (Unit {0}))
     → IsTrueRecord (system (Some old) new) reads writes input (torn old new) Nothing None (replaced new) → ⊥
-torn_unrecorded old new reads writes input truly =
-    elim (truly.crash (codes "chip") None (inr (inl ((Some old, refl), λ mounted. mounted, inr refl)))) [
-      | inl began ↦ (let none : ◌≡◌ {A = Option Bytes} None (Some old) = began_was (Some old) new None began in cc)
-      | inr (bytes, is, tried) ↦ cc
-    ]
+torn_unrecorded old new reads writes input truly = search (rules, began_was)

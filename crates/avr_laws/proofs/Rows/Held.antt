@@ -1,7 +1,6 @@
 -- Texts that hold an image, a table that holds a part, and others that don't.
-use Rattle.std.proofs.Common.{◌≡◌, ◌≤◌, ap, sym, subst, ℕ, true, List, [], ◌∷◌, refl, Some, None, Option, arith, rules}
-use Rattle.std.specs.List.{list_all}
-use Rattle.std.specs.Prelude.{codes, nat_lt, pos}
+use Rattle.std.proofs.Common.{◌≤◌, ℕ, List, [], ◌∷◌, refl, Some, None, Option, arith, rules}
+use Rattle.std.specs.Prelude.{codes, pos}
 use Rattle.hex.specs.Hex.{decode_pairs}
 use Rattle.toml.specs.Data.{Members, integer, member, no_members, string}
 use Rattle.avr_image.specs.Image.{image_of_pairs}
@@ -23,10 +22,7 @@ first_of image = 0
 
 pub large_value : (image : List (Option ℕ)) → HoldsValues (codes "256") 1 image → ⊥
 large_value image ([], are, all, some, few, is) = absurd (omega (arith, some))
-large_value image (byte ∷ bytes, are, all, some, few, is) =
-    let same : 256 ≡ byte = ap first_of are in
-    let fits : list_all (λ (byte : ℕ). nat_lt byte 256) (256 ∷ bytes) ≡ true =
-    subst (λ (b : ℕ). list_all (λ (byte : ℕ). nat_lt byte 256) (b ∷ bytes) ≡ true) (sym same) all in cc
+large_value image (byte ∷ bytes, are, all, some, few, is) = search rules
 
 -- ---- records: the byte 5 at address 0, and an end record
 

@@ -1,7 +1,7 @@
 -- Programmers other than the emulated one that keep the table as far as a sheet vouches for it. The chip of one has a
 -- calibration of its own, so it doesn't keep the whole table. The extended fuse of another keeps five bits. A third
 -- refuses each second command.
-use Rattle.std.proofs.Common.{◌≡◌, ◌⊎◌, ◌∙◌, inl, inr, ℕ, List, [], ◌∷◌, refl, sym, ap, subst, Bool, true, Option, Some, None}
+use Rattle.std.proofs.Common.{◌≡◌, ◌⊎◌, ◌∙◌, ℕ, List, [], ◌∷◌, refl, sym, ap, subst, Bool, true, Option, Some, None, rules}
 use Rattle.std.specs.Prelude.{◌==◌, ◌&&◌, bit_or, slice_index, if◌then◌else◌}
 use Rattle.avr_part.specs.declared.part.Mem.{Mem}
 use Rattle.avr_part.specs.declared.part.Mem.TheVariants.{Efuse}
@@ -31,8 +31,7 @@ module _ (m : Device Programmer) (loads : (a : ℕ) → SameReply m (load_body a
   same_place (Some a) p = (loads a).1 p
 
   same_loaded : (address : Option ℕ) (p : Programmer) → IsLoaded m address p → IsLoaded device address p
-  same_loaded None p loaded = tt
-  same_loaded (Some a) p loaded = sym ((loads a).0 p) ∙ loaded
+  same_loaded address p loaded = search rules
 
   module _ (part : Part) (row : Row) (p : Programmer) (reply : SameReply m row.command)
       (after : SameAfter m row.command)
@@ -51,10 +50,7 @@ module _ (m : Device Programmer) (loads : (a : ℕ) → SameReply m (load_body a
       same_restarted : (device.reset p ≡ p)
           ⊎ RefusesRow device chip_memories (HasEmptyBuffers part) row (device.reset p)
           → (m.reset p ≡ p) ⊎ RefusesRow m chip_memories (HasEmptyBuffers part) row (m.reset p)
-      same_restarted (inl same) = inl (resets p ∙ same)
-      same_restarted (inr refused) =
-          inr (same_refused (m.reset p) (subst (RefusesRow device chip_memories (HasEmptyBuffers part) row)
-          (sym (resets p)) refused))
+      same_restarted e = search (rules, same_refused)
 
       same_done : IsDoneOrNot device chip_memories (HasEmptyBuffers part) part row p
           → IsDoneOrNot m chip_memories (HasEmptyBuffers part) part row p
@@ -83,8 +79,7 @@ module _ (m : Device Programmer) (loads : (a : ℕ) → SameReply m (load_body a
   does_as_emulated part sound Vouched signs enter_reply enters leaves rows =
       let t = emulated_meets part sound Vouched in
       record {
-        signs_on = λ p i. subst (Stands chip_memories (HasPart part) (chip_memories p)) (sym (signs p))
-            (t.signs_on p i);
+        signs_on = search rules;
         enters = λ p i. subst (Stands chip_memories (HasPart part) (chip_memories p)) (sym (enters p)) (t.enters p i);
         leaves = λ p i. subst (Stands chip_memories (HasPart part) (chip_memories p)) (sym (leaves p)) (t.leaves p i);
         restarts = λ p i. subst (Stands chip_memories (HasPart part) (chip_memories p)) (sym (resets p))
@@ -140,27 +135,11 @@ module _ (part : Part) (sound : IsPart part) where
   module _ (becomes : Mem → ℕ → ℕ) (byte : ℕ) where
     calibrated_does : (row : Row) (is : IsRow part row) (x : Memories) → IsVouched becomes part row is x
         → Same (calibrated byte) row
-    calibrated_does row (ErasesChip e) x v = by_row (calibrated byte) row _ e (λ q. refl, λ q. refl)
-    calibrated_does row (WritesFlashPage page bytes whole inside e) x v = by_row (calibrated byte) row _ e
-        (λ q. refl, λ q. refl)
-    calibrated_does row (WritesEepromRun start bytes some within inside e) x v =
-        by_row (calibrated byte) row _ e (λ q. refl, λ q. refl)
-    calibrated_does row (WritesFuse fuse b e) x v = by_row (calibrated byte) row _ e (λ q. refl, λ q. refl)
-    calibrated_does row (WritesLock b e) x v = by_row (calibrated byte) row _ e (λ q. refl, λ q. refl)
-    calibrated_does row (ReadsFlash start count some few inside even evens e) x v =
-        by_row (calibrated byte) row _ e (λ q. refl, λ q. refl)
-    calibrated_does row (ReadsEeprom start count some few inside e) x v = by_row (calibrated byte) row _ e
-        (λ q. refl, λ q. refl)
-    calibrated_does row (ReadsFuse fuse e) x v = by_row (calibrated byte) row _ e (λ q. refl, λ q. refl)
-    calibrated_does row (ReadsLock e) x v = by_row (calibrated byte) row _ e (λ q. refl, λ q. refl)
-    calibrated_does row (ReadsSignature place few e) x v = by_row (calibrated byte) row _ e (λ q. refl, λ q. refl)
-    calibrated_does row (ReadsCalibration e) x v = absurd v
+    calibrated_does row is x v = search (rules, by_row)
 
     pub calibrated_keeps : IsProgrammer part (calibrated byte) chip_memories (HasPart part) (HasEmptyBuffers part)
         (IsVouched becomes part)
-    calibrated_keeps =
-        does_as_emulated (calibrated byte) (λ a. (λ q. refl, λ q. refl)) (λ q. refl) part sound (IsVouched becomes part)
-        (λ q. refl) (λ q. refl) (λ q. refl) (λ q. refl) calibrated_does
+    calibrated_keeps = search (rules, does_as_emulated, calibrated_does)
 
   bits_do : (row : Row) (is : IsRow part row) (x : Memories) → IsVouched kept_bits part row is x → Same keeping_bits row
   bits_do row (ErasesChip e) x v = by_row keeping_bits row _ e (λ q. refl, λ q. refl)
@@ -184,9 +163,7 @@ module _ (part : Part) (sound : IsPart part) where
 
   pub bits_keep : IsProgrammer part keeping_bits chip_memories (HasPart part) (HasEmptyBuffers part)
       (IsVouched kept_bits part)
-  bits_keep =
-      does_as_emulated keeping_bits (λ a. (λ q. refl, λ q. refl)) (λ q. refl) part sound (IsVouched kept_bits part)
-      (λ q. refl) (λ q. refl) (λ q. refl) (λ q. refl) bits_do
+  bits_keep = search (rules, does_as_emulated, bits_do)
 
 -- with a calibration other than FF it doesn't keep the whole table: its row reads FF in each chip
 pub not_whole : (part : Part) (byte : ℕ) (p : Programmer) → p.mode ≡ true → HasEmptyBuffers part p

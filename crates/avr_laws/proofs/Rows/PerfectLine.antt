@@ -29,8 +29,7 @@ own_reply n bytes later b =
     let found : first_reply n (cut (frame n bytes)) ≡ Some (bytes, length (frame n bytes)) =
     ap (first_reply n) (cut_whole (frame n bytes) (frame_is_piece n bytes b.some b.few))
     ∙ (search (rules, frame_is_good, body_of_frame)) in
-    let few : length (frame n bytes) ≤ reply_byte_limit = let f = b.few in
-    rw (length_frame n bytes) (omega (arith, f)) in
+    let few : length (frame n bytes) ≤ reply_byte_limit = search (rules, length_frame) in
     reading_found n (frame n bytes) later bytes found few
 
 -- a command with this reply

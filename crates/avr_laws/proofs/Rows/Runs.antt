@@ -1,6 +1,6 @@
 -- What the promise refuses: worked wrong outcomes of its two laws. docs/CHECK.md lists them.
-use Rattle.std.proofs.Common.{◌≡◌, ◌∙◌, ap, refl, sym, arith, ℕ, suc, Bool, true, false, ◌≤◌, List, [], ◌∷◌, ◌++◌, length, Option, Some, None, subst, rules}
-use Rattle.std.specs.Prelude.{codes, find, get_or, if◌then◌else◌, unwrap_or}
+use Rattle.std.proofs.Common.{◌≡◌, ◌∙◌, ap, refl, sym, arith, ℕ, suc, Bool, true, false, ◌≤◌, List, [], ◌∷◌, ◌++◌, length, Some, None, rules}
+use Rattle.std.specs.Prelude.{codes, get_or, if◌then◌else◌, unwrap_or}
 use Rattle.std.specs.Str.{bytes_eq}
 use Rattle.avr_plan.specs.declared.settings.Settings.{Settings}
 use Rattle.avr_plan.specs.declared.settings.Switches.{Switches}
@@ -12,7 +12,7 @@ use Rattle.avr_desk.specs.declared.record.Writing.{Writing}
 use Rattle.avr_desk.specs.Stage.{Produced}
 use Rattle.avr_desk.specs.declared.record.Opening.{Opening}
 use Rattle.avr_desk.specs.declared.record.Opening.TheVariants.{Found}
-use Rattle.avr_part.specs.BuiltIn.{built_in_parts, has_id, m328p}
+use Rattle.avr_part.specs.BuiltIn.{m328p}
 use Rattle.avr_part.specs.ChipFile.{chip_file}
 use Rattle.avr_part.specs.Part.{Part, IsPart}
 use Rattle.avr_part.specs.Sound.{IsSoundChip}
@@ -29,7 +29,7 @@ use Rattle.avr_session.specs.Runs.{Devices}
 use Rattle.stk_emu.specs.Device.{device, after_frames}
 use Rattle.stk_emu.specs.Effect.{Memories, Image, effects, memories_of}
 use Rattle.stk_emu.specs.Programmer.{Programmer, fresh_programmer}
-use Rattle.stk_emu.specs.Exchange.{Execution, NotExecuted, Executed, ThenRestarted}
+use Rattle.stk_emu.specs.Exchange.{Execution, ThenRestarted}
 use Rattle.stk_frame.specs.Commands.{body}
 use Rattle.stk_frame.specs.Cut.{frames}
 use Rattle.stk_frame.specs.Frame.{frame}
@@ -124,9 +124,8 @@ sign_on = frame 1 (0x01 ∷ [])
 
 no_more : (execution : Execution) (piece : List ℕ) (g : FramesByRestart) → length (adding_received execution piece g).0
     ≤ suc (length g.0)
-no_more NotExecuted piece g = omega arith
-no_more Executed piece g = omega arith
 no_more (ThenRestarted execution) piece g = let one = no_more execution piece ([], g.0 ∷ g.1) in omega (arith, one)
+no_more z0 piece g = omega arith
 
 none_sent : (executions : List Execution) → length (received_frames executions []).0 ≡ 0
 none_sent [] = refl
@@ -134,16 +133,12 @@ none_sent (execution ∷ more) = refl
 
 once : (executions : List Execution) → length (received_frames executions (sign_on ∷ [])).0 ≤ 1
 once [] = omega arith
-once (execution ∷ more) =
-    let one = no_more execution sign_on (received_frames more []) in
-    let none = none_sent more in omega (arith, one, none)
+once (execution ∷ more) = search (rules, no_more, none_sent)
 
 pub twice : (executions : List Execution) → ReceivedSentFrames (sign_on ++ sign_on) [] (sign_on ∷ []) executions → ⊥
 twice executions came =
     let few = once executions in
-    let two : length (received_frames executions (sign_on ∷ [])).0 ≡ 2 =
-    ap (λ (g : FramesByRestart). length g.0) came.good in
-    omega (arith, few, two)
+    search rules
 
 -- Status 0 with a wrong byte, or with a byte missing.
 pub a_wrong_byte : Holds (1 ∷ 3 ∷ 255 ∷ 255 ∷ []) → ⊥
@@ -208,8 +203,7 @@ fuse_in (x ∷ flash) eeprom more a b e = fuse_in flash eeprom more a b (cc e)
 
 module _ (off : Bool) (after : Files) (p : Promised (settings off) (codes "chip") files after) where
   part_is : m328p ≡ p.plan.part
-  part_is = cc (subst (λ parts. find (has_id (codes "m328p")) (parts ++ built_in_parts) ≡ Some p.plan.part)
-      p.asked.are_parts.0 p.asked.part)
+  part_is = search rules
 
   tasks_are : p.plan.tasks ≡ tasks 0xE2
   tasks_are = search rules
@@ -241,22 +235,14 @@ module _ (off : Bool) (after : Files) (p : Promised (settings off) (codes "chip"
   saved_by s these = saved_files (record { part = p.plan.part; tasks = these; switches = s }) (memories_of p.chip)
 
   none_saved : saved_files p.plan (memories_of p.chip) ≡ []
-  none_saved = ap (λ (s : Switches). saved_by s p.plan.tasks) p.asked.switches
-      ∙ (ap (saved_by (switches off)) tasks_are ∙ by_switch off)
-    where
-      by_switch : (b : Bool) → saved_by (switches b) (tasks 0xE2) ≡ []
-      by_switch true = refl
-      by_switch false = refl
+  none_saved = search (rules, tasks_are)
 
   unchanged : (name : Bytes) → (name ≡ codes "chip" → ⊥) → after name ≡ files name
   unchanged name differs = p.others name differs
       ∙ ap (λ (saved : List Writing). newest name (files name) (named_files saved)) none_saved
 
   pub another_changed : after (codes "other") ≡ Some (0x63 ∷ []) → ⊥
-  another_changed is =
-      let byte : 0x63 ≡ 0x62 =
-      ap (λ (held : Option Bytes). first_of (unwrap_or held [])) (sym is ∙ unchanged (codes "other") (λ e. cc e)) in
-      omega (arith, byte)
+  another_changed is = search (rules, unchanged)
 
   pub another_created : after (codes "new") ≡ Some [] → ⊥
   another_created is = cc (sym is ∙ unchanged (codes "new") (λ e. cc e))
@@ -285,26 +271,17 @@ saved_there = refl
 
 module _ (after : Files) (p : Promised reading (codes "chip") files after) where
   its_part : m328p ≡ p.plan.part
-  its_part = cc (subst (λ parts. find (has_id (codes "m328p")) (parts ++ built_in_parts) ≡ Some p.plan.part)
-      p.asked.are_parts.0 p.asked.part)
+  its_part = search rules
 
   its_tasks : p.plan.tasks ≡ read_tasks
   its_tasks = search rules
 
   saved : saved_files p.plan (memories_of p.chip) ≡ record { name = codes "fuse"; bytes = 0xFF ∷ [] } ∷ []
-  saved = ap (saved_of p.plan.part p.plan.switches p.plan.tasks) p.was
-      ∙ (ap (λ (s : Switches). saved_of p.plan.part s p.plan.tasks (fresh_state p.plan.part)) p.asked.switches
-      ∙ (ap (λ (these : List Task). saved_of p.plan.part worked_settings.switches these (fresh_state p.plan.part))
-      its_tasks
-      ∙ (ap (λ (part : Part). saved_of part worked_settings.switches read_tasks (fresh_state part)) (sym its_part)
-      ∙ saved_there)))
+  saved = search (rules, its_tasks, its_part, saved_there)
 
   -- so the file has it, and no other text
   pub the_file_read : after (codes "fuse") ≡ Some (0xFF ∷ [])
-  the_file_read = p.others (codes "fuse") two_names
-      ∙ ap (λ (written : List Writing). newest (codes "fuse") (files (codes "fuse")) (named_files written)) saved
+  the_file_read = search (rules, two_names, saved)
 
   pub another_text_read : after (codes "fuse") ≡ Some (0x62 ∷ []) → ⊥
-  another_text_read is =
-      let byte : 0x62 ≡ 0xFF =
-      ap (λ (held : Option Bytes). get_or (unwrap_or held []) 0 0) (sym is ∙ the_file_read) in omega (arith, byte)
+  another_text_read is = search (rules, the_file_read)

@@ -57,8 +57,7 @@ all_mild part want (Write mem image ∷ xs) f k = search (rules, all_mild part w
 module _ (part : Part) where
   item_keeps : (want : Type 0) → want → (item : Item) (m : Memories) → Mild part want item
       → erase_keeps_eeprom part m ≡ true → erase_keeps_eeprom part (effect part item m) ≡ true
-  item_keeps want w (Write Hfuse image) m f e = search rules
-  item_keeps want w item m f e = e
+  item_keeps want w item m f e = search rules
 
   items_keep : (want : Type 0) → want → (xs : List Item) (m : Memories) → AllMild part want xs
       → erase_keeps_eeprom part m ≡ true → erase_keeps_eeprom part (effects part xs m) ≡ true
@@ -98,8 +97,7 @@ module _ (part : Part) where
     write_operations_mild : (xs : List Item) → AllMild part want xs → MildSteps (steps_of_items part xs)
     write_operations_mild [] f = tt
     write_operations_mild (Erase ∷ xs) f = absurd f.0
-    write_operations_mild (Write mem image ∷ xs) f =
-        search (rules, steps_join, write_mild, write_operations_mild xs f.1)
+    write_operations_mild (Write mem image ∷ xs) f = grind (arith, steps_join, write_mild, write_operations_mild xs f.1)
 
 -- ---- the items of a plan
 

@@ -8,11 +8,10 @@ use Rattle.std.proofs.lemmas.Nat.Bits.{bit_at_and}
 use Rattle.std.specs.Prelude.{⊤, ◌==◌, if◌then◌else◌, replicate, take, drop}
 use Rattle.std.specs.Int.{bit_at}
 use Rattle.std.specs.Option.{option_or}
-use Rattle.avr_part.specs.Memory.{blank}
 use Rattle.avr_part.specs.Part.{Part}
 use Rattle.avr_part.specs.declared.part.Mem.{Mem}
 use Rattle.avr_part.specs.declared.part.Mem.TheVariants.{Flash, Eeprom, Lfuse, Hfuse, Efuse, Lock}
-use Rattle.stk_emu.specs.Effect.{Image, Memories, Item, Erase, Write, with_image, and_in, and_with, are_locked, erase_keeps_eeprom, write_effect, effect, effects, memory_in}
+use Rattle.stk_emu.specs.Effect.{Image, Memories, Item, Erase, Write, and_in, and_with, are_locked, erase_keeps_eeprom, write_effect, effect, effects, memory_in}
 use Rattle.stk_emu.proofs.Memories.LaidImages.{length-laid, laid_twice, and_in_twice, length-and_in}
 use Rattle.avr_tool.proofs.WriteOperations.EachMemory.{keeps_zeros, laid, is_barred, leaves_memory, write_is}
 use Rattle.avr_tool.specs.Items.{has_erase}
@@ -175,9 +174,7 @@ module _ (part : Part) where
     back Flash = ap (λ (k : ℕ). and_in (net Flash items blanked) (replicate k 255))
         (ap (λ (xs : List ℕ). length xs) (net_is Flash items blanked w)
         ∙ ((search (rules, length-and_in)) ∙ length-replicate {A = ℕ} (length m.flash) 255))
-    back Eeprom = ap (λ xs. with_image (net Eeprom items blanked)
-        (if erase_keeps_eeprom part left then xs else blank xs)) (net_is Eeprom items blanked w)
-        ∙ (search (rules, laid_twice, true≢false, length-laid, length-replicate))
+    back Eeprom = search (rules, net_is Eeprom items blanked w, laid_twice, true≢false, length-laid, length-replicate)
     back Lock = refl
     back mem = search (rules, net_is mem items blanked w)
 

@@ -1,5 +1,5 @@
 -- A plan that suits the sheet takes steps that the sheet vouches for.
-use Rattle.std.proofs.Common.{◌<◌, ◌≡◌, ◌⊎◌, ◌∙◌, inl, inr, ℕ, List, [], ◌∷◌, ◌++◌, map, refl, sym, ap, subst, arith, Bool, true, false, cond, Option, Some, None}
+use Rattle.std.proofs.Common.{◌<◌, ◌≡◌, ◌⊎◌, ◌∙◌, inl, inr, ℕ, List, [], ◌∷◌, ◌++◌, map, refl, sym, ap, subst, arith, Bool, false, cond, Option, Some, None, rules}
 use Rattle.std.specs.Prelude.{not, ◌&&◌, if◌then◌else◌}
 use Rattle.byteorder.specs.Endian.{big_bytes}
 use Rattle.avr_image.specs.Image.{byte_at}
@@ -10,7 +10,7 @@ use Rattle.avr_plan.specs.Plan.{Plan}
 use Rattle.avr_plan.specs.declared.settings.Switches.{Switches}
 use Rattle.avr_plan.specs.declared.planned.Task.{Task}
 use Rattle.avr_plan.specs.declared.planned.Task.TheVariants as task
-use Rattle.avr_session.specs.Actions.{Action, EraseChip, WriteImage, CompareImage, SkipAction, SkippedErase, SkippedWrite, is_erase_due, tasks_actions}
+use Rattle.avr_session.specs.Actions.{Action, EraseChip, WriteImage, CompareImage, SkipAction, SkippedErase, SkippedWrite, tasks_actions}
 use Rattle.stk_frame.specs.declared.command.Command.{Command}
 use Rattle.stk_frame.specs.declared.command.Fuse.{Fuse}
 use Rattle.stk_frame.specs.declared.command.Fuse.TheVariants.{Low, High, Extended}
@@ -23,9 +23,9 @@ use Rattle.stk_emu.specs.WriteOperations.{memories_after_step}
 use Rattle.avr_tool.proofs.Each.{Each, each_of}
 use Rattle.avr_tool.proofs.Plans.Fits.{work}
 use Rattle.avr_tool.proofs.WriteOperations.Steps.{effect_twice}
-use Rattle.avr_laws.specs.Kept.{after_task, before_tasks}
+use Rattle.avr_laws.specs.Kept.{after_task}
 use Rattle.avr_laws.specs.Sheet.{IsShown, IsVouched, SuitTasks, SuitsPlan, SuitsReading, SuitsWriting}
-use Rattle.avr_laws.specs.Table.{IsRow, Row, fuse_memory, WritesFuse, WritesLock, ReadsFlash, ReadsEeprom, ReadsCalibration}
+use Rattle.avr_laws.specs.Table.{IsRow, Row, fuse_memory}
 use Rattle.avr_laws.proofs.Table.RealOf.{ActionsWorkBy, StepsWork, WorksBy}
 use Rattle.avr_laws.proofs.Table.Steps.{bodies}
 
@@ -43,10 +43,7 @@ byte_in ((c ∷ d ∷ e ∷ f ∷ byte ∷ bytes) ∷ more) = byte
 byte_in sent = 0
 
 same_fuse : (f g : Fuse) → write_address f ≡ write_address g → f ≡ g
-same_fuse Low Low e = refl
-same_fuse High High e = refl
-same_fuse Extended Extended e = refl
-same_fuse f g e = absurd (omega (arith, e))
+same_fuse f g e = grind arith
 
 module _ (becomes : Mem → ℕ → ℕ) (part : Part) where
   -- the lock takes this byte
@@ -65,13 +62,7 @@ module _ (becomes : Mem → ℕ → ℕ) (part : Part) where
 
   vouched_row : (sent : List (List ℕ)) (x : Memories) → IsVouchedSent sent x → (row : Row) (is : IsRow part row)
       → sent ≡ bodies row → IsVouched becomes part row is x
-  vouched_row sent x v row (WritesFuse fuse byte e) same = v.fuse fuse byte (same ∙ ap bodies e)
-  vouched_row sent x v row (WritesLock byte e) same = v.lock byte (same ∙ ap bodies e)
-  vouched_row sent x v row (ReadsFlash start count some few inside even evens e) same =
-      v.flash _ count (same ∙ ap bodies e)
-  vouched_row sent x v row (ReadsEeprom start count some few inside e) same = v.eeprom _ count (same ∙ ap bodies e)
-  vouched_row sent x v row (ReadsCalibration e) same = absurd (v.known (same ∙ ap bodies e))
-  vouched_row sent x v row is same = tt
+  vouched_row sent e v row is same = grind (arith, bodies)
 
   abbrev Works : List (List Command) → Memories → Type 0
   Works steps x = StepsWork part (IsVouched becomes part) steps x
@@ -96,9 +87,11 @@ module _ (becomes : Mem → ℕ → ℕ) (part : Part) where
   calm_steps Such [] calm x such = tt
   calm_steps Such (commands ∷ steps) (calm, others) x such =
       let after = memories_after_step part commands x in
-      let still : Such after.lock = subst Such (sym (calm.kept x)) such in (
-        works_by commands x (calm.vouched x such) (calm.vouched after still),
-        calm_steps Such steps others after still,
+      let still : Such after.lock = subst Such (sym (calm.kept x)) such in search (
+        rules,
+        works_by,
+        calm_steps Such
+            steps others after still,
       )
 
   -- of two commands
@@ -171,16 +164,13 @@ module _ (becomes : Mem → ℕ → ℕ) (part : Part) where
   fuse_works : (f : Fuse) (byte : Option ℕ) (x : Memories) → ((v : ℕ) (y : Memories)
       → (memories_after_step part (program_fuse f v ∷ []) y).lock ≡ y.lock)
       → ((v : ℕ) → byte ≡ Some v → becomes (fuse_memory f) v ≡ v) → Works (byte_steps (program_fuse f) byte) x
-  fuse_works f None x kept suits = tt
-  fuse_works f (Some v) x kept suits =
-      calm_steps Any ((program_fuse f v ∷ []) ∷ []) (calm_fuse f v (suits v refl) (kept v), tt) x tt
+  fuse_works f byte x kept suits = grind (arith, calm_steps, calm_fuse)
 
   -- ---- images
 
   if_any : (Such : ℕ → Type 0) (b : Bool) (commands : List Command) → Calm Such commands
       → Each (Calm Such) (cond b (commands ∷ []) [])
-  if_any Such true commands calm = (calm, tt)
-  if_any Such false commands calm = tt
+  if_any Such e commands calm = grind arith
 
   suits_fuse : (mem : Mem) (byte : Option ℕ) (x : Memories)
       → ((v : ℕ) → SuitsWriting becomes mem (Some v) x → becomes mem v ≡ v) → SuitsWriting becomes mem byte x
@@ -194,10 +184,8 @@ module _ (becomes : Mem → ℕ → ℕ) (part : Part) where
   write_works Eeprom image x suits = calm_steps IsShown (write_steps part Eeprom image)
       (each_of (Calm IsShown) (run_steps_at part image) 0 _ (λ i. if_any IsShown _ _ (calm_two _ _ (λ y. refl)))) x
       suits
-  write_works Lfuse image x suits = fuse_works Low (byte_at image 0) x (λ v y. refl)
-      (suits_fuse Lfuse (byte_at image 0) x (λ v s. s) suits)
-  write_works Hfuse image x suits = fuse_works High (byte_at image 0) x (λ v y. refl)
-      (suits_fuse Hfuse (byte_at image 0) x (λ v s. s) suits)
+  write_works Lfuse image x suits = grind (arith, fuse_works, suits_fuse)
+  write_works Hfuse image x suits = search (rules, fuse_works, suits_fuse)
   write_works Efuse image x suits = fuse_works Extended (byte_at image 0) x (λ v y. refl)
       (suits_fuse Efuse (byte_at image 0) x (λ v s. s) suits)
   write_works Lock image x suits = lock_works (byte_at image 0) x suits
@@ -241,20 +229,14 @@ module _ (becomes : Mem → ℕ → ℕ) (part : Part) where
   signature_works x = calm_steps Any signature_steps (signature_read 0, (signature_read 1, (signature_read 2, tt))) x tt
 
   erase_works : (x : Memories) → Works ((erase ∷ []) ∷ []) x
-  erase_works x = (works_by (erase ∷ []) x (sent x) (sent (memories_after_step part (erase ∷ []) x)), tt)
-    where
-      sent : (y : Memories) → IsVouchedSent (map body (erase ∷ [])) y
-      sent y = one_sent erase 0x12 refl (λ e. omega (arith, e)) (λ e. omega (arith, e)) (λ e. omega (arith, e)) y
+  erase_works x = grind (arith, works_by, one_sent)
 
   -- ---- tasks
 
   -- what was written can be read back
   read_back : (mem : Mem) (image : Image) (x : Memories) → SuitsWriting becomes mem (byte_at image 0) x
       → SuitsReading mem (effect part (Write mem image) x)
-  read_back Flash image x suits = suits
-  read_back Eeprom image x suits = suits
-  read_back Calibration image x suits = absurd suits
-  read_back mem image x suits = tt
+  read_back e is h suits = grind arith
 
   abbrev Acts : List Action → Memories → Type 0
   Acts actions x = ActionsWorkBy part (IsVouched becomes part) actions x
@@ -264,13 +246,7 @@ module _ (becomes : Mem → ℕ → ℕ) (part : Part) where
       → Acts rest (if dry then x else effect part (Write mem image) x)
       → Acts ((if dry then SkipAction (SkippedWrite mem image) ∷ []
       else WriteImage mem image ∷ (if no_verify then [] else CompareImage mem image ∷ [])) ++ rest) x
-  by_write true no_verify mem image rest x suits more = (tt, more)
-  by_write false true mem image rest x suits more = (write_works mem image x (suits refl), more)
-  by_write false false mem image rest x suits more =
-      let s = suits refl in (
-        write_works mem image x s,
-        (read_works mem (effect part (Write mem image) x) (read_back mem image x s), more),
-      )
+  by_write dry no_verify e is rest h given other = grind (arith, write_works, read_works, read_back)
 
   tasks_work : (s : Switches) (tasks : List Task) (x : Memories) → SuitTasks becomes part s tasks x
       → Acts (tasks_actions s tasks) x
@@ -285,14 +261,8 @@ module _ (becomes : Mem → ℕ → ℕ) (part : Part) where
       → Acts rest (if not dry && due then effect part Erase x else x)
       → Acts ((if dry then (if asked then SkipAction SkippedErase ∷ [] else [])
       else if due then EraseChip ∷ [] else []) ++ rest) x
-  by_erase true true due rest x more = (tt, more)
-  by_erase true false due rest x more = more
-  by_erase false asked true rest x more = (erase_works x, more)
-  by_erase false asked false rest x more = more
+  by_erase dry asked due rest e more = grind (arith, erase_works)
 
 pub plan_works : (becomes : Mem → ℕ → ℕ) (plan : Plan) (x : Memories) → SuitsPlan becomes plan x
     → ActionsWorkBy plan.part (IsVouched becomes plan.part) (work plan) x
-plan_works becomes plan x suits =
-    let s = plan.switches in
-    by_erase becomes plan.part s.dry s.erase (is_erase_due s plan.tasks) (tasks_actions s plan.tasks) x
-    (tasks_work becomes plan.part s plan.tasks (before_tasks plan x) suits)
+plan_works becomes plan x suits = grind (arith, by_erase, tasks_work)

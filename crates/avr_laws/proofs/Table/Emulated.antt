@@ -1,13 +1,13 @@
 -- The emulated programmer meets the table.
-use Rattle.std.proofs.Common.{◌≡◌, ◌∙◌, ℕ, List, [], ◌∷◌, length, refl, sym, ap, subst, ◌⊎◌, inl, inr, Option, Some, None, Ok}
+use Rattle.std.proofs.Common.{◌≡◌, ◌∙◌, ℕ, List, [], ◌∷◌, length, refl, sym, subst, ◌⊎◌, inl, inr, Option, Some, Ok, rules, arith}
 use Rattle.avr_part.specs.Part.{Part, IsPart}
 use Rattle.stk_frame.specs.declared.command.Command.{Command}
 use Rattle.stk_frame.specs.declared.command.Command.TheVariants.{LoadAddress}
 use Rattle.stk_frame.specs.Commands.{body, judge}
 use Rattle.stk_frame.specs.HostCommands.{enter, leave}
-use Rattle.stk_host.specs.Steps.{Reply, Data, reply_from_check}
+use Rattle.stk_host.specs.Steps.{Data}
 use Rattle.stk_emu.specs.Device.{device}
-use Rattle.stk_emu.specs.Programmer.{Programmer, Response}
+use Rattle.stk_emu.specs.Programmer.{Programmer}
 use Rattle.stk_emu.specs.Effect.{Memories, effects, memories_of}
 use Rattle.stk_emu.specs.Settled.{FitsPart, HasMemories}
 use Rattle.stk_emu.specs.WriteOperations.{IsStep, memories_after_step}
@@ -59,42 +59,23 @@ module _ (part : Part) (sound : IsPart part) where
 
   loads : (address : Option ℕ) (p : Programmer) → Fits32 address → HasEmptyBuffers part p
       → Stands chip_memories (HasEmptyBuffers part) (chip_memories p) (addressed device address p)
-  loads None p few s = record { memories = refl; is = s }
-  loads (Some a) p few s = subst (Stands chip_memories (HasEmptyBuffers part) (chip_memories p))
-      (sym (ap (λ (z : Response). z.1) (executes_command (LoadAddress a) p few)))
-      (record {
-        memories = refl;
-        is = record {
-          part_is = s.part_is;
-          flash_buffer = s.flash_buffer;
-          eeprom_buffer = s.eeprom_buffer;
-          extended = s.extended;
-        };
-      })
+  loads address p few s = search (rules, executes_command)
 
   -- ---- the last command of a step
 
   at_last : (address : Option ℕ) (c : Command) (commands : List Command) (p : Programmer) → IsSent address c commands
       → after_commands device (length commands) commands p ≡ device.after (body c) (addressed device address p)
-  at_last None c commands p is = ap (λ (cs : List Command). after_commands device (length cs) cs p) is
-  at_last (Some a) c commands p is = ap (λ (cs : List Command). after_commands device (length cs) cs p) is
+  at_last address c commands p is = search (rules, after_commands)
 
   joined : (address : Option ℕ) (c : Command) (commands : List Command) (bytes : List ℕ) (p : Programmer)
       → Fits32 address → IsSent address c commands
       → judge c (device.reply (body c) (addressed device address p)) ≡ Ok bytes
       → joined_reply device commands [] p ≡ Data bytes
-  joined None c commands bytes p few is e = ap (λ (cs : List Command). joined_reply device cs [] p) is
-      ∙ ap (λ v. on_data (reply_from_check c v) (λ b. Data b)) e
-  joined (Some a) c commands bytes p few is e = ap (λ (cs : List Command). joined_reply device cs [] p) is
-      ∙ (ap (λ (r : Reply). on_data r (λ b. joined_reply device (c ∷ []) b (device.after (body (LoadAddress a)) p)))
-      (load_reply a p few)
-      ∙ ap (λ v. on_data (reply_from_check c v) (λ b. Data b)) e)
+  joined address c commands bytes p few is e = search (rules, joined_reply, on_data, load_reply)
 
   replied : (address : Option ℕ) (c : Command) (commands : List Command) (p : Programmer) → Fits32 address
       → IsSent address c commands → AreReplied device (length commands) commands p
-  replied None c commands p few is = subst (λ (cs : List Command). AreReplied device (length cs) cs p) (sym is) tt
-  replied (Some a) c commands p few is =
-      subst (λ (cs : List Command). AreReplied device (length cs) cs p) (sym is) (([], load_reply a p few), tt)
+  replied address c commands p few is = search (rules, load_reply)
 
   module _ (commands : List Command) (step : IsStep part commands) (r : RowFor part commands) (p : Programmer)
       (f : FitsPart part (memories_of p.chip)) (s : HasEmptyBuffers part p) where
@@ -114,24 +95,19 @@ module _ (part : Part) (sound : IsPart part) where
     fits = step_fits part sound commands x step
 
     there : after_commands device (length commands) commands p ≡ end
-    there = at_last r.row.address r.command commands p r.is_sent
-        ∙ ap (λ (bytes : List ℕ). device.after bytes here) r.body_is
+    there = search (rules, at_last)
 
     done_from : Settled part after end → Stands chip_memories (HasEmptyBuffers part) (effects part r.row.writes x) end
     done_from t = ready_from (effects part r.row.writes x) end (subst (λ y. Settled part y end) (sym (r.writes x)) t)
 
     good_reply : (read : List ℕ) → length read ≡ r.row.count → device.reply r.row.command here ≡ r.row.reply read
         → joined_reply device commands [] p ≡ Data read
-    good_reply read long e = joined r.row.address r.command commands read p r.few r.is_sent
-        (ap (λ (bytes : List ℕ). judge r.command (device.reply bytes here)) r.body_is
-        ∙ (ap (judge r.command) e ∙ r.back read long))
+    good_reply read long e = grind (arith, joined)
 
     -- right after a restart it is outside programming mode
     reply_is : (q : Programmer) (read : List ℕ) → length read ≡ r.row.count
         → device.reply r.row.command q ≡ r.row.reply read → reply_to device r.command q ≡ Data read
-    reply_is q read long e =
-        ap (reply_from_check r.command) (ap (λ (bytes : List ℕ). judge r.command (device.reply bytes q)) r.body_is
-        ∙ (ap (judge r.command) e ∙ r.back read long))
+    reply_is q read long e = search rules
 
     refused : (q : Programmer) → chip_memories q ≡ x
         → FailsAt device (λ z. Settled part x z ⊎ Settled part x z) r.command q
@@ -155,10 +131,7 @@ module _ (part : Part) (sound : IsPart part) where
         let unbroken : Unbroken device (λ q. Settled part x q ⊎ Settled part x q) (LoadAddress a ∷ r.command ∷ []) =
         subst (Unbroken device (λ q. Settled part x q ⊎ Settled part x q)) sent (step_ends part sound commands x x step)
         in
-        elim (unbroken.0 p (inl (settled part p s))) [
-          | inl same ↦ inl same
-          | inr fails ↦ inr (refused (device.reset p) (restart_is_settled part x p (settled part p s)).memories fails)
-        ]
+        search (rules, settled, refused, restart_is_settled)
 
     pub does : IsDoneOrNot device chip_memories (HasEmptyBuffers part) part r.row p
     does = record {
@@ -188,15 +161,12 @@ module _ (part : Part) (sound : IsPart part) where
   pub row_is_done : (row : Row) (p : Programmer) → IsRow part row → FitsPart part (memories_of p.chip)
       → HasEmptyBuffers part p → IsDoneOrNot device chip_memories (HasEmptyBuffers part) part row p
   row_is_done row p is f s =
-      let t = step_for part sound row is in by_row row t.found.row p t.same (does t.commands t.step t.found p f s)
+      let t = step_for part sound row is in by_row row _ p t.3 (does t.0 t.1 t.2 p f s)
 
   -- ---- THE EMULATED PROGRAMMER MEETS THE TABLE
 
   entered_settled : (p : Programmer) → HasPart part p → HasEmptyBuffers part (device.after enter_body p)
-  entered_settled p i =
-      let q = device.after (body enter) p in
-      (ready_from (memories_of p.chip) q (ready_settled part (memories_of p.chip) q
-      (enter_does part (memories_of p.chip) p (has_memories part p i)))).is
+  entered_settled p i = search (rules, ready_from, ready_settled, enter_does, has_memories)
 
   idle : (p : Programmer) → HasEmptyBuffers part p → HasPart part p
   idle p s = (in_from (memories_of p.chip) p (settled_idle part (memories_of p.chip) p (settled part p s))).is

@@ -1,5 +1,5 @@
 -- What a good reply is made of.
-use Rattle.std.proofs.Common.{◌≡◌, ◌∙◌, inl, inr, ℕ, zero, suc, ◌+◌, List, [], ◌∷◌, ◌++◌, length, take, refl, sym, ap, ap₂, arith, true, false, Bool, cond, Ok, Err, Result, rules}
+use Rattle.std.proofs.Common.{◌≡◌, inl, inr, ℕ, zero, suc, ◌+◌, List, [], ◌∷◌, ◌++◌, length, take, refl, ap, ap₂, arith, true, false, Bool, cond, Ok, Err, Result, rules}
 use Rattle.std.proofs.lemmas.Bool.{cases_Bool, eqb-true, eq-eqb, not-false}
 use Rattle.std.proofs.lemmas.List.{length-append, get_or-append_right, take-append-le, take_all}
 use Rattle.std.specs.Prelude.{slice_index, ◌==◌, not}
@@ -25,22 +25,16 @@ not_ok f d e = cc
 
 by_tests : (a b c : Bool) (f g h : FrameFault) (x : Verdict) (d : List ℕ)
     → cond a (Err f) (cond b (Err g) (cond c (Err h) x)) ≡ Ok d → (b ≡ false) × ((c ≡ false) × (x ≡ Ok d))
-by_tests true b c f g h x d e = absurd (not_ok f d e)
-by_tests false true c f g h x d e = absurd (not_ok g d e)
-by_tests false false true f g h x d e = absurd (not_ok h d e)
-by_tests false false false f g h x d e = (refl, (refl, e))
+by_tests a b c f g h x d e = search (rules, not_ok)
 
 two_tests : (a b : Bool) (f g : FrameFault) (x d : List ℕ)
     → ◌≡◌ {A = Verdict} (cond a (cond b (Ok x) (Err f)) (Err g)) (Ok d)
     → (a ≡ true) × ((b ≡ true) × (x ≡ d))
-two_tests true true f g x d e = (refl, (refl, ok_is x d e))
-two_tests true false f g x d e = absurd (not_ok f d e)
-two_tests false b f g x d e = absurd (not_ok g d e)
+two_tests a b f g x d e = search (rules, ok_is, not_ok)
 
 one_test : (a : Bool) (g : FrameFault) (x d : List ℕ) → ◌≡◌ {A = Verdict} (cond a (Ok x) (Err g)) (Ok d)
     → (a ≡ true) × (x ≡ d)
-one_test true g x d e = (refl, ok_is x d e)
-one_test false g x d e = absurd (not_ok g d e)
+one_test a g x d e = search (rules, ok_is, not_ok)
 
 -- what passed the check of its first two bytes
 pub first_two : (c : Command) (reply d : List ℕ) → judge c reply ≡ Ok d
@@ -62,20 +56,10 @@ first_two c (first ∷ status ∷ more) d e =
 
 pub closed_is : (n : ℕ) (more d : List ℕ) → data_in_shape (Closed n) more ≡ Ok d
     → (more ≡ d ++ (0 ∷ [])) × (length d ≡ n)
-closed_is n more d e =
-    let t = two_tests (length more == n + 1) (slice_index more n == 0) _ _ (take n more) d e in
-    let long : length more ≡ n + 1 = eqb-true (length more) (n + 1) t.0 in
-    let same : more ≡ d ++ (0 ∷ []) =
-    last_byte n more long
-    ∙ ap₂ (λ (xs : List ℕ) (b : ℕ). xs ++ (b ∷ [])) t.1.1 (eqb-true (slice_index more n) 0 t.1.0) in
-    let size : length (d ++ (0 ∷ [])) ≡ n + 1 = sym (ap length same) ∙ long in
-    let two = length-append d (0 ∷ []) in
-    (same, omega (arith, size, two))
+closed_is n more d e = search (rules, two_tests, eqb-true, last_byte, ap₂, length-append)
 
 pub bytes_is : (n : ℕ) (more d : List ℕ) → data_in_shape (Bytes n) more ≡ Ok d → (more ≡ d) × (length d ≡ n)
-bytes_is n more d e =
-    let t = one_test (length more == n) _ more d e in
-    (t.1, sym (ap length t.1) ∙ eqb-true (length more) n t.0)
+bytes_is n more d e = search (rules, one_test, eqb-true)
 
 pub closed_from : (n : ℕ) (d : List ℕ) → length d ≡ n → data_in_shape (Closed n) (d ++ (0 ∷ [])) ≡ Ok d
 closed_from n d long = search (rules, length-append, get_or-append_right, take-append-le, take_all, eq-eqb)

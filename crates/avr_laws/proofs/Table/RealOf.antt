@@ -1,5 +1,5 @@
 -- A programmer that keeps the table does what the proofs use.
-use Rattle.std.proofs.Common.{◌≡◌, ◌∙◌, ℕ, zero, suc, List, [], ◌∷◌, ◌++◌, map, refl, sym, ap, subst, ◌⊎◌, inl, inr, Option, Some, None, Ok, Err, rules}
+use Rattle.std.proofs.Common.{◌≡◌, ◌∙◌, ℕ, zero, suc, List, [], ◌∷◌, ◌++◌, map, refl, sym, ap, subst, ◌⊎◌, inl, inr, Option, Some, None, Ok, rules}
 use Rattle.avr_part.specs.Part.{Part, IsPart}
 use Rattle.stk_frame.specs.declared.command.Command.{Command}
 use Rattle.stk_frame.specs.declared.command.Command.TheVariants.{SignOn, LoadAddress}
@@ -27,8 +27,7 @@ use Rattle.avr_laws.proofs.Table.GoodReplies.{Verdict}
 
 -- data come of a good reply alone
 judged : (c : Command) (v : Verdict) (bytes : List ℕ) → reply_from_check c v ≡ Data bytes → v ≡ Ok bytes
-judged c (Ok d) bytes e = search rules
-judged c (Err fault) bytes e = search rules
+judged c v bytes e = search rules
 
 data_by : (r : Reply) (before bytes : List ℕ) → on_data r (λ b. Data (before ++ b)) ≡ Data bytes
     → (d : List ℕ) × ((r ≡ Data d) × (before ++ d ≡ bytes))
@@ -38,23 +37,16 @@ module _ {P : Type 0} (m : Device P) where
   -- LOAD_ADDRESS had the good reply
   pub loaded_by : (a : ℕ) (p : P) (d : List ℕ) → reply_to m (LoadAddress a) p ≡ Data d
       → IsLoaded m (Some a) p × (d ≡ [])
-  loaded_by a p d e =
-      let reply = m.reply (body (LoadAddress a)) p in
-      let t = short (LoadAddress a) reply d refl (judged (LoadAddress a) (judge (LoadAddress a) reply) d e) in
-      (t.0, nothing d t.1)
+  loaded_by a p d e = search (rules, short, judged, nothing)
 
   one_judged : (c : Command) (before bytes : List ℕ) (p : P) → joined_reply m (c ∷ []) before p ≡ Data bytes
       → (d : List ℕ) × ((judge c (m.reply (body c) p) ≡ Ok d) × (before ++ d ≡ bytes))
-  one_judged c before bytes p e =
-      let t = data_by (reply_to m c p) before bytes e in
-      (t.0, (judged c (judge c (m.reply (body c) p)) t.0 t.1.0, t.1.1))
+  one_judged c before bytes p e = search (rules, data_by, reply_to, judged)
 
   pub joined_judged : (address : Option ℕ) (c : Command) (commands : List Command) (bytes : List ℕ) (p : P)
       → IsSent address c commands → joined_reply m commands [] p ≡ Data bytes
       → IsLoaded m address p × (judge c (m.reply (body c) (addressed m address p)) ≡ Ok bytes)
-  joined_judged None c commands bytes p is e =
-      let t = one_judged c [] bytes p (subst (λ cs. joined_reply m cs [] p ≡ Data bytes) is e) in
-      (tt, t.1.0 ∙ ap Ok t.1.1)
+  joined_judged None c commands bytes p is e = search (rules, one_judged, joined_reply)
   joined_judged (Some a) c commands bytes p is e =
       let f = data_in (reply_to m (LoadAddress a) p) (λ b. joined_reply m (c ∷ []) ([] ++ b)
       (m.after (body (LoadAddress a)) p)) bytes (subst (λ cs. joined_reply m cs [] p ≡ Data bytes) is e) in
@@ -72,12 +64,10 @@ module _ {P : Type 0} (m : Device P) where
       where
         prefix : (p : P) (i : ℕ) → Before p → Before (after_commands m i (c ∷ []) p)
             ⊎ After (after_commands m i (c ∷ []) p)
-        prefix p zero b = inl b
-        prefix p (suc i) b = subst (λ q. Before q ⊎ After q) (sym (executed_none m i (m.after (body c) p))) (either p b)
+        prefix p i b = search (rules, executed_none)
 
         agains : (p : P) (i : ℕ) → After p → After (after_commands m i (c ∷ []) p)
-        agains p zero a = a
-        agains p (suc i) a = subst After (sym (executed_none m i (m.after (body c) p))) (again p a)
+        agains p i a = search (rules, executed_none)
 
         pub one_repeats : IsRepeatable m (c ∷ []) Before After
         one_repeats = record {
@@ -111,14 +101,12 @@ module _ {P : Type 0} (m : Device P) where
           ⊎ After (after_commands m i both p)
       two_prefix p zero b replied = inl b
       two_prefix p (suc zero) b replied = inl (load p b)
-      two_prefix p (suc (suc i)) b replied = subst (λ q. Before q ⊎ After q) (sym (executed_none m i (end p)))
-          (either p b (loaded_by a p replied.0.0 replied.0.1).0)
+      two_prefix p (suc (suc i)) b replied = search (rules, executed_none, loaded_by)
 
       two_again : (p : P) (i : ℕ) → After p → AreReplied m i both p → After (after_commands m i both p)
       two_again p zero x replied = x
       two_again p (suc zero) x replied = load_after p x
-      two_again p (suc (suc i)) x replied =
-          subst After (sym (executed_none m i (end p))) (again p x (loaded_by a p replied.0.0 replied.0.1).0)
+      two_again p (suc (suc i)) x replied = search (rules, executed_none, loaded_by)
 
       pub two_repeats : IsRepeatable m both Before After
       two_repeats = record {
@@ -195,7 +183,7 @@ module _ {P : Type 0} (part : Part) (sound : IsPart part) (m : Device P) (view :
       })
       (λ p d e s. record {
         memories = (t.enters p s.is).memories ∙ s.memories;
-        is = t.entered p s.is (short enter (m.reply (body enter) p) d refl e).0;
+        is = t.entered p s.is (short enter refl (m.reply (body enter) p) d e).0;
       })
 
   module _ (commands : List Command) (x : Memories) (step : IsStep part commands) (f : FitsPart part x)
@@ -220,8 +208,7 @@ module _ {P : Type 0} (part : Part) (sound : IsPart part) (m : Device P) (view :
 
     row_at : (y : Memories) (p : P) → FitsPart part y → IsVouched y → Ready y p
         → IsDoneOrNot m view IsReady part r.row p
-    row_at y p fits v s = t.rows r.row p r.is_row (subst IsVouched (sym s.memories) v)
-        (subst (FitsPart part) (sym s.memories) fits) s.is
+    row_at y p fits v s = search rules
 
     abbrev done : P → P
     done p = m.after (body r.command) (at p)
@@ -264,8 +251,7 @@ module _ {P : Type 0} (part : Part) (sound : IsPart part) (m : Device P) (view :
         let h = (row_at y p fits v s).good loaded d g.1
         (ap (λ (bytes : List ℕ). m.reply bytes (at p)) (sym r.body_is) ∙ g.0) in (
           h.0 ∙ (ap r.row.reads s.memories ∙ r.reads y),
-          subst (Ready (memories_after_step part commands y)) (same_done p)
-              (moved IsReady _ (memories_after_step part commands y) _ (wrote y p s.memories) h.1),
+          search (rules, same_done, moved, wrote),
         )
 
     -- ---- after a restart
