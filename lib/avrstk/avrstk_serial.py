@@ -794,7 +794,7 @@ def ask(
     words.speeds, report.stage = session.speeds, stage
     is_loader = risk is not None and outcome.error.startswith("command 1C refused")
     if is_loader or not outcome.status:
-        # (what this session read or compared is no update of the run)
+        # (what the session before the run read or compared is no update of the run)
         report.lines[before:] = [line for line in report.lines[before:] if line.startswith("device signature")]
     if is_loader:
         report.stage = "refused"
