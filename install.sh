@@ -1,8 +1,8 @@
 #!/usr/bin/env bash
 # Installs the built program, avrstk-serial, avrstk-serve, the part file, the man pages and the completions, or removes
 # them again. The program is the proved one, or else the one without proofs, and then a line reports that. The documents
-# are installed as a site, if Sphinx, MyST, furo and mandoc are there to make it. With --with-c the library for C is
-# installed too: archive, shared library, header, pkg-config's file.
+# are installed as a site, if Sphinx, MyST, furo, sphinx-copybutton and mandoc are there to make it. With --with-c the
+# library for C is installed too: archive, shared library, header, pkg-config's file.
 #
 #     ./install.sh [--with-c] [PREFIX]      PREFIX is /usr/local by default, which needs root; ~/.local doesn't
 #     ./install.sh --remove [PREFIX]        removes what any version of this script installed there, and the folders that
@@ -260,7 +260,7 @@ if [ -f "$top/tools/site.py" ]; then
             add 644 "$site/$file" "$html/$file"
         done < <(cd "$site" && find . -type f -printf '%P\n' | LC_ALL=C sort)
     else
-        echo "the documents are not installed as a site, which needs python3, mandoc, and Sphinx with MyST and furo"
+        echo "the documents are not installed as a site, which needs python3, mandoc, and Sphinx with MyST, furo and sphinx-copybutton"
     fi
 fi
 library=(lib/libavr_records.a include/avr_records.h lib/pkgconfig/avr_records.pc lib/libavr_records.so "lib/$shared")

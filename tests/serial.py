@@ -594,6 +594,14 @@ def what_is_missing():
         modules = "avrstk_serial is not there: its modules are in lib/avrstk, here or beside this folder"
         check_equal("no modules", ran(), (1, "", f"avrstk-serial: {modules}\n"))
         shutil.copytree(SHARED, Path(folder, "lib"))
+        Path(folder, "sitecustomize.py").write_text("import sys\nsys.modules['json'] = None\n")
+        for script in ("avrstk-serial", "avrstk-serve"):
+            command, environment = [sys.executable, str(TOP / script), "-p", "m328p"], own_environment(
+                PYTHONPATH=folder
+            )
+            finished = subprocess.run(command, capture_output=True, text=True, env=environment, timeout=PATIENCE)
+            lacks = "this Python has no module json: install all of Python (python3-minimal is a part)"
+            check_equal(f"{script}: no json", finished.stderr, f"{script}: {lacks}\n")
         check_equal("no program", ran(), (1, "", f"avrstk-serial: {front} {needed}\n"))
         put_program(front, "#!/bin/sh\necho $0 $1\n")
         check_equal("the one beside it", ran(), (0, f"{front} -P\n", ""))
@@ -1299,6 +1307,8 @@ def stays(words, case, found):
     has = {"efuse": 0x07, "lock": 0x3F}[found[2].partition(":")[0]] if "lacks" in case else 0xFF
     if not any(has >> int(bit) & 1 for bit in found[1].split(",")):
         return valued(words, found[2])
+    if "give it last" in found[3]:
+        return lock_last(words)
     return [*words, "-e"] if "(-e)" in found[3] else None
 
 
@@ -1532,12 +1542,17 @@ FOLLOWED = [
         else without(without(words, "-c"), "wiring"),
     ),
     (r"from 0 on without gaps", another_file),
-    (r"lacks read 0, not 1: is -p right\?", lambda *_: None),
+    (
+        r"lacks read 0, not 1: is -p right\? If it is, give (\S+), with a part file of your own \(--parts\)$",
+        lambda words, _, found: [*valued(words, found[1]), "--parts", "mine.toml"],
+    ),
     (r"is -p right\?", lambda words, case, _: other_part(words, case["part"], "blink.hex")),
     (
         r"the right board\? .*; if that is so, -p (\w+)( without --parts)?, with",
         lambda words, case, found: other_part(
-            without(words, "--parts", "mine.toml") if found[2] else words, found[1], case["made"]
+            without(words, "--parts", "mine.toml", "other.toml") if found[2] else words,
+            found[1],
+            case.get("made", "blink.hex"),
         ),
     ),
     (r": give (\S+:[ise]);", lambda words, _, found: renamed(words, found[1])),
@@ -1831,6 +1846,7 @@ def put_files_of_walks(good):
     mine = "".join(f'{name} = {{ signature = "1E950F", {fields} }}\n' for name in ["m328p", "'c-chip'"])
     files = {
         "mine.toml": f"[parts]\n{mine}".encode(),
+        "other.toml": f"[parts]\n{mine.replace('950F', '9514')}".encode(),
         "cut.hex": good[:-25],
         "both.hex": good[: good.index(b":00000001FF")] + hex_of([(0x810000, b"123")]),
         "big.hex": hex_of([(32_768, bytes(300))]),

@@ -334,7 +334,12 @@ def installed():
         # (without the site, which takes time)
         put_program(Path(tools, "sphinx-build"), "#!/bin/sh\nexit 1\n")
         own = environment() | {"PATH": f"{tools}:{os.environ['PATH']}"}
-        subprocess.run([TOP / "install.sh", folder], env=own, stdout=subprocess.DEVNULL, check=True)
+        printed = subprocess.run(
+            [TOP / "install.sh", folder], env=own, capture_output=True, text=True, check=True
+        ).stdout
+        # (as tools/site.py needs them)
+        needs = "python3, mandoc, and Sphinx with MyST, furo and sphinx-copybutton"
+        check("what the site needs", f"the documents are not installed as a site, which needs {needs}\n" in printed)
         script = Path(folder, "bin/avrstk-serve")
         served = ran(["0", "-p", "atmega32u4", "--chip", "chip.bin", "--", "true"], script, AVRSTK="")
         check_equal("it serves", served, (0, "", ""))

@@ -301,6 +301,13 @@ def retried():
     numbers = [line[15:] for line in messages if "number" in line]
     check_equal("its numbers", numbers, [f"number {n}: eeprom@0x3F0=00000{n}" for n in (0, 1)])
     check_equal("the chip has the last one", (status, chip[EEPROM + PLACE :][:6]), (0, b"000001"))
+    room.put("one.csv", b"mac\nA1\n")
+    lost, one = iter([b""] * 4), ["--rows", "one.csv", "--each", "eeprom@0={mac}", "--counter", "one", "--from", "1"]
+    boards = serial.Boards({"answer": lambda reply: next(lost, reply) if reply[5] == 0x15 else reply}, {})
+    status, _, messages = run(["-p", "m328p", "-P", str(boards.device), "--retry", "1", *one])
+    boards.end()
+    why = "--rows one.csv has 1 rows, and the next number is greater; the chip may be erased or partly written"
+    check_equal("no number for a retry", (status, messages[-1]), (1, f"avrstk-serial: {why}"))
 
 
 # in place of avrstk: it appends its EEPROM image to a file
@@ -415,13 +422,27 @@ def signals():
         "a board's process is killed", (station.returncode, held), (1, [(0, None, "done"), killed, (0, None, "done")])
     )
 
+    with Doubles(names, {name: ["--late", "READ_FLASH:0.05"] for name in names}) as doubles:
+        station = busy(
+            ["-p", "m328p", "-U", "flash:r:{board}.read:r", *doubles.ports(), "--json", "report.json"],
+            3,
+            b"device signature",
+        )
+        boards = Path(f"/proc/{station.pid}/task/{station.pid}/children").read_text().split()
+        os.kill(int(boards[1]), signal.SIGKILL)
+        messages = station.communicate(timeout=PATIENCE)[1].decode().splitlines()
+    line = "two: avrstk-serial: its process was ended by SIGKILL: the chip is unchanged"
+    check("a process that only reads is killed", line in messages, messages)
+    check_equal("its report", [board["chip"] for board in report()["runs"]], ["unchanged"] * 3)
 
-def busy(words, count):
-    """Starts the script, and returns it once so many boards have erased their chips."""
+
+def busy(words, count, what=b"chip erased"):
+    """Starts the script, and returns it once so many boards have printed this."""
     file = (room.folder / "messages").open("w+b")
+    (room.folder / "log").unlink(missing_ok=True)
     station = subprocess.Popen([SCRIPT, *words, "-l", "log"], cwd=room.folder, **HOW)
     file.close()
-    wait_until(lambda: (room.read("log") or b"").count(b"chip erased") == count or station.poll() is not None)
+    wait_until(lambda: (room.read("log") or b"").count(what) == count or station.poll() is not None)
     return station
 
 

@@ -155,7 +155,7 @@ class Each:
         self.file, self.specs = rows, [Spec(given, ["n", *self.names]) for given in words.each_given]
         self.counter = Counter(counter, None if least is None else int(least))
         self.base: list[Update] | None = None
-        # what a refusal says of the chip
+        # what a refusal leaves
         self.end = UNOPENED
         self.number: int | None = None
 
@@ -201,11 +201,11 @@ class Each:
             writes = [at for at, update in enumerate(updates) if update.writes(memory)]
             if writes:
                 last = updates[writes[-1]]
-                updates[writes[-1]] = joined(last, words.contents.get(last.file), own)
+                updates[writes[-1]] = joined(last, words.contents.get(last.file), own, self.end)
             else:
                 # (a locked chip takes nothing more)
                 locks = [at for at, update in enumerate(updates) if update.writes("lock")]
-                updates.insert(min(locks, default=len(updates)), image_of(memory, own))
+                updates.insert(min(locks, default=len(updates)), image_of(memory, own, self.end))
         words.updates, words.given = updates, [update.given for update in updates]
 
     def judge_pieces(self, words: Words, memory: str, pieces: list[Run]) -> None:
@@ -248,18 +248,19 @@ def table_of(file: str) -> tuple[list[str], list[list[str]]]:
     return names, rows
 
 
-def image_of(memory: str, pieces: list[Run]) -> Update:
-    """Returns the update that writes these bytes alone."""
+def image_of(memory: str, pieces: list[Run], end: str) -> Update:
+    """Returns the update that writes these bytes alone. `end` says what a refusal leaves."""
     update = Update(f"{memory}:w:--each")
     update.elf = pieces
-    return handed(update, b"")
+    return handed(update, b"", end)
 
 
-def joined(update: Update, content: bytes | None, pieces: list[Run]) -> Update:
-    """Returns an update that also writes these bytes, in place of those of its image."""
+def joined(update: Update, content: bytes | None, pieces: list[Run], end: str) -> Update:
+    """Returns an update that also writes these bytes, in place of those of its image. `end` says what a refusal
+    leaves."""
     if not update.is_image or content is None:
         why = f"--each needs a file in place of values, or no -U of {update.memory}"
-        raise Fault(f"-U {update.given}: {why}: {UNOPENED}")
+        raise Fault(f"-U {update.given}: {why}: {end}")
     one, whole = copy.copy(update), bytes(content)
     begins = RECORD.match(whole[:1024])
     detected = ("i" if b":" in begins[0] else "s") if begins else "r"
@@ -267,20 +268,20 @@ def joined(update: Update, content: bytes | None, pieces: list[Run]) -> Update:
     if update.elf or kind == "r":
         # (a later byte at an address counts)
         one.elf = [*(update.elf or [(0, whole)]), *pieces]
-        return handed(one, whole)
+        return handed(one, whole, end)
     # (of several records with one address the last one before the end record counts)
-    end = ENDS[kind].search(whole) if kind and kind in ENDS else None
-    at = end.start() if end else len(whole)
+    last = ENDS[kind].search(whole) if kind and kind in ENDS else None
+    at = last.start() if last else len(whole)
     front = whole[:at] + (b"" if whole[:at].endswith(b"\n") else b"\n")
     rows = [*hex_rows([*pieces])][:-1] if kind == "i" else srec_rows(pieces)
-    return handed(one, front + "".join(rows).encode() + whole[at:])
+    return handed(one, front + "".join(rows).encode() + whole[at:], end)
 
 
-def handed(update: Update, content: bytes) -> Update:
-    """Gives avrstk the bytes of an update, whose format was printed before."""
+def handed(update: Update, content: bytes, end: str) -> Update:
+    """Gives avrstk the bytes of an update, whose format was printed before. `end` says what a refusal leaves."""
     named = update.named
     update.front = content[:65_536]
-    update.hand_on(content)
+    update.hand_on(content, end)
     update.named = named
     return update
 

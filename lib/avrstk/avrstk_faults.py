@@ -71,7 +71,7 @@ def which(given: str, chance: Callable[[], float]) -> Meant:
     is_one = re.fullmatch("(?:([A-Z_]+)#)?[1-9][0-9]{0,8}", given)
     if given not in COMMANDS.values() and not (is_one and is_one[1] in (None, *COMMANDS.values())):
         what = "not the name of a command in the log, its number, one of a name such as CHIP_ERASE#1"
-        raise Fault(f"{given}: {what}, or a share such as 2%")
+        raise Fault(f"{given}: {what}, or a share below 100%, such as 2%")
     return lambda names: given in names
 
 

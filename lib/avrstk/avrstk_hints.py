@@ -2,7 +2,7 @@
 
 from __future__ import annotations
 
-from avrstk_common import BUILT_IN, parts
+from avrstk_common import parts
 from avrstk_words import FORMATS, FUSES, MEMORIES, RECORD, UNOPENED, Update, Words, long_name, parts_of, rows_of
 
 import os
@@ -226,8 +226,8 @@ def another_part(words: Words, found: Match[str]) -> str:
     if not names:
         return f"the chip is another part ({found[1]}), which is not known here; nothing was written"
     which = f"is {words.device} the right board? Its chip is {' or '.join(names[:4])} ({found[1]})"
-    # (the part file of one's own may not have it)
-    alone = "" if words.parts_file is None or names[0] in BUILT_IN else " without --parts"
+    # (the part file of one's own may not have it, or may have it with another signature)
+    alone = "" if words.parts_file is None else " without --parts"
     cure = f"if that is so, -p {names[0]}{alone}, with firmware and fuses that are made for it"
     return f"{which}; {cure}; nothing was written"
 
@@ -241,7 +241,9 @@ def differs(words: Words, found: Match[str]) -> str:
     bits = words.bits().get(memory)
     if bits is not None and not (wanted ^ held) & bits:
         if not ~(wanted | bits) & 0xFF:
-            return "bits that this part lacks read 0, not 1: is -p right?"
+            same = f"{memory}:{'w' if writes else 'v'}:0x{held:02X}:m"
+            unmasked = ", with a part file of your own (--parts)" * (words.parts_file is None)
+            return f"bits that this part lacks read 0, not 1: is -p right? If it is, give {same}{unmasked}"
         return f"only bits that the part doesn't have differ: give {memory}:{'w' if writes else 'v'}:0x{held:02X}:m"
     if not writes:
         is_hidden = memory in ("flash", "eeprom") and not words.is_bootloader
@@ -279,6 +281,8 @@ def is_after_lock(words: Words, memory: str) -> bool:
 def unlike_fuse(words: Words, memory: str, wanted: int, held: int) -> str:
     """Returns the hint if a fuse or the lock holds another value than the one that was written."""
     cause = "the chip or the programmer is damaged" if erases(words) else LOCKED
+    if is_after_lock(words, memory):
+        cause = "-U lock was given before: give it last"
     if memory == "lock":
         cause = "a bootloader can't write the lock: use a programmer"
     # (a bit that a part doesn't have reads 1)

@@ -9,8 +9,8 @@ from avrstk_backup import asking, back_up, restored
 from avrstk_each import Each
 from avrstk_report import Report, fault_of, write
 from avrstk_rows import try_rows
-from avrstk_hints import HIDDEN, LEAVE, NO_CHIP, NO_SIGNATURES, ONE_IMAGE, POWER_CYCLE, SAME, SIGN_ON, Outcome, hint
-from avrstk_hints import may_erase_kept, overwritten, state_of
+from avrstk_hints import CHANGING, HIDDEN, LEAVE, NO_CHIP, NO_SIGNATURES, ONE_IMAGE, POWER_CYCLE, SAME, SIGN_ON
+from avrstk_hints import UNCHANGED, Outcome, hint, may_erase_kept, overwritten, state_of
 from avrstk_station import station
 from avrstk_version1 import SPEEDS, Bridge
 from avrstk_words import FORMATS, FUSES, UNOPENED, Update, Words, long_name, parts_of
@@ -750,7 +750,7 @@ def ran(words: Words, put: Callable[[bytes], None] = messages.put, earlier: froz
     while True:
         words.tries += 1
         if words.each:
-            words.each.give(words)
+            give(words, words.each, earlier)
         run = Run(words, earlier, put)
         outcome = run.outcome
         words.report.runs.append(outcome)
@@ -769,6 +769,18 @@ def ran(words: Words, put: Callable[[bytes], None] = messages.put, earlier: froz
             return outcome
         words.note(f"{outcome.error}: the same command again, {words.tries} of {count}")
         wait_for(words.device)
+
+
+def give(words: Words, each: Each, earlier: frozenset[int]) -> None:
+    """Takes the number of a run. If that fails for a second run, the error also describes the chip after the first."""
+    each.end = each.end if words.tries == 1 else "the command is not run again"
+    try:
+        each.give(words)
+    except (Fault, OSError) as fault:
+        if words.tries == 1:
+            raise
+        state = "the chip may be erased or partly written" if CHANGING & earlier else UNCHANGED
+        raise Fault(f"{text_of(fault)}; {state}")
 
 
 def wait_for(device: str | None) -> None:

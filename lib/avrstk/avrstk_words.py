@@ -252,6 +252,11 @@ class Words:
         only.updates = [update for update in self.updates if update.writes_flash()]
         return only.plan().pages
 
+    def changes(self) -> bool:
+        """Whether the command writes or erases something."""
+        writes = any(update.operation == "w" for update in self.updates) or bool(self.each_given)
+        return "-n" not in self.flags and (writes or "-e" in self.flags or self.restore is not None)
+
     def is_whole(self) -> bool | None:
         """Whether the command writes flash from address 0 on, and leaves out no page; None if that is not known."""
         pages = self.flash_pages()
@@ -415,18 +420,19 @@ class Update:
             return f"has {size:,} bytes of {self.memory}, more than {MOST_OF_ELF:,}"
         return None
 
-    def hand_on(self, content: bytes | None) -> None:
-        """Gives avrstk an image's bytes in a file without name. If it has none, gives it a name that no file has."""
+    def hand_on(self, content: bytes | None, end: str = UNOPENED) -> None:
+        """Gives avrstk an image's bytes in a file without name. If it has none, gives it a name that no file has. `end`
+        says what a refusal leaves."""
         self.handed = f"/dev/fd/-{id(self)}"
         if content is not None:
-            file = os.memfd_create("image", 0)
             rest = memoryview("".join(hex_rows(self.elf)).encode() if self.elf else content)
-            self.handed = f"/dev/fd/{file}"
             try:
+                file = os.memfd_create("image", 0)
+                self.handed = f"/dev/fd/{file}"
                 while rest:
                     rest = rest[os.write(file, rest) :]
             except OSError as fault:
-                raise Fault(f"{self.file} can't be given to avrstk: {fault.strerror}: {UNOPENED}")
+                raise Fault(f"{self.file} can't be given to avrstk: {fault.strerror}: {end}")
         if self.elf:
             self.named = "e"
         # (a file that can't be opened has no ELF: avrstk, which doesn't know :e, reports it as Intel HEX)
