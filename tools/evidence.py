@@ -2,6 +2,7 @@
 """Writes docs/EVIDENCE.md from the log of a gate, for readers without the kit.
 
     ./test --all >LOG; tools/evidence.py LOG     in the clone in which the gate ran; a log of `rt ci` serves, too
+    tools/evidence.py EARLIER .. LOG             if `rt ci` kept crates that earlier runs had proved: their logs first
     tools/evidence.py --check                    fails if the page's theorem isn't that of the sources; --write mends it
 
 The page has what the log and the stamp of the proved program say: verdicts, axioms, crates whose statements are
@@ -143,6 +144,15 @@ def read(log):
     return crates, sorted(set(mutants)), next((line for line in lines if " GB free; " in line), ""), summary
 
 
+def read_all(logs):
+    """Returns the same of several logs: the last verdict on each crate, and all else of the last log."""
+    verdicts = {}
+    for log in logs:
+        crates, *others = read(log)
+        verdicts |= {name: crate for name, crate in crates.items() if crate.verdict or name not in verdicts}
+    return verdicts, *others
+
+
 def about(log, machine):
     """Yields the rows on the run: when, where, of what."""
     git = subprocess.run(["git", "-C", TOP, "log", "-1", "--format=%H (%cs)"], capture_output=True, text=True)
@@ -174,6 +184,9 @@ def refusals(mutants):
         words = "; ".join(filter(None, [only and only[1], words.replace("|", "\\|")]))
         yield f"| {crate}: {name.replace('_', ' ')} | {place} | {words} |"
 
+
+KEPT = """The gate kept each crate that an earlier run on this machine had proved, if its files and libraries hadn't
+changed since then. The row of such a crate is from that run."""
 
 TEMPLATE = """# Evidence
 
@@ -233,9 +246,9 @@ def as_code(rows, absent):
     return "\n".join(f"    {row}"[:120].rstrip() for row in rows) if rows else absent
 
 
-def page(log):
+def page(logs):
     """Returns the page."""
-    crates, mutants, machine, summary = read(log)
+    crates, mutants, machine, summary = read_all(logs)
     program, named = crates.get(PROGRAM, Crate()), axioms()
     stamp = TOP / "out/proved.stamp"
     taken = []
@@ -246,9 +259,9 @@ def page(log):
         )
     return TEMPLATE.format(
         program=PROGRAM,
-        about="\n".join(about(log, machine)),
+        about="\n".join(about(logs[-1], machine)),
         theorem=theorem(),
-        verdicts="\n".join(verdicts(crates)),
+        verdicts="\n".join([*[KEPT, ""] * (len(logs) > 1), *verdicts(crates)]),
         line=program.verdict.string if program.verdict else "",
         axioms="\n".join(taken),
         trusted=", ".join(f"`{crate}`" for crate in program.trusted if not (TOP / "crates" / crate).is_dir()),
@@ -269,8 +282,8 @@ def trusted():
 
 
 if __name__ == "__main__":
-    if len(sys.argv) != 2:
-        sys.exit(__doc__)
-    if sys.argv[1] in ("--check", "--write"):
+    if sys.argv[1:] in (["--check"], ["--write"]):
         sys.exit(kept({PAGE: with_theorem(PAGE.read_text())}))
-    PAGE.write_text(page(Path(sys.argv[1])))
+    if len(sys.argv) == 1 or sys.argv[1].startswith("-"):
+        sys.exit(__doc__)
+    PAGE.write_text(page([Path(log) for log in sys.argv[1:]]))
