@@ -693,6 +693,7 @@ def leaves_to_another():
         "-p m8 -P /dev/ttyUSB0": True,
         "-p m328p -P /dev/nosuch": False,
         "-c usbasp -p m328p --wait 1": False,
+        "--unproved -c usbasp -p m328p": False,
         "-p m8 --parts parts.toml -P /dev/nosuch": False,
     }
     for words, is_left in cases.items():

@@ -495,7 +495,8 @@ def leave_to_other(words: Words) -> None:
     if why and not other and os.environ.get("AVRSTK_ELSE"):
         print_line(f"AVRSTK_ELSE names no other program here: {os.environ['AVRSTK_ELSE']}")
     # (it doesn't know the script's own options, and takes one port)
-    if other and not words.is_station and not any(option.startswith("--") for option in words.last):
+    has_own = words.unproved or any(option.startswith("--") for option in words.last)
+    if other and not words.is_station and not has_own:
         print_line(f"{why}: {other} runs in place of avrstk")
         messages.finish()
         environment = {name: value for name, value in os.environ.items() if name != "AVRSTK_ELSE"}
