@@ -1,4 +1,4 @@
--- The premises of the promise are met by a worked run, `-p m328p` with all its replies; and what they refuse.
+-- The premises of the promise on links are met by a worked run, `-p m328p` with all its replies; and what they refuse.
 use Rattle.std.proofs.Common.{◌≡◌, ◌∙◌, ap, sym, arith, ℕ, Bool, false, List, [], ◌∷◌, ◌++◌, length, drop, take, refl}
 use Rattle.std.proofs.lemmas.Bool.{false≢true}
 use Rattle.std.specs.Prelude.{codes, slice_index}

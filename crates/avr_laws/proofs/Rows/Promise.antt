@@ -1,6 +1,6 @@
 -- Nothing in the promise is empty. First a run that meets all its premises, and what this run kept. It is `-p m328p
 -- -U lfuse:w:0xE2:m` over a fresh chip, on a link that loses nothing. Then worlds that meet relations of the law, and
--- worlds that these refuse. docs/PROOFS.md has the table.
+-- worlds that these refuse. The README of this crate has the table.
 use Rattle.std.proofs.Common.{◌≡◌, ◌∙◌, ap, sym, subst, refl, arith, rules, inl, inr, ℕ, true, ◌<◌, List, [], ◌∷◌, ◌++◌, length, append-nil, Option, Some, None, Result, Ok, append_assoc}
 use lib.Utf8.{encode}
 use Rattle.std.proofs.lemmas.List.{length-replicate}
