@@ -185,7 +185,7 @@ def refusals(mutants):
         yield f"| {crate}: {name.replace('_', ' ')} | {place} | {words} |"
 
 
-KEPT = """The gate kept each crate that an earlier run on this machine had proved, if its files and libraries hadn't
+KEPT = """The gate kept each crate that an earlier run on the same machine had proved, if its files and libraries hadn't
 changed since then. The row of such a crate is from that run."""
 
 TEMPLATE = """# Evidence
