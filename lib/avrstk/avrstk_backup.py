@@ -85,8 +85,8 @@ def restored(words: Words, folder: str) -> list[Update]:
 
 
 def asking(folder: str | None) -> list[Update]:
-    """Returns what only a programmer can read, and for a backup the comparison with the chip's signature. Neither
-    writes anything."""
+    """Returns what only a programmer can read, and if there is a backup to restore, the comparison of its signature
+    with the chip's. Neither writes anything."""
     updates = [Update("calibration:r:/dev/null:h")]
     if folder is not None:
         signature = ",".join(f"0x{byte:02X}" for byte in bytes_of(folder, "signature"))

@@ -22,6 +22,7 @@ SAME = "run the same command again"
 ONE_IMAGE = "give one image that begins at 0 and leaves out no page"
 POWER_CYCLE = "power-cycle the board"
 UNCHANGED = "the chip is unchanged"
+MAYBE_CHANGED = "the chip may be erased or partly written"
 TAKES = "flash (a bootloader, too), and EEPROM unless the fuse bit EESAVE is 0"
 HIDDEN = "or the lock hides it (then -U lock:r:-:h prints a lock whose bit 1 is 0)"
 LOCKED = f"a lock protects it: only an erase (-e) removes the lock, and clears all of {TAKES}"
@@ -61,7 +62,7 @@ def state_of(run: Outcome) -> str:
         return UNCHANGED
     if not CHANGING & sent:
         return f"{UNCHANGED}, and may be held in reset: {POWER_CYCLE}"
-    return f"the chip may be erased or partly written, and held in reset: {again(run.words)}"
+    return f"{MAYBE_CHANGED}, and held in reset: {again(run.words)}"
 
 
 def again(words: Words) -> str:

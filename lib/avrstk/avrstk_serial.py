@@ -9,8 +9,8 @@ from avrstk_backup import asking, back_up, restored
 from avrstk_each import Each
 from avrstk_report import Report, fault_of, write
 from avrstk_rows import try_rows
-from avrstk_hints import CHANGING, HIDDEN, LEAVE, NO_CHIP, NO_SIGNATURES, ONE_IMAGE, POWER_CYCLE, SAME, SIGN_ON
-from avrstk_hints import UNCHANGED, Outcome, hint, may_erase_kept, overwritten, state_of
+from avrstk_hints import CHANGING, HIDDEN, LEAVE, MAYBE_CHANGED, NO_CHIP, NO_SIGNATURES, ONE_IMAGE, POWER_CYCLE
+from avrstk_hints import SAME, SIGN_ON, UNCHANGED, Outcome, hint, may_erase_kept, overwritten, state_of
 from avrstk_station import station
 from avrstk_version1 import SPEEDS, Bridge
 from avrstk_words import FORMATS, FUSES, UNOPENED, Update, Words, long_name, parts_of
@@ -780,7 +780,7 @@ def give(words: Words, each: Each, earlier: frozenset[int]) -> None:
     except (Fault, OSError) as fault:
         if words.tries == 1:
             raise
-        state = "the chip may be erased or partly written" if CHANGING & earlier else UNCHANGED
+        state = MAYBE_CHANGED if CHANGING & earlier else UNCHANGED
         raise Fault(f"{text_of(fault)}; {state}")
 
 

@@ -5,7 +5,7 @@ from __future__ import annotations
 
 from avrstk_common import ENDING, NAME, READ, WRITE, Fault, Source, came, ended_by, heed_signals, messages, ready
 from avrstk_common import print_line, readable, show, text_of, version
-from avrstk_hints import UNCHANGED
+from avrstk_hints import MAYBE_CHANGED, UNCHANGED
 from avrstk_report import Report, write
 from avrstk_words import UNOPENED, Update, Words, is_port
 
@@ -97,7 +97,7 @@ class Board:
                 name = f" by {signal.Signals(os.WTERMSIG(status)).name}"
             report.stage, report.fault = "interrupted", f"its process was ended{name}"
             changes = self.words.changes()
-            state = "the chip may be erased or partly written" if changes else UNCHANGED
+            state = MAYBE_CHANGED if changes else UNCHANGED
             self.print_message(f"{NAME}: {report.fault}: {state}".encode())
             self.outcome, self.report = outcome_of(self.words, report, 1)
             for held in (self.outcome, self.report or {}) if changes else ():
