@@ -169,9 +169,9 @@ def ended_anywhere():
 
 
 def others_meanwhile():
-    """If another program replaces or removes FILE or FILE.avrstk-new during a save, the run fails. What is there stays,
-    and so does a chip that is put where none was, however late. The old chip isn't open when it is replaced, because
-    some file systems hide an open file before that."""
+    """If another program replaces or removes FILE or FILE.avrstk-new before a save's last look, the run fails. What is
+    there stays, and so does a chip that is put where none was, however late. The old chip isn't open when it is
+    replaced, because some file systems hide an open file before that."""
 
     def put(path):
         room.put("put", b"mine")

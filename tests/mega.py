@@ -153,7 +153,7 @@ def lost_bytes():
 
 
 def reset_by_the_connection():
-    """Three runs in a row end well. Each connection resets the simulated chip, which starts the bootloader."""
+    """Each connection resets the simulated chip, which starts the bootloader: three runs in a row end well."""
     with Board() as board:
         for seed in ["first", "second", "third"]:
             image = drawn(seed, 1_024)

@@ -115,7 +115,7 @@ BAD_LINES = {
 
 
 def a_large_flash():
-    """A byte above 128 KiB is written to an ATmega2560: the address of its page has bit 31."""
+    """A byte at 128 KiB is written to an ATmega2560: the address of its page has bit 31."""
     room.clear()
     peer = BadLine(room, {}, part="m2560")
     words = ["-p", "m2560", "-P", f"net:127.0.0.1:{peer.port}", "-V", "-U", "flash:w:high.hex"]

@@ -1789,7 +1789,7 @@ def kind_of(name):
 
 
 def hints_over_each_memory():
-    """Following the hints, for six memories and nine kinds of boards, gives the wanted bytes or a failure."""
+    """Following the hints, for six memories and ten kinds of boards, gives the wanted bytes or a failure."""
     image = flashed()[:228]
     room.put("mine.toml", (TOP / "parts/classic.toml").read_bytes())
     room.put("mega.hex", hex_of([(0, bytes(300))]))

@@ -485,7 +485,7 @@ USAGE += "--outline AVRSTK'S OPTIONS\n"
 
 
 def modes_of_a_session():
-    """avrstk_session serves, checks or prints an outline, as its first argument says; without one it does nothing."""
+    """avrstk_session serves, checks or prints an outline, as its first argument names; else it does nothing."""
 
     def session(*words):
         how = {"cwd": room.folder, "stdin": subprocess.DEVNULL, "capture_output": True, "text": True}
