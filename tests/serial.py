@@ -952,8 +952,8 @@ def backups_that_fail():
 
 
 def backups():
-    """--backup reads all memories, and --restore writes and compares them, whatever the chip's EEPROM and lock are. A
-    folder of a run that fails doesn't stay."""
+    """--backup reads all memories, and --restore writes and compares the writable ones, whatever the chip's EEPROM and
+    lock are. A folder of a run that fails doesn't stay."""
     flash, eeprom = bytes(number % 241 for number in range(700)), bytes(number % 239 for number in range(200))
     old = flash.ljust(32_768, b"\xff") + eeprom.ljust(1024, b"\xff")
     for fuses, name in [("E2D1FDFF", "a backup"), ("62D907FE", "-x")]:
