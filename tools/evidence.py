@@ -45,12 +45,12 @@ KEY = """| In the block | Meaning |
 | `result ≡ 0` | the status of the program is 0 |
 | `link.old.transcript ≡ []` | nothing had passed over standard input and output before |
 | `AreWords words` | the system gave these words as the command line |
-| `takes avrstk words` | the words are an accepted command line, and not a request for help |
+| `takes avrstk words` | the syntax of the words is right, and they don't ask for help |
 | `AsksToServe ..` | the options ask for a service (`--serve`): then there is no plan |
 | `AsksFor (matches_of avrstk words) settings` | the options among the words ask for these settings, among them the port |
 | `KeepsPlan settings old new more` | the settings, and the files that the run opened, ask for a plan that was kept; those files and then `more` are all that the run opened |
 | `T` | any programmer and chip, with what it replies and does |
-| `IsKeptByAny .. plan passed old new` | if `T` keeps the rows, then by what passed over the link, chip and read files hold what the plan asks for; it stands for `Kept` |
+| `IsKeptByAny .. plan passed old new` | if `T` keeps the rows and [other premises](CHECK.md#over-a-link) hold, the chip and the files that memories were read into have what the plan asks for; it stands for `Kept` |
 | `IsKeptInFile file found plan old new` | the same of the chip in the chip file, without a link; `found` is what the file held |
 | `passed ≡ []` | nothing passed over standard input and output |
 | `At address (Some link)` | `link` has all that passed over the one connection to this address |
@@ -190,17 +190,17 @@ changed since then. The row of such a crate is from that run."""
 
 TEMPLATE = """# Evidence
 
-This page is what `rt ci`, or the whole gate, `./test --all`, printed for one commit. `tools/evidence.py LOG` makes the
-page from that log, so that the outcome can be seen without the kit. [CHECK](CHECK.md) explains each word, and how to
-run the gate.
+This page has what `rt ci`, or the whole gate, `./test --all`, printed for one commit, so that the outcome can be seen
+without the kit. `tools/evidence.py LOG` makes it from that log and the sources. [CHECK](CHECK.md#prove-it) explains a
+verdict, and [README](../README.md#test-it) says how to run the gate.
 
 {about}
 
 ## The theorem
 
-This is law `a_program_with_status_0_kept_its_plan` of avr_laws, as the sources have it: its main clause, and the two
-definitions that the clause names. [CHECK](CHECK.md#the-claim) explains the law line by line, and has
-[a key to the notation](CHECK.md#read-a-contract).
+This is law `a_program_with_status_0_kept_its_plan` of avr_laws, as the sources have it: its main clause, the definition
+`KeepsCommandLine` that the clause applies, and `KeepsPlanAt`, which has an equation for each port.
+[CHECK](CHECK.md#the-claim) explains the law line by line, and has [a key to the notation](CHECK.md#read-a-contract).
 
 {theorem}
 ## Verdicts
