@@ -683,9 +683,12 @@ def joined(writes: list[Update], pages: list[tuple[int, int]]) -> str:
     words = ["BELOW.hex", "-Intel"] * (min(pages or [(0, 0)])[0] > 0) + words
     fill = ["-fill", "0xFF", "0", f"0x{max(at + count for at, count in pages):X}"] if pages else []
     words = ["(", *words, ")"] if len(words) > 2 and fill else words
-    line = " ".join(map(shlex.quote, ["srec_cat", *words, *fill, "-o", "joined.hex", "-Intel"]))
+    # (srec_cat joins no images that have different bytes at an address)
+    over = ["-contradictory-bytes=ignore"] * (len(writes) > 1 and overlaps(pages))
+    line = " ".join(map(shlex.quote, ["srec_cat", *over, *words, *fill, "-o", "joined.hex", "-Intel"]))
+    notes = ["whose gaps are FF"] * bool(fill) + ["in which the last of overlapping images counts"] * bool(over)
     below = "; BELOW.hex has what is to stay below" * ("BELOW.hex" in words)
-    advice = f"Type {line}, and give joined.hex{', whose gaps are FF' * bool(fill)}{below}"
+    advice = f"Type {line}, and give joined.hex{', ' * bool(notes)}{', and '.join(notes)}{below}"
     return advice if all(kinds) else ONE_IMAGE.capitalize()
 
 
