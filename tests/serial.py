@@ -2021,6 +2021,28 @@ def report_after_a_signal():
     check_equal("after a signal", (found["kind"], found["chip"]), ("interrupted", "erased or partly written"))
 
 
+def report_over_a_port():
+    """Over a port the script sees no frame: after a command without a good reply the chip counts as changed, if the run
+    got as far as its signature, and writes or erases."""
+    known, silent = "avrstk: device signature = 1E 95 0F", "avrstk: error: no answer"
+    other, unlike = known.replace("0F", "14"), "avrstk: error: signature is 1E 95 14, m328p has 1E 95 0F"
+    changed, unchanged = "erased or partly written", "unchanged"
+    for printed, words, wanted in [
+        ([known, silent], "-e", ("line", changed)),
+        ([known], "-e", ("interrupted", changed)),
+        ([known, "avrstk: error: command 12 refused with status C0"], "-U flash:w:blink.hex", ("refused", changed)),
+        ([known, silent], "-e -n", ("line", unchanged)),
+        ([known, silent], "-U lfuse:r:-:h", ("line", unchanged)),
+        ([silent], "-e", ("silent", unchanged)),
+        ([other, unlike], "-e", ("other part", unchanged)),
+    ]:
+        text = "".join(f"{line}\n" for line in printed)
+        words = ["-p", "m328p", "-P", "net:127.0.0.1:1", *words.split(), "--json", "port.json"]
+        run(words, env=stand_in(f"sys.stderr.write({text!r})\nsys.exit(1)\n"))
+        found = report_of("port.json")
+        check_equal(f"{words}, {printed}", (found["kind"], found["chip"]), wanted)
+
+
 def reports():
     """--json writes what a run did: kinds of failures, the chip, each update; after a signal too, and to the output."""
     try:
@@ -2042,6 +2064,7 @@ def reports():
         )
         check(f"{what}: its hint", found["hint"] is None or found["hint"] in own, (found["hint"], own))
     report_of_updates()
+    report_over_a_port()
     report_after_a_signal()
 
 

@@ -801,6 +801,15 @@ def reports():
         server.end()
     (session,) = report()["sessions"]
     check_equal("it is idle", (session["commands"], session["idle"], session["saved"]), (1, True, True))
+    (room.folder / "gone").mkdir()
+    with Serving("--json", "report.json", "--idle", "1", "--chip", "gone/chip.bin") as server:
+        with server.call() as client:
+            check("one whose chip can't be saved", begins(client))
+            shutil.rmtree(room.folder / "gone")
+            check_equal("it is hung up on", client.recv(1), b"")
+        server.end()
+    (session,) = report()["sessions"]
+    check_equal("it was idle", (session["idle"], session["saved"]), (True, False))
     found, *_ = ran(["0", *M328P, "--json", "report.json", "--seed", "7", "--drop", "2%", "--", "sh", "-c", "exit 7"])
     check_equal("a command's status", (found, report()["status"], report()["seed"]), (7, 7, 7))
     found, messages, _ = ran(["0", "-p", "m328p", "--json", "report.json"])

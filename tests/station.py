@@ -170,6 +170,10 @@ def one_command():
         check_equal(f"{name}: its file", image_of(room.read(f"{name}.hex")), image_of(room.read("blink.hex")))
     status, _, messages = run(["-p", "m328p", "-P", "emu:a.bin", "-P", "emu:b.bin", "-e", "-q", "-q"])
     check_equal("-q twice", (status, messages), (0, []))
+    _, _, messages = run(["-p", "m328p", "-P", "emu:a.bin", "-P", "emu:b.bin", "-q", "-e", "-U", "lfuse:v:0:m"])
+    rows = [line.split("  ")[-1] for line in messages if "  failed (" in line]
+    wanted = "failed (mismatch), chip erased or partly written: lfuse: address 00000000: 00 expected, FF found"
+    check_equal("-q changes no row of the table", (rows, len(messages)), ([wanted] * 2, 6))
     for part in ["-p", "auto"], ["-p", "t85"]:
         with Doubles(["one", "two"]) as doubles:
             found = run([*part, *doubles.ports(), *FLASH[2:], "--json", "report.json"])

@@ -51,6 +51,8 @@ class Outcome:
     is_noisy: bool = False
     # whether all but the end was done before the error
     left_at_error: bool = False
+    # whether the session that may change the chip got as far as its signature
+    may_change: bool = False
 
 
 def state_of(run: Outcome) -> str:

@@ -55,8 +55,12 @@ class Report:
         error = self.error() or ""
         if error == self.fault:
             return self.stage
-        if error == "no answer" and self.sent() <= {SIGN_ON, LEAVE}:
+        is_known = any(line.startswith("device signature = ") for line in self.lines)
+        if error == "no answer" and self.sent() <= {SIGN_ON, LEAVE} and not is_known:
             return "silent"
+        if not error and is_known:
+            # (another program ended avrstk)
+            return "interrupted"
         return next((kind for begin, kind in KINDS.items() if re.match(begin, error)), "arguments")
 
     def chip(self, words: Words, status: int) -> str:
@@ -64,6 +68,9 @@ class Report:
         changes = bool(CHANGING & self.sent())
         if words.has_port:
             changes = any(re.search(r"^chip erased$| bytes written$", line) for line in self.lines)
+            # (no frame is seen: a command without a good reply may have been done)
+            is_open = status and re.match("$|no answer|link |command |out of memory", self.error() or "")
+            changes |= bool(is_open) and any(run.may_change for run in self.runs)
         if not changes:
             return "unchanged"
         # (if only the last command got no reply, all else was done)

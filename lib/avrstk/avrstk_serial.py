@@ -403,6 +403,7 @@ class Run:
         self.words.report.note(os.fsdecode(shown).partition("avrstk: ")[2])
         # (several updates may have one file: only the name that avrstk got tells which one is faulty)
         text = os.fsdecode(shown if line.endswith(b": cannot be opened") else line).partition("avrstk: ")[2]
+        self.outcome.may_change |= text.startswith("device signature = ") and self.words.changes()
         if text.startswith("error: ") and not self.outcome.error:
             self.outcome.left_at_error, self.outcome.error = LEAVE in self.outcome.commands, text[7:]
 
@@ -807,7 +808,7 @@ def ask(
     lines: list[bytes] = []
     before, stage, report.stage = len(report.lines), report.stage, "device"
     outcome = ran(session, lines.append)
-    words.speeds, report.stage = session.speeds, stage
+    outcome.may_change, words.speeds, report.stage = False, session.speeds, stage
     is_loader = risk is not None and outcome.error.startswith("command 1C refused")
     if is_loader or not outcome.status:
         # (what the session before the run read or compared is no update of the run)

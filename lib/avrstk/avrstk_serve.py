@@ -295,7 +295,7 @@ class Server:
         saved."""
         traffic, begun = self.traffic, time.monotonic()
         count, struck = (traffic.count, traffic.struck.copy()) if traffic else (0, None)
-        is_well = is_saved = False
+        is_well, is_saved = True, False
         try:
             is_well, is_saved = self.run_for(client)
         finally:
@@ -304,7 +304,7 @@ class Server:
                 faults = [{"fault": fault, "struck": times} for fault, times in new.items() if times]
                 session: dict[str, object] = {"commands": traffic.count - count, "faults": faults}
                 session["seconds"] = round(time.monotonic() - begun, 3)
-                self.sessions.append({**session, "idle": is_saved and not is_well, "saved": is_saved})
+                self.sessions.append({**session, "idle": not is_well, "saved": is_saved})
         return is_well and is_saved
 
     def run_for(self, client: Client) -> tuple[bool, bool]:
