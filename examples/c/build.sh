@@ -1,10 +1,10 @@
 #!/usr/bin/env bash
 # Builds the library for C: examples/c/build.sh DIR
-# DIR gets libavr_records.a, and avr_records.pc for pkg-config, which looks for the library beside itself. If there is a C
-# compiler, it also gets the shared library libavr_records.so.N, and the symbolic link libavr_records.so to it. N changes
-# with each incompatible version: it is MAJOR, or 0.MINOR before version 1.0. `rt lib` makes the archive from
-# crates/avr_records_c, unless the last one was made from the same sources; the kit's calls of malloc, realloc and free are added. Both
-# libraries export only the functions of include/avr_records.h.
+# DIR gets libavr_records.a, and avr_records.pc for pkg-config. Where install.sh puts that file, it names the library's
+# folder. If there is a C compiler, DIR also gets the shared library libavr_records.so.N, and the symbolic link
+# libavr_records.so to it. N changes with each incompatible version: it is MAJOR, or 0.MINOR before version 1.0. `rt lib`
+# makes the archive from crates/avr_records_c, unless the last one was made from the same sources; the kit's calls of
+# malloc, realloc and free are added. Both libraries export only the functions of include/avr_records.h.
 set -eu
 mkdir -p "$1"
 dir=$(realpath "$1")

@@ -1,7 +1,7 @@
 /* Reads a record file and writes it as Intel HEX or as S-records: records FILE SIZE ihex|srec [ROOM] >OUT
  * SIZE is the size of the memory in bytes; ROOM is the number of bytes written at a time (default 4096).
- * Build: cc -I../../include records.c libavr_records.a; or, if the library is installed:
- * cc records.c $(pkg-config --cflags --libs avr_records) */
+ * Build it with the folder DIR that build.sh filled: cc -I../../include records.c DIR/libavr_records.a; or, if the
+ * library is installed: cc records.c $(pkg-config --cflags --libs avr_records) */
 #include "avr_records.h"
 
 #include <errno.h>

@@ -4,7 +4,7 @@
 //! `drive_outcome` runs its session and returns an `Outcome`, which has more than the exit status.
 //!
 //! The expected output was worked out by hand: the bytes of the damaged line add up to 01, the flash of a fresh chip is
-//! all FF, and so are the good file's first two bytes. The messages are those of docs/USAGE.
+//! all FF, and so are the good file's first two bytes. The messages are those of docs/TROUBLESHOOTING.
 //= no plan: update 0: line 1: bad checksum
 //= flash differs at byte 2: 03 wanted, FF found
 //= status 1

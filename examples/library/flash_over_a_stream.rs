@@ -3,8 +3,8 @@
 //! socket. Here they are bytes and a `Vec`, so the program can print the frames that it sent.
 //!
 //! The replies and the expected output were worked out by hand from AVR068 and the ATtiny85's data sheet (signature
-//! 1E 93 0B, pages of 64 bytes). The programmer refuses the first erase. Each line has a frame's number and the first
-//! bytes of its body.
+//! 1E 93 0B, pages of 64 bytes). The programmer refuses the first erase. From the third line on, each line has a
+//! frame's number and the first bytes of its body.
 //= signature: 1E 93 0B
 //= CMD_CHIP_ERASE_ISP: STATUS_CMD_FAILED
 //= 1: 01

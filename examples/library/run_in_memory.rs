@@ -4,7 +4,7 @@
 //! here loses the first reply. (`run` does so over any link.) The port `stdio:` of the arguments stands for the wire.
 //!
 //! The expected output was worked out by hand: the fuse is the byte that was written, in the format of docs/FORMATS,
-//! and the messages are those of docs/USAGE.
+//! and the messages are those of docs/TROUBLESHOOTING.
 //= status 0
 //= fuse.txt: 0xe2
 //= avrstk: device signature = 1E 95 0F

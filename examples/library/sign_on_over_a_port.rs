@@ -3,7 +3,7 @@
 //! the place of the serial port.
 //!
 //! The expected output is from AVR068: the reply to SIGN_ON has 17 bytes, the eight before the XOR are the programmer's
-//! name, and a programmer sends nothing unasked. SIGN_ON writes no memory, and a fresh chip is all FF.
+//! name, and a programmer sends nothing unasked. SIGN_ON writes no memory, and a fresh chip's flash is all FF.
 //= programmer: STK500_2
 //= nothing more
 //= byte 0 of the chip: FF

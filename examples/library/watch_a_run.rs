@@ -7,7 +7,7 @@
 //!
 //! The expected output was worked out by hand from docs/PROTOCOL. Five frames open a session: SIGN_ON, ENTER_PROGMODE
 //! and three for the signature. One frame writes the fuse, one reads it, and one leaves programming mode. The messages
-//! are those of docs/USAGE.
+//! are those of docs/TROUBLESHOOTING.
 //= opened fuse.hex
 //= 12% 25% 37% 50% 62% avrstk: device signature = 1E 95 0F
 //= 75% avrstk: lfuse: 1 bytes written

@@ -1,6 +1,6 @@
 #!/usr/bin/env python3
-"""Flashes one firmware over a link that loses one frame, with avrstk, and with AVRDUDE if it is installed. Then checks
-the chip.
+"""Flashes one firmware over a link that loses at most one frame, with avrstk, and with AVRDUDE if it is installed. Then
+checks the chip.
 
     compare.py          AVRSTK names the program; the default is this repository's built one, proved or not
 

@@ -4,7 +4,7 @@
         subprocess.run(["avrdude", "-c", "stk500v2", "-p", "m328p", "-P", double.port, "-U", "flash:w:firmware.hex:i"])
     assert double.commands[-1].name == "LEAVE_PROGMODE"
 
-The chip is bytes, as in a chip file (docs/EMULATOR). `chip` and `commands` can be read once the with statement has
+The chip is bytes, as in a chip file (docs/PART). `chip` and `commands` can be read once the with statement has
 ended. AVRSTK_SERVE names the script avrstk-serve; the default is that of the clone, or the installed one. Needs Python
 3.8 or later."""
 
