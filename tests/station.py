@@ -188,8 +188,9 @@ def one_command():
 
 def refused():
     """A refused command opens no device and takes no number; its line comes once."""
-    texts = {"counter": "7\n", "bad": "seven\n", "full": f"{10**15}\n", "rows.csv": "serial,mac\nA1,0102\nA2,0304\n"}
-    for name, text in {**texts, "empty.csv": "serial\n", "odd.csv": "serial,mac\nA1\n"}.items():
+    texts = {"counter": "7\n", "bad": "seven\n", "cut": "7", "full": f"{10**15}\n"}
+    texts |= {"rows.csv": "serial,mac\nA1,0102\nA2,0304\n", "empty.csv": "serial\n", "odd.csv": "serial,mac\nA1\n"}
+    for name, text in texts.items():
         room.put(name, text.encode())
 
     def ran(words):
