@@ -68,8 +68,15 @@ class Doubles:
 
 def run(words, **more):
     """Returns the status, the output, and the lines of messages."""
-    ran = subprocess.run([SCRIPT, *words], cwd=room.folder, timeout=PATIENCE, **{**HOW, **more})
-    return ran.returncode, ran.stdout.decode(), ran.stderr.decode().splitlines()
+    with forks:
+        ran = subprocess.Popen([SCRIPT, *words], cwd=room.folder, **{**HOW, **more})
+    try:
+        output, messages = ran.communicate(timeout=PATIENCE)
+    except subprocess.TimeoutExpired:
+        ran.kill()
+        ran.communicate()
+        raise
+    return ran.returncode, output.decode(), messages.decode().splitlines()
 
 
 def report():
