@@ -1,7 +1,8 @@
 #!/usr/bin/env python3
 """Times only the reader of record files, in the library for C, beside a simple reader in C and python3-intelhex.
 
-    bench/reader.py [ROUNDS]    prints megabytes of text per second, the best of ROUNDS rounds of each file (default 50)
+    bench/reader.py [ROUNDS]    prints megabytes of text per second, the best of ROUNDS rounds of each file (default
+                                50); of python3-intelhex the best of three
     bench/reader.py --count     prints instructions per byte of text (needs valgrind)
 
 examples/c/build.sh builds the library. Without a C compiler nothing is run; other missing tools are reported.

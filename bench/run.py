@@ -6,9 +6,10 @@
     bench/run.py --count            instructions, the same on every machine (needs valgrind); fails if a figure is more
                                     than 2 % above the one in bench/figures.json
     bench/run.py --count --write    also writes these figures into the file
-    bench/run.py --calls            system calls per frame, on both sides of a link (needs strace)
+    bench/run.py --calls            sends and receipts of frames, on both sides of a link (needs strace); fails if a
+                                    frame takes more than one of each
 
-Every figure is for a whole process. The images are the same in each run of this script.
+Times are those of whole processes. The images are the same in each run of this script.
 """
 
 import json

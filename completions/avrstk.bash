@@ -17,6 +17,7 @@ _avrstk_behind() {
 # Completes the format after the name of an existing file, or after the values of m.
 _avrstk_formats() {
     local front=$1 operation=$2 file=${value#"$1"} letters="a i s r m"
+    [ "$script" != avrstk-serial ] || letters+=" e"
     [ "$operation" != r ] || letters="r i s d h o b"
     case $file in
         *:*) compgen -P "$front${file%:*}:" -W "$letters" -- "${file##*:}" ;;

@@ -33,7 +33,10 @@ function __avrstk_updates
     if set -l front (string match -r '^[a-z]+:r:[^:]*:' -- $typed)
         printf "$front%s\n" r i s d h o b
     else if set -l front (string match -r '^[a-z]+:[wv]:[^:]*:' -- $typed)
-        printf "$front%s\n" a i s r m
+        set -l words (commandline -opc)
+        set -l elf
+        test (path basename -- $words[1]) = avrstk-serial; and set elf e
+        printf "$front%s\n" a i s r m $elf
     else if set -l front (string match -r '^[a-z]+:[rwv]:' -- $typed)
         __avrstk_files $front $typed
     else if set -l front (string match -r '^(?:signature|calibration):' -- $typed)

@@ -395,7 +395,7 @@ def ends_early():
             check(f"{what}: nothing is to be restored", not any("is changed" in line for line in own), str(own))
         else:
             command = serial.shlex.split(own[-1].partition("What restores it: ")[2])
-            check(f"{what} at {row}: a command restores it", command[:1] == ["avrstk-serial"], str(own))
+            check(f"{what} at {row}: a command restores it", command[:1] == [str(serial.SCRIPT)], str(own))
             again = Plug(Wrong(lambda body, ask: ask(body), chip=room.read("wrong.bin")).call)
             command[command.index("-P") + 1] = again.device
             check_equal(f"{what} at {row}: what that command does", serial.run(command[1:])[0], 0)

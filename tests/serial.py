@@ -960,7 +960,7 @@ def backups():
         room.put("old.bin", old + bytes.fromhex(fuses))
         status, output, _, own, _ = over(["-p", "m328p", "--wait", "0.4", "--backup", name], {"chip": "old.bin"})
         words = shlex.split(output.decode())
-        check(f"{name}: its command", words[:5] == ["avrstk-serial", "--wait", "0.4", "-p", "m328p"], output)
+        check(f"{name}: its command", words[:5] == [str(SCRIPT), "--wait", "0.4", "-p", "m328p"], output)
         check_equal(
             f"{name}: there is none yet",
             status_and_lines(["--backup", name], {}),

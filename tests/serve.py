@@ -741,10 +741,13 @@ def faults():
         (["--lose", "1000"], "true", 0, 1),
         (["--lose", "1000"], "false", 1, 1),
         (["--lose", "1000", "--strict"], "true", 1, 1),
+        (["--lose", "1000", "--strict"], "exit 7", 7, 1),
+        (["--lose", "unknown"], "true", 0, 1),
+        (["--lose", "unknown#2"], "true", 0, 1),
         (["--strict"], "true", 0, 0),
     ]:
-        found, messages, _ = ran(["0", *M328P, "--log", "log", *words, "--", command])
-        expected = status, "avrstk-serve: --lose 1000 never struck\n" * count
+        found, messages, _ = ran(["0", *M328P, "--log", "log", *words, "--", "sh", "-c", command])
+        expected = status, f"avrstk-serve: {' '.join(words[:2])} never struck\n" * count
         check_equal(f"{words} {command}: it never struck", (found, messages), expected)
     if not clients[1]:
         leave_out("faults with AVRDUDE", "AVRDUDE 7.1 is not installed")

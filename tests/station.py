@@ -68,8 +68,15 @@ class Doubles:
 
 def run(words, **more):
     """Returns the status, the output, and the lines of messages."""
-    ran = subprocess.run([SCRIPT, *words], cwd=room.folder, timeout=PATIENCE, **{**HOW, **more})
-    return ran.returncode, ran.stdout.decode(), ran.stderr.decode().splitlines()
+    with forks:
+        ran = subprocess.Popen([SCRIPT, *words], cwd=room.folder, **{**HOW, **more})
+    try:
+        output, messages = ran.communicate(timeout=PATIENCE)
+    except subprocess.TimeoutExpired:
+        ran.kill()
+        ran.communicate()
+        raise
+    return ran.returncode, output.decode(), messages.decode().splitlines()
 
 
 def report():
@@ -192,8 +199,9 @@ def one_command():
 
 def refused():
     """A refused command opens no device and takes no number; its line comes once."""
-    texts = {"counter": "7\n", "bad": "seven\n", "full": f"{10**15}\n", "rows.csv": "serial,mac\nA1,0102\nA2,0304\n"}
-    for name, text in {**texts, "empty.csv": "serial\n", "odd.csv": "serial,mac\nA1\n"}.items():
+    texts = {"counter": "7\n", "bad": "seven\n", "cut": "7", "full": f"{10**15}\n"}
+    texts |= {"rows.csv": "serial,mac\nA1,0102\nA2,0304\n", "empty.csv": "serial\n", "odd.csv": "serial,mac\nA1\n"}
+    for name, text in texts.items():
         room.put(name, text.encode())
 
     def ran(words):

@@ -125,7 +125,7 @@ def found_first(browser, folder, sought):
 def looked_at(folder):
     """Opens the pages of a site and searches it. Returns how much was right, and what is wrong."""
     if not BINARY or not shutil.which("chromedriver"):
-        print("left out: the site in a browser: chromium and chromedriver are not installed")
+        print("left out: the site in a browser: chromium or chromedriver is not installed")
         return 0, []
     pages = sorted(folder.rglob("*.html"))
     wrong = []

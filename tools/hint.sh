@@ -29,11 +29,18 @@ is_for_serial() {
     done
     case $programmer in
         stk500v2) [ -z "$ignored" ] || return 0 ;;
-        wiring | avrispv2 | stk500 | arduino | arduino_as_isp | stk500v1 | avrisp) return 0 ;;
+        wiring | avrispv2 | stk500) return 0 ;;
+        arduino | arduino_as_isp | stk500v1 | avrisp)
+            # (these are on serial devices only)
+            case $port in
+                net:* | emu:* | stdio:*) return 1 ;;
+                *) return 0 ;;
+            esac
+            ;;
         *) return 1 ;;
     esac
     case $port in
-        /dev/* | tty* | COM[0-9]* | usb*) return 0 ;;
+        /dev/* | tty* | COM[0-9]*) return 0 ;;
     esac
     [ -z "$has_parts" ] || return 1
     case $part in

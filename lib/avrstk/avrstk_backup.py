@@ -2,13 +2,15 @@
 
 from __future__ import annotations
 
-from avrstk_common import Fault, show
+from avrstk_common import HERE, NAME, Fault, show
 from avrstk_words import DATA, FUSES, UNOPENED, Update, Words, records_of
 
 import contextlib
 import os
 import re
 import shlex
+import shutil
+import sys
 from pathlib import Path
 from typing import Callable
 
@@ -60,12 +62,20 @@ def back_up(words: Words, folder: str, runs: Callable[[], int]) -> int:
     return status
 
 
+def own_name() -> str:
+    """Returns what the shell calls this script, which may be in no folder of PATH, as in a clone."""
+    found = shutil.which(NAME)
+    if found and os.path.realpath(found) == os.path.join(HERE, NAME):
+        return NAME
+    return sys.argv[0] if "/" in sys.argv[0] else f"./{sys.argv[0]}"
+
+
 def command_again(words: Words, *more: str) -> str:
     """Returns a command for the same programmer and chip."""
     kept = [option for option in ("--parts", "-c", "-b", "--wait") if option in words.last]
     given = [word for option in kept for word in (option, words.last[option])]
     given += ["-p", words.part or "", "-P", words.device or "", *more]
-    return " ".join(map(shlex.quote, ["avrstk-serial", *given]))
+    return " ".join(map(shlex.quote, [own_name(), *given]))
 
 
 def restored(words: Words, folder: str) -> list[Update]:

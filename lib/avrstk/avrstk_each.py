@@ -82,12 +82,15 @@ class Counter:
             with open(self.file, encoding="ascii", errors="replace") as held:
                 text = held.read(100)
         except FileNotFoundError:
+            folder = os.path.dirname(self.file)
+            if not os.path.isdir(folder):
+                raise Fault(f"--counter {self.given}: there is no folder {folder}")
             if self.least is None:
                 raise Fault(f"--counter {self.given} is not there: --from N makes it, which begins with N")
             return self.least
         # (after the greatest number the file has one more)
         if not re.fullmatch("[0-9]{1,16}\n", text):
-            raise Fault(f"--counter {self.given} is not one line with a number")
+            raise Fault(f"--counter {self.given} is not a number and a line end")
         return max(int(text), self.least or 0)
 
     def take(self, most: int, why: str) -> int:
@@ -258,6 +261,8 @@ def image_of(memory: str, pieces: list[Run], end: str) -> Update:
 def joined(update: Update, content: bytes | None, pieces: list[Run], end: str) -> Update:
     """Returns an update that also writes these bytes, in place of those of its image. `end` says what a refusal
     leaves."""
+    if update.is_image and content is None:
+        raise Fault(f"{update.file}: cannot be opened: {end}")
     if not update.is_image or content is None:
         why = f"--each needs a file in place of values, or no -U of {update.memory}"
         raise Fault(f"-U {update.given}: {why}: {end}")

@@ -14,13 +14,15 @@ import re
 import time
 from typing import Callable, NamedTuple, Sequence
 
-# the names of the commands in a log
+# the names of the commands in a log; all others are UNKNOWN
 COMMANDS = {
     **{0x01: "SIGN_ON", 0x02: "SET_PARAMETER", 0x03: "GET_PARAMETER", 0x06: "LOAD_ADDRESS"},
     **{0x10: "ENTER_PROGMODE", 0x11: "LEAVE_PROGMODE", 0x12: "CHIP_ERASE", 0x13: "PROGRAM_FLASH", 0x14: "READ_FLASH"},
     **{0x15: "PROGRAM_EEPROM", 0x16: "READ_EEPROM", 0x17: "PROGRAM_FUSE", 0x18: "READ_FUSE", 0x19: "PROGRAM_LOCK"},
     **{0x1A: "READ_LOCK", 0x1B: "READ_SIGNATURE", 0x1C: "READ_OSCCAL", 0x1D: "SPI_MULTI"},
 }
+UNKNOWN = "unknown"
+NAMES = [*COMMANDS.values(), UNKNOWN]
 CHIP_ERASE, PROGRAM_FLASH, SPI_MULTI = 0x12, 0x13, 0x1D
 
 # the options for faults of single commands, and what a log has of them
@@ -57,8 +59,9 @@ def seconds(option: str, given: str) -> float:
     number = given.partition(":")[2] if option == "--late" else given
     if option == "--late" and ":" not in given:
         raise Fault(f"{option} {given}: give WHICH:SECONDS")
-    if not re.fullmatch(r"(?=\.?[0-9])[0-9]{0,9}(\.[0-9]*)?", number) or not float(number):
-        raise Fault(f"{option} {given}: give seconds above 0 and below {10**9}, such as 30 or 0.5")
+    # (poll takes no more than 24 days)
+    if not re.fullmatch(r"(?=\.?[0-9])[0-9]{0,6}(\.[0-9]*)?", number) or not float(number):
+        raise Fault(f"{option} {given}: give seconds above 0 and below {10**6}, such as 30 or 0.5")
     return float(number)
 
 
@@ -68,8 +71,8 @@ def which(given: str, chance: Callable[[], float]) -> Meant:
     if share:
         percent = float(share[1])
         return lambda names: chance() * 100 < percent
-    is_one = re.fullmatch("(?:([A-Z_]+)#)?[1-9][0-9]{0,8}", given)
-    if given not in COMMANDS.values() and not (is_one and is_one[1] in (None, *COMMANDS.values())):
+    is_one = re.fullmatch("(?:([A-Za-z_]+)#)?[1-9][0-9]{0,8}", given)
+    if given not in NAMES and not (is_one and is_one[1] in (None, *NAMES)):
         what = "not the name of a command in the log, its number, one of a name such as CHIP_ERASE#1"
         raise Fault(f"{given}: {what}, or a share below 100%, such as 2%")
     return lambda names: given in names
@@ -193,7 +196,7 @@ class Traffic:
         """Returns what the run gets for a command."""
         self.count += 1
         body = frame[5:-1]
-        name, more = COMMANDS.get(body[0], "unknown"), " .." if len(body) > 16 else ""
+        name, more = COMMANDS.get(body[0], UNKNOWN), " .." if len(body) > 16 else ""
         when = time.strftime("%Y-%m-%d %H:%M:%S")
         line = f"{when} client {self.client}, {frame[1]}: {name} {body[:16].hex(' ')}{more}"
         self.names[name] += 1
