@@ -17,6 +17,7 @@ environment these are failures. --all also prints the processor seconds of each 
 ratio to those of stk_frame's first check: this ratio is the same on a slow machine. The last line counts passed and
 failed checks of all steps."""
 
+import compileall
 import os
 import random
 import re
@@ -176,7 +177,7 @@ def script(name, kind="", before=(), **environment):
         environment["CASES_SHARE"] = words.pop()
     path = TOP / f"{'tools' if name in CHECKED else 'tests'}/{file}.py"
     command = [TOP / "bench/run.py", f"--{file}"] if file in BENCH else [path, *words]
-    command = [*before, *command]
+    command = [*before, sys.executable, *command]
 
     def once(more=(), again=""):
         return run(f"{kind}{name}{again}", [*command, *more], PYTHONUNBUFFERED="1", **environment)
@@ -423,6 +424,8 @@ def summary(done, checks=None):
 
 def main(words):
     say_what_lacks()
+    # (avrstk-serial and avrstk-serve load compiled modules, but write none: thousands of starts would compile them anew)
+    compileall.compile_dir(TOP / "lib/avrstk", quiet=1)
     if words == ["--all"]:
         say([machine()])
         return summary(*everything())
