@@ -95,7 +95,7 @@ check() {
             folder=$(dirname "$folder")
         done
         [ -d "$folder" ] || fail "$folder is not a folder"
-        [ -w "$folder" ] || fail "$folder cannot be written: run it by sudo, or give a folder of your own: $0 ~/.local"
+        [ -w "$folder" ] || fail "$folder cannot be written: run it by sudo, or give a folder of your own: $0${with_c:+ --with-c} ~/.local"
         [ -n "$destination" ] || [ "$file" = "$manifest" ] || [[ ! -e $file && ! -L $file ]] ||
             [[ $known == *$'\n'"${file#"${prefix%/}/"}"$'\n'* ]] ||
             fail "$file is there, but not by this script: nothing is installed"
@@ -272,7 +272,7 @@ command -v python3 >/dev/null || echo "avrstk-serial and avrstk-serve need pytho
 if ! command -v rt >/dev/null || ! command -v ar >/dev/null; then
     fail "the library for C needs rt of Rattle's kit, and ar"
 fi
-echo "proves and builds the library for C, in several minutes"
+echo "proves and builds the library for C, in several minutes, if it isn't built"
 start "$top/examples/c/build.sh" "$top/out/c"
 files=() links=() places=()
 add 644 "$top/out/c/libavr_records.a" "${library[0]}"

@@ -15,7 +15,7 @@ import sys
 import time
 from pathlib import Path
 
-from cases import PATIENCE, check, check_equal, leave_out, named, pauses, run_cases
+from cases import PATIENCE, check, check_equal, leave_out, named, pauses, put_program, run_cases
 from line import BadLine
 from program import CHIP_FILE, ENDS, PROGRAM, REPLIES, TOP, Room, Server, frame, has_avrdude, lines
 
@@ -48,6 +48,20 @@ def table_is_printed():
         check(f"is printed: {row}", row in found, "\n".join(found))
     check_equal("no other row is printed", [row for row in found if row not in wanted], [])
     check("the status", ran.returncode == 0, f"{ran.returncode}: {ran.stderr[-500:]}")
+
+
+def avrdude_that_fails():
+    """If AVRDUDE ends before it connects, for example without its configuration, compare.py ends, too."""
+    room.clear()
+    put_program(room.folder / "avrdude", "#!/bin/sh\nexit 1\n")
+    path = f"{room.folder}:{os.environ['PATH']}"
+    how = {"capture_output": True, "text": True, "env": os.environ | {"AVRSTK": str(PROGRAM), "PATH": path}}
+    ran = subprocess.run([TOP / "examples/lossy/compare.py"], **how, timeout=PATIENCE)
+    check_equal(
+        "rows of AVRDUDE with status 1", len(re.findall(r"^\| .*`avrdude.* \| no \| 1 \|", ran.stdout, re.M)), 6
+    )
+    check_equal("all rows, and the status", (len(rows(ran.stdout)), ran.returncode), (12, 0))
+    (room.folder / "avrdude").unlink()
 
 
 def frames_are_sent():
@@ -204,7 +218,7 @@ def closed_connection():
             started.communicate()
 
 
-CASES = named(table_is_printed, frames_are_sent, bad_files, no_answer, closed_connection)
+CASES = named(table_is_printed, avrdude_that_fails, frames_are_sent, bad_files, no_answer, closed_connection)
 
 if __name__ == "__main__":
     # (AVRDUDE's own timeouts count, too)

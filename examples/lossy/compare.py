@@ -9,6 +9,7 @@ new one, so that a lost erase is seen. Prints a row for each run. The status is 
 and a wrong chip.
 """
 
+import contextlib
 import os
 import shutil
 import socket
@@ -79,6 +80,9 @@ def flashed(command, lost, nth, folder):
     line = subprocess.Popen([sys.executable, HERE / "line.py", str(near), str(far), lost, str(nth)])
     listens(near)
     ran = subprocess.run([*command, f"net:127.0.0.1:{near}"], stdin=subprocess.DEVNULL, capture_output=True, text=True)
+    # (a command that never connected would leave the line waiting)
+    with contextlib.suppress(OSError), socket.create_connection(("127.0.0.1", near)):
+        pass
     line.wait()
     server.wait()
     return ran.returncode, ran.stderr, chip.read_bytes()[:FLASH]
