@@ -424,7 +424,7 @@ def summary(done, checks=None):
 
 def main(words):
     say_what_lacks()
-    # (avrstk-serial and avrstk-serve load compiled modules, but write none: thousands of starts would compile them anew)
+    # (avrstk-serial and avrstk-serve load compiled modules, but write none, and tests start them thousands of times)
     compileall.compile_dir(TOP / "lib/avrstk", quiet=1)
     if words == ["--all"]:
         say([machine()])
