@@ -143,6 +143,7 @@ proof="$programs_proved $kit."
 mark=""
 if [[ $stamp != proved* ]]; then
     proof="UNPROVED: this build was compiled without its proofs, by $kit. Nothing of it was proved."
+    [[ $stamp == unproved* ]] || proof="UNPROVED: no stamp says that this build was proved, or from which sources."
     mark=" (unproved build)"
     # (dpkg takes a proved package of the same version as newer)
     version+="~unproved"
