@@ -489,7 +489,7 @@ def typed():
         status, messages = run_script(words.format(at.device).split())
         board = at.end()
         check_equal(f"{what}: status", (status, messages.splitlines()[-1:]), (0, ["avrstk: done"]))
-        note = "avrstk-serial: version 1 has no checksums: this run is tested, not proved"
+        note = "avrstk-serial: version 1 has no checksums: such a run is tested, not proved"
         check_equal(f"{what}: is not called proved", messages.splitlines().count(note), 1)
         if words == FUSES_TYPED:
             check_equal(f"{what}: fuses and lock", board.rest()[1], b"\xff\xde\xfd\xff")

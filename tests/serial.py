@@ -198,6 +198,29 @@ class Bootloader:
     end = stop
 
 
+class Version1:
+    """A programmer that speaks version 1, without a chip: it refuses ENTER."""
+
+    def call(self):
+        ours, caller = socket.socketpair()
+        threading.Thread(target=self.live, args=(ours,), daemon=True).start()
+        return caller
+
+    def live(self, caller):
+        held, replies = b"", {b"0 ": b"\x14\x10", b"A\x81 ": b"\x14\2\x10", b"P ": b"\x14\x13", b"Q ": b"\x14\x10"}
+        with caller:
+            while piece := caller.recv(4096):
+                held += piece
+                for command in [word + b" " for word in held.split(b" ")[:-1]]:
+                    held = held[len(command) :]
+                    caller.sendall(replies.get(command, b"\x15"))
+
+    def stop(self):
+        """(It has no server to stop.)"""
+
+    end = stop
+
+
 def start(words, closed="", **more):
     """Starts avrstk-serial with these options, in the room. `closed` has shell redirections."""
     environment = os.environ | {"AVRSTK": str(PROGRAM)} | more.pop("env", {})
@@ -491,7 +514,10 @@ def no_firmware():
     why.update(dict.fromkeys(JOINED, joined))
     why.update(
         {"lib.elf": "is an ar archive, not firmware"},
-        **dict.fromkeys(["note.ELF", "a.out"], "is not ELF, despite its name"),
+        **{
+            "a.out": "is not ELF, despite its name",
+            "note.ELF": "is not ELF, despite its name: it has Intel HEX: give ",
+        },
     )
     others = {"lib.elf": PACKED["lib.a"][0], "note.ELF": room.read("blink.hex"), "a.out": b"\x0c\x94\0\0"}
     contents = {**TEXTS, **EMPTY, **JOINED, **others, **{name: held for name, (held, _) in PACKED.items()}}
@@ -506,7 +532,8 @@ def no_firmware():
     for (words, given, shown, name), found in zip(
         cases, side_by_side(lambda case: piped([*NO_CHIP, *case[0]], case[1]), cases)
     ):
-        check_equal(f"{words} {name}", found, (1, b"", b"", [f"{shown} {why[name]}: {UNOPENED}"]))
+        other = f"{words[1].partition(':a')[0]}:i" if why[name].endswith("give ") else ""
+        check_equal(f"{words} {name}", found, (1, b"", b"", [f"{shown} {why[name]}{other}: {UNOPENED}"]))
     texts_and_firmware()
     wanted = [f"/dev/zero has more than 67,108,864 bytes: {UNOPENED}"]
     check_equal("what never ends", run([*NO_CHIP, "-U", "flash:w:/dev/zero:r"]), (1, b"", b"", wanted))
@@ -791,7 +818,7 @@ def the_part_of_the_chip():
     check("the run's own lines alone", printed.startswith(lines(SIGNATURE, "chip erased")), printed)
     check_equal("the chip", programmer.end(), wanted)
     _, _, _, own, _ = over(["-p", "auto", "-U", "flash:w:gone.hex:i"], {})
-    sent = "the chip is unchanged, and may be held in reset: power-cycle the board"
+    sent = "the chip is unchanged"
     check_equal(
         "what its session sent is known", own, ["the chip is m328p (1E 95 0F)", f"there is no such file; {sent}"]
     )
@@ -890,7 +917,7 @@ def few_lines():
     status, _, _, own = run([*quiet, "-P", str(board.device)])
     shown = ["efuse of m328p has no bits 3, 4, 5, 6, 7; given as 1: efuse:w:0xFD:m"]
     shown.append(
-        "warning: lfuse:w:0:m selects an external clock: the chip only works while a clock drives its pin XTAL1"
+        "warning: lfuse:w:0:m selects an external clock: the chip only works while a clock drives its pin XTAL1 or CLKI"
     )
     check_equal("-q twice", (status, own), (0, shown))
     check("the chip", board.end()[:228] == flashed()[:228])
@@ -918,7 +945,7 @@ def backups_that_fail():
     def refused(answer):
         return frame(answer[1], b"\x1c\xc0") if answer[5] == 0x1C else written(answer)
 
-    only_leaving = "everything was done; only the last command got no reply. Power-cycle the board"
+    only_leaving = "only the last command got no reply. Power-cycle the board, and run the same command again"
     fails = [
         ({"answer": refused}, ["--backup", "gone"], f"{loader}; no backup is kept"),
         ({"answer": refused}, ["--restore", "a backup"], loader),
@@ -941,13 +968,18 @@ def backups_that_fail():
     for board, words, why in fails:
         status, own = status_and_lines(words, board)
         check(f"{words}: {why}", status == 1 and own[-1].startswith(why) and not (room.folder / "gone").exists(), own)
-    for file, text, why in [
-        ("lock.txt", b"0xfc", f"none is of a chip that was {locked}"),
-        ("eeprom.hex", hex_of([(0, b"1")]), "none/eeprom.hex is not the whole EEPROM"),
+    cut = hex_of([(0, bytes(512))])
+    for file, text, why, words in [
+        ("lock.txt", b"0xfc", f"none is of a chip that was {locked}", []),
+        ("eeprom.hex", hex_of([(0, b"1")]), "none/eeprom.hex is not the whole EEPROM", []),
+        ("eeprom.hex", cut, "none/eeprom.hex is not the whole EEPROM", CLASSIC),
+        ("eeprom.hex", cut, "none/eeprom.hex is not the whole EEPROM", ["-p", "auto"]),
+        ("flash.hex", b"".join(cut.splitlines(True)[:-1]), "none/flash.hex has no end record, so it is cut short", []),
     ]:
         kept = room.read(f"none/{file}")
         room.put(f"none/{file}", text)
-        check_equal(why, status_and_lines(["--restore", "none"], {"talk": b"x"}), (1, [f"{why}: {UNOPENED}"]))
+        own = status_and_lines([*words, "--restore", "none"], {"talk": b"x"})
+        check_equal(why, own, (1, [f"{why}: {UNOPENED}"]))
         room.put(f"none/{file}", kept)
 
 
@@ -1003,7 +1035,7 @@ def warnings():
         own = run(["-p", part, "-P", "emu:no.bin", *words.split()])[3]
         room.clear()
         check(f"{part} {words}", bool(own) == bool(wanted) and all(line.startswith(wanted) for line in own), own)
-    hides = "flash is erased, or the lock hides it (then -U lock:r:-:h prints a lock whose bit 1 is 0)"
+    hides = "flash was erased when it was read, or the lock hid it (then -U lock:r:-:h prints a lock whose bit 1 is 0)"
     for words, shown in ("", [hides]), ("-A", []), ("-q -q", []):
         check_equal(f"erased {words}", over(["-p", "m328p", *words.split(), "-U", "flash:r:none.hex:i"])[3], shown)
 
@@ -1555,7 +1587,8 @@ FOLLOWED = [
             case.get("made", "blink.hex"),
         ),
     ),
-    (r": give (\S+:[ise]);", lambda words, _, found: renamed(words, found[1])),
+    (r": give (\S+:[ise])[;:] ", lambda words, _, found: renamed(words, found[1])),
+    (r"^signature has 3 bytes|^calibration has 1 byte", lambda *_: None),
     (r"the memories are flash, eeprom, lfuse", changed("^fuse", "lfuse")),
     (
         r"the operations are w \(write\)|the formats are i, s, r, e, a and m to write|a file comes third, as MEMORY:",
@@ -1582,7 +1615,10 @@ FOLLOWED = [
     ),
     (r"; without --parts \w+ is known;", lambda words, *_: without(words, "--parts", "mine.toml")),
     (r"^with --parts, -p takes a part as that file names it, or (m328p)", changed("^m9$", r"\1")),
-    (r"only bits that the part doesn't have differ: give (\S+)", lambda words, _, found: valued(words, found[1])),
+    (
+        r"^(?:only bits that the part doesn't have differ|bit 5 \(SPIEN\) stays 0 at most parts): give (\S+)",
+        lambda words, _, found: valued(words, found[1]),
+    ),
     (r"bits ([\d, ]+) stay 1. If the part has none of them, give (\S+)\. If it has any of them, (.*)", stays),
     (r"only an erase \(-e\) removes (a|the) lock, and clears all of", lambda words, *_: [*words, "-e"]),
     (r"^-U lock was given before: give it last", lock_last),
@@ -1692,7 +1728,7 @@ def followed(name, words, **case):
         check(f"{name}: it comes to an end", False, hints)
     seen.update(chosen)
     # (a bootloader's chip has a lock that is open)
-    found = bytes(server.flash) + b"\xff" if server else room.read(chip) or b""
+    found = bytes(server.flash) + b"\xff" if isinstance(server, Bootloader) else room.read(chip) or b""
     return status if words else None, hints, found
 
 
@@ -1774,6 +1810,7 @@ def kind_of(name):
                 else reply
             }
         },
+        "version 1": lambda: {"board": {"server": Version1()}},
         "full": lambda: {"more": {"closed": ">&-"}},
         "a bare root": lambda: {
             "more": {"by": ["setpriv", "--bounding-set=-dac_override,-dac_read_search"] if ANYONE else []}
@@ -1853,7 +1890,7 @@ def put_files_of_walks(good):
         "elf.hex": room.read("small.elf"),
         "comment.hex": b"; made by x\n" + good,
         "page.hex": b"<!DOCTYPE html>\n<p>no such firmware</p>\n",
-        **{"srec.hex": room.read("blink.srec"), "hex.srec": good},
+        **{"srec.hex": room.read("blink.srec"), "hex.srec": good, "named.elf": good},
         **{"closed.hex": good, "closed.elf": room.read("small.elf")},
         "late.hex": hex_of([(0x1000, b"late")]),
         "other.hex": hex_of([(0x1000, b"\xfe\xdc\xba\x98")]),
@@ -2066,6 +2103,28 @@ def reports():
     report_of_updates()
     report_over_a_port()
     report_after_a_signal()
+    unread_command_lines()
+
+
+def unread_command_lines():
+    """A command line that can't be read has a report, too, but not in a file that it may name as another one."""
+    for words, wanted in [
+        (["-p", "m8", "-z", "--json", "unread.json"], ("option -z not recognized", "m8", None)),
+        (
+            ["--json=unread.json", "-P", "x", "--backup", "y", "-e"],
+            ("--backup reads all memories: leave out -e", None, "x"),
+        ),
+        (["--json", "unread.json", "-Pa", "-Pb", "--wait"], ("option --wait requires argument", None, None)),
+    ]:
+        room.put("unread.json", b"old")
+        check_equal(f"{words}: the line", run(words)[::3], (1, [wanted[0]]))
+        found = report_of("unread.json")
+        check_equal(f"{words}", tuple(found.get(name) for name in ("error", "part", "device")), wanted)
+        check_equal(f"{words}: its kind", (found["status"], found["kind"]), (1, "arguments"))
+    room.put("unread.json", b"old")
+    run(["--json", "unread.json", "-U", "flash:w:unread.json", "-z"])
+    check_equal("it may be an image", room.read("unread.json"), b"old")
+    check_equal("the output", json.loads(run(["--json", "-", "-z"])[1])["error"], "option -z not recognized")
 
 
 def places_of_reports():

@@ -662,6 +662,12 @@ def logged():
             check_equal("it is hung up on", client.recv(1), b"")
         server.end()
     check_equal("its lines", marks(), [row for row, in table("log")])
+    with Serving("--log", "other", "--lose", "unknown") as server, server.call() as client:
+        client.sendall(frame(1, 0x55) + frame(2, 0x01))
+        begin = frame(2, 0x01, 0)[:1]
+        check_equal("a command without a name is lost", received(client, 2), begin + b"\2")
+        server.end()
+    check("its mark", b"client 1, 1: unknown 55: lost\n" in room.read("other"), room.read("other"))
 
 
 def logs_that_take_no_more():

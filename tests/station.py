@@ -416,7 +416,7 @@ def signals():
             messages = station.communicate(timeout=PATIENCE)[1].decode().splitlines()
         check_equal(f"{number.name}: the status", station.returncode, 1)
         for name in names:
-            state = f"ended by {number.name}: the chip may be erased or partly written, and held in reset"
+            state = f"ended by {number.name}: the chip may be erased or partly written, and in programming mode"
             check(
                 f"{number.name}: {name}",
                 any(row.startswith(f"{name}: avrstk-serial: {state}") for row in messages),

@@ -3,9 +3,10 @@
 from __future__ import annotations
 
 from avrstk_common import HERE, NAME, Fault, show
-from avrstk_words import DATA, FUSES, UNOPENED, Update, Words, records_of
+from avrstk_words import DATA, END, FUSES, UNOPENED, Update, Words, parts_of, records_of
 
 import contextlib
+import copy
 import os
 import re
 import shlex
@@ -86,12 +87,23 @@ def restored(words: Words, folder: str) -> list[Update]:
         raise Fault(f"{folder} is of a chip that was {LOCKED}")
     if own and own != signature:
         raise Fault(f"{folder} is of a chip {signature}, and {words.part} is {own}")
-    if sorted(eeprom) != list(range(words.field("eeprom_size") or len(eeprom))):
+    if sorted(eeprom) != list(range(len(eeprom))) or has_more(words, signature, len(eeprom)):
         raise Fault(f"{folder}/eeprom.hex is not the whole EEPROM")
+    if not END.search(text_of(folder, "flash").encode()):
+        raise Fault(f"{folder}/flash.hex has no end record, so it is cut short")
     # (if all of flash is FF, the erase restores it)
     flash = f"{folder}/flash.hex:i" if DATA.search(text_of(folder, "flash").encode()) else "0xFF:m"
     values = [f"{memory}:w:0x{bytes_of(folder, memory)[0]:02X}:m" for memory in ["efuse", "hfuse", "lfuse", "lock"]]
     return [Update(text) for text in [f"flash:w:{flash}", f"eeprom:w:{folder}/eeprom.hex:i", *values]]
+
+
+def has_more(words: Words, signature: str, size: int) -> bool:
+    """Whether the part has EEPROM at this address. -p auto takes the part of the chip, whose signature is compared."""
+    only, past = copy.copy(words), Update("eeprom:w:past.hex:i")
+    only.part = next(iter(parts_of(signature)), None) if words.part == "auto" else words.part
+    past.elf, only.updates, only.flags = [(size, b"\0")], [past], []
+    past.hand_on(b"")
+    return only.plan().frames > 0
 
 
 def asking(folder: str | None) -> list[Update]:

@@ -3,7 +3,9 @@
 from __future__ import annotations
 
 from avrstk_common import parts
-from avrstk_words import FORMATS, FUSES, MEMORIES, RECORD, UNOPENED, Update, Words, long_name, parts_of, rows_of
+from avrstk_elf import AREAS
+from avrstk_words import FORMATS, FUSES, MEMORIES, RECORD, UNOPENED, Update, Words, form_of, long_name, parts_of
+from avrstk_words import rows_of
 
 import os
 import re
@@ -13,18 +15,20 @@ from dataclasses import dataclass, field
 from typing import Callable, Dict, Match, Union
 
 # STK500v2 commands: those that change a chip, and others
-CHANGING, SIGN_ON, LEAVE = {0x12, 0x13, 0x15, 0x17, 0x19, 0x1D}, 0x01, 0x11
+CHANGING, SIGN_ON, ENTER, LEAVE = {0x12, 0x13, 0x15, 0x17, 0x19, 0x1D}, 0x01, 0x10, 0x11
 
 # what a programmer without a chip reads as its signature
 NO_SIGNATURES = {"00 00 00", "FF FF FF"}
 NO_CHIP = "the programmer finds no chip: check the wires and the power"
+NO_REACH = "the programmer can't reach the chip"
 SAME = "run the same command again"
 ONE_IMAGE = "give one image that begins at 0 and leaves out no page"
 POWER_CYCLE = "power-cycle the board"
 UNCHANGED = "the chip is unchanged"
 MAYBE_CHANGED = "the chip may be erased or partly written"
 TAKES = "flash (a bootloader, too), and EEPROM unless the fuse bit EESAVE is 0"
-HIDDEN = "or the lock hides it (then -U lock:r:-:h prints a lock whose bit 1 is 0)"
+OPEN_LOCK = "then -U lock:r:-:h prints a lock whose bit 1 is 0"
+HIDDEN = f"or the lock hides it ({OPEN_LOCK})"
 LOCKED = f"a lock protects it: only an erase (-e) removes the lock, and clears all of {TAKES}"
 ANOTHER = "If this is a programmer, it can't erase: use another one"
 LOADER = "a bootloader can't erase the chip"
@@ -53,6 +57,10 @@ class Outcome:
     left_at_error: bool = False
     # whether the session that may change the chip got as far as its signature
     may_change: bool = False
+    # whether the chip may be in programming mode: it was at the begin, or ENTER was sent, and LEAVE got no good reply
+    is_held: bool = False
+    # whether this is a session before the run, which only asks
+    is_before: bool = False
 
 
 def state_of(run: Outcome) -> str:
@@ -63,8 +71,8 @@ def state_of(run: Outcome) -> str:
     if sent <= {SIGN_ON}:
         return UNCHANGED
     if not CHANGING & sent:
-        return f"{UNCHANGED}, and may be held in reset: {POWER_CYCLE}"
-    return f"{MAYBE_CHANGED}, and held in reset: {again(run.words)}"
+        return f"{UNCHANGED}, and may be in programming mode: {POWER_CYCLE}" if run.is_held else UNCHANGED
+    return f"{MAYBE_CHANGED}{', and in programming mode' * run.is_held}: {again(run.words)}"
 
 
 def again(words: Words) -> str:
@@ -97,8 +105,8 @@ def hint(run: Outcome, number: int | None) -> str:
     """Returns what to do after a failed run, judged by its first error. `number` is the signal that ended it."""
     error, words, state = run.error, run.words, state_of(run)
     if number:
-        if LEAVE in run.commands and not error:
-            state = f"everything reported above was done; the chip may be held in reset: {POWER_CYCLE}"
+        if LEAVE in run.commands and not error and not run.is_before and words.backup is None:
+            state = "everything was done" + f"; the chip may be in programming mode: {POWER_CYCLE}" * run.is_held
         return f"ended by {signal.Signals(number).name}: {state}"
     if CHANGING & run.earlier and not CHANGING & run.commands:
         return state
@@ -111,21 +119,46 @@ def hint(run: Outcome, number: int | None) -> str:
     if run.is_noisy:
         why = f"the device sends data, but no valid reply: its application is running, or {speed} is wrong"
         return f"{why}. Check {others}"
-    if error == "no answer" and run.left_at_error:
+    if error == "no answer" and run.left_at_error and not run.is_before:
+        if words.backup is not None:
+            return f"only the last command got no reply. {POWER_CYCLE.capitalize()}, and {SAME}"
         return f"everything was done; only the last command got no reply. {POWER_CYCLE.capitalize()}"
     if error == "no answer" and run.commands <= {SIGN_ON, LEAVE}:
         return f"no valid reply; {UNCHANGED}. Check: {speed}; that no serial monitor has the port open; {others}"
-    return matched(REPLIED, error, words, speed=speed, state=state) or state
+    return matched(REPLIED, error, words, speed=speed, state=state, noisy=noisy(words, error)) or state
 
 
 def other_kinds(words: Words) -> str:
     """Returns what -c to give if the device is of another kind than -c names."""
-    itself = "To write an Uno or Nano itself give -c arduino -D"
+    other = "To write another chip by an Uno or Nano give -c arduino_as_isp"
     if not words.is_version1:
-        return f"{itself}, and to write another chip by it, -c arduino_as_isp"
-    speeds = "Without -b each speed is tried. " if words.is_bootloader and "-b" in words.last else ""
-    other = "To write another chip by an Uno or Nano give -c arduino_as_isp" if words.is_bootloader else itself
-    return f"{speeds}For a programmer of STK500v2 leave out -c {words.programmer}. {other}"
+        return ". ".join([*loaders(words), other])
+    speeds = ["Without -b each speed is tried"] * (words.is_bootloader and "-b" in words.last)
+    stk500v2 = f"For a programmer of STK500v2 leave out -c {words.programmer}"
+    return ". ".join([*speeds, stk500v2, *loaders(words), *[other] * words.is_bootloader])
+
+
+def loaders(words: Words) -> list[str]:
+    """Returns what -c to give to write a board by its own bootloader, if one may do what the command asks for."""
+    memories = {Update(given).memory for given in words.given} | {each.partition("@")[0] for each in words.each_given}
+    if memories - {"flash", "signature"} or {"-e", "--backup", "--restore", "--try-rows"} & set(words.last):
+        return []
+    is_auto, is_mega = words.last.get("-p") == "auto", words.chip() == "atmega2560"
+    uno = "To write an Uno or Nano itself give -c arduino -D"
+    mega = "To write a Mega 2560 itself give -c wiring -D"
+    return [uno] * (words.programmer.lower() != "arduino" and (is_auto or not is_mega)) + [mega] * (
+        not words.is_wiring and (is_auto or is_mega)
+    )
+
+
+def noisy(words: Words, error: str) -> str:
+    """Returns why four replies to a command may have been of a corrupt frame."""
+    if not words.is_version1:
+        return "the line is noisy (check the cable)"
+    # (then a reply wasn't as avrstk_version1 expects it)
+    causes = {"command 10": NO_REACH} if not words.is_bootloader else {}
+    causes.update({"command 14": "flash outside the image is not FF"} if erases(words) else {})
+    return f"{causes.get(error[:10], 'the device refused the command')}, or the line is noisy"
 
 
 def matched(table: Table, error: str, words: Words, **fields: str) -> str:
@@ -151,11 +184,11 @@ def no_part(words: Words, _: Match[str] | None) -> str:
         return f"without the package: -p {package}"
     if f"at{package}" in parts():
         return f"give -p at{package}"
-    if re.match("uno|nano|pro|mega|leonardo|micro", name):
+    if re.match(r"(uno|nano|pro|mega(2560)?|leonardo|micro)(?!\d|.*(every|wifi|r4|esp|rp2040))", name):
         boards = "m328p for Uno, Nano and Pro Mini, m2560 for Mega 2560, m32u4 for Leonardo, Micro and Pro Micro"
         return f"-p takes the chip's name, not the board's: {boards}"
     auto = "" if words.part or words.has_port else ", and -p auto takes whichever is there"
-    return f"-p '?' lists the parts{auto}; others need a part file (--parts)"
+    return f"-p '?' lists the parts{auto}; others with ISP need a part file (--parts)"
 
 
 def unread(words: Words, found: Match[str]) -> str:
@@ -168,10 +201,9 @@ def unread(words: Words, found: Match[str]) -> str:
     held, is_at_begin = update.held(65_536) if update else b"", fault == "no record mark" and line == "1"
     if not update or not is_at_begin and held[:4] != b"\x7fELF":
         return "the file is damaged or cut short: build or download it again"
-    other = {b":": "i", b"S": "s", b"\x7f": "e"}.get(held[:1], update.format)
-    if other and other != update.format:
-        given = shlex.quote(f"{update.memory}:{update.operation}:{update.file}:{other}")
-        return f"it has {FORMATS.get(other)}: give {given}"
+    other = form_of(held) or update.format
+    if other and other != update.format and (other != "e" or update.memory in AREAS):
+        return f"it has {FORMATS.get(other)}: give {update.given_as(other)}"
     if re.search(rb"^" + RECORD.pattern, held, re.M):
         cure = "delete that if it is a comment, else build or download the file again"
         return f"something is above its first record: {cure}"
@@ -182,12 +214,13 @@ def too_far(words: Words, update: Update, address: int) -> str:
     """Returns the hint for an image with a byte at an address that its memory doesn't have."""
     own = f"{update.memory}:{update.operation}"
     if address >= 0x810000:
-        return f"it has addresses of several memories, as ELF has: give the ELF file itself, as {own}:NAME.elf"
+        return f"it has addresses of EEPROM or fuses, as ELF has: give the ELF file itself, as {own}:NAME.elf"
     if update.memory in FUSES:
         return f"{update.memory} has 1 byte: give its value, as {own}:0xNN:m"
-    sizes = {"signature": 3, "calibration": 1}
-    size = sizes.get(update.memory) or words.field(f"{update.memory}_size")
-    room = f"has {size:,} byte{'s' if size > 1 else ''}" if size else "is smaller"
+    if update.memory in ("signature", "calibration"):
+        return f"{update.memory} has {'3 bytes' if update.memory == 'signature' else '1 byte'}"
+    size = words.field(f"{update.memory}_size")
+    room = f"has {size:,} bytes" if size else "is smaller"
     goes_on = f"{update.file} goes past it: " if update.elf else ""
     return f"{update.memory} of {words.part} {room}; {goes_on}is -p right?"
 
@@ -198,7 +231,9 @@ def unopened(words: Words, found: Match[str]) -> str:
     own = next((update for update in words.updates if update.file == file), None)
     if own:
         update = f"{own.memory}:{own.operation}"
-        if own.operation in "wv" and re.fullmatch(r"(0[xb])?[0-9A-Fa-f, \t]+", file):
+        # (letters alone may be a file's name, but not for a fuse)
+        form = r"(0[xb])?[0-9A-Fa-f, \t]+" if own.memory in FUSES else r"(0[xb])?[A-Fa-f, \t]*[0-9][0-9A-Fa-f, \t]*"
+        if own.operation in "wv" and re.fullmatch(form, file):
             if not re.fullmatch("[1-9][0-9]", file):
                 return f"a value needs :m after it, as {update}:{as_value(file)}:m"
             base = f"{update}:0x{file}:m if it is hexadecimal, {update}:{file}:m if it is decimal"
@@ -241,7 +276,7 @@ def differs(words: Words, found: Match[str]) -> str:
     own = [update for update in words.updates if update.memory == memory]
     compared = ", ".join(update.file for update in own if update.operation == "v")
     writes = [update for update in own if update.operation == "w"]
-    bits = words.bits().get(memory)
+    bits = words.bits().get(memory) if words.restore is None else None
     if bits is not None and not (wanted ^ held) & bits:
         if not ~(wanted | bits) & 0xFF:
             same = f"{memory}:{'w' if writes else 'v'}:0x{held:02X}:m"
@@ -249,7 +284,7 @@ def differs(words: Words, found: Match[str]) -> str:
             return f"bits that this part lacks read 0, not 1: is -p right? If it is, give {same}{unmasked}"
         return f"only bits that the part doesn't have differ: give {memory}:{'w' if writes else 'v'}:0x{held:02X}:m"
     if not writes:
-        is_hidden = memory in ("flash", "eeprom") and not words.is_bootloader
+        is_hidden = memory in ("flash", "eeprom") and not words.is_bootloader and not erases(words)
         return f"{memory} holds something else than {compared}" + f", {HIDDEN}" * is_hidden
     if memory in FUSES:
         return unlike_fuse(words, memory, wanted, held)
@@ -262,17 +297,18 @@ def differs(words: Words, found: Match[str]) -> str:
     if compared:
         return f"{always}{memory} holds something else than {compared}"
     worn = "a page may be worn" if is_erased else f"a page may be worn, or {LOCKED}"
-    if len(writes) > 1:
+    if memory == "flash" and sum(update.may_have(address) for update in writes) > 1:
         return f"{always}two images overlap (give one of them), or {worn}"
-    is_far = memory == "eeprom" and address > 0xFF
-    far = "a bootloader reads other addresses above 255 (use a programmer), " if is_far else ""
+    # (a restore, and version 1, need a programmer)
+    is_far = memory == "eeprom" and address > 0xFF and words.restore is None and not words.is_version1
+    far = "a Mega's bootloader reads other addresses above 255 (use a programmer), " if is_far else ""
     return f"{always}{far}{worn}"
 
 
 def erases(words: Words) -> bool:
     """Whether the command erases the chip."""
     writes_flash = any(update.writes_flash() for update in words.updates)
-    return "-e" in words.flags or writes_flash and "-D" not in words.flags
+    return "-n" not in words.flags and ("-e" in words.flags or writes_flash and "-D" not in words.flags)
 
 
 def is_after_lock(words: Words, memory: str) -> bool:
@@ -286,13 +322,15 @@ def unlike_fuse(words: Words, memory: str, wanted: int, held: int) -> str:
     cause = "the chip or the programmer is damaged" if erases(words) else LOCKED
     if is_after_lock(words, memory):
         cause = "-U lock was given before: give it last"
-    if memory == "lock":
+    if memory == "lock" and words.restore is None and not words.is_version1:
         cause = "a bootloader can't write the lock: use a programmer"
     # (a bit that a part doesn't have reads 1)
-    if memory not in words.bits() and memory in ("efuse", "lock") and not wanted & ~held:
+    if words.restore is None and memory not in words.bits() and memory in ("efuse", "lock") and not wanted & ~held:
         stay = ", ".join(str(bit) for bit in range(8) if (held & ~wanted) >> bit & 1)
         update = f"{memory}:w:0x{held:02X}:m"
         return f"bits {stay} stay 1. If the part has none of them, give {update}. If it has any of them, {cause}"
+    if memory == "hfuse" and wanted & ~held == 0x20 and not held & ~wanted:
+        return f"bit 5 (SPIEN) stays 0 at most parts: give hfuse:w:0x{held:02X}:m"
     locks = [update for update in words.updates if update.operation == "w" and update.memory == "lock"]
     if memory == "lock" and len(locks) > 1:
         return "the lock is given twice: give one value"
@@ -307,9 +345,10 @@ def remains(words: Words) -> str:
     """Returns the hint after flash that kept zeros of before, since nothing erased it."""
     # (a bootloader of version 1 erases each page that it writes)
     is_erased = words.is_version1 or words.is_whole()
-    bootloader = "a page may be worn" if is_erased else f"{ONE_IMAGE}, since it erases pages from 0 on"
+    mega = f"a Mega's bootloader {ONE_IMAGE}, since it erases pages from 0 on"
+    bootloader = "a bootloader a page may be worn" if is_erased else mega
     programmer = f"With a programmer leave out -D: the erase clears all of {TAKES}"
-    return f"old bytes remain without an erase. {programmer}; with a bootloader {bootloader}"
+    return f"old bytes remain without an erase. {programmer}; with {bootloader}"
 
 
 def unerased(words: Words, _: Match[str]) -> str:
@@ -352,9 +391,8 @@ REPLIED: Table = {
     r"(\w+): address (\w+): (\w+) expected, (\w+) found": differs,
     r"signature is (\w\w \w\w \w\w)": another_part,
     "command 12 ": unerased,
-    "command 14 refused with status C1": "flash outside the image is not FF, or the line is noisy: {state}; "
-    "if it refuses again, use another programmer",
-    "command 10 ": "the programmer can't reach the chip, which is unchanged: check wires, power, clock and reset pin",
+    r"command \w\w refused with status C1": "{noisy}: {state}; if it refuses again, use another programmer",
+    "command 10 ": f"{NO_REACH}: check wires, power, clock and reset pin; {UNCHANGED}",
     "command (17|19|1C) ": "a bootloader can't write fuses and the lock, or read the calibration: use a programmer",
     "no answer$": "no further valid reply: check the cable and the power; {state}",
     "no answer in|.*bad answer$": "something else sends data (the board's application), {speed} is wrong, or the "

@@ -7,11 +7,23 @@ from avrstk_common import heed_signals, is_frame, messages, parts, print_line, r
 from avrstk_common import version, wait
 from avrstk_backup import asking, back_up, restored
 from avrstk_each import Each
+from avrstk_faults import xor
 from avrstk_report import Report, fault_of, write
 from avrstk_rows import try_rows
-from avrstk_hints import CHANGING, HIDDEN, LEAVE, MAYBE_CHANGED, NO_CHIP, NO_SIGNATURES, ONE_IMAGE, POWER_CYCLE
-from avrstk_hints import SAME, SIGN_ON, UNCHANGED, Outcome, hint, may_erase_kept, overwritten, state_of
-from avrstk_station import station
+from avrstk_hints import CHANGING, ENTER, LEAVE, MAYBE_CHANGED, NO_CHIP, NO_SIGNATURES, ONE_IMAGE, OPEN_LOCK
+from avrstk_hints import (
+    POWER_CYCLE,
+    SAME,
+    SIGN_ON,
+    UNCHANGED,
+    Outcome,
+    erases,
+    hint,
+    may_erase_kept,
+    overwritten,
+    state_of,
+)
+from avrstk_station import made, station
 from avrstk_version1 import SPEEDS, Bridge
 from avrstk_words import FORMATS, FUSES, UNOPENED, Update, Words, long_name, parts_of
 
@@ -19,6 +31,7 @@ import contextlib
 import copy
 import errno
 import fcntl
+import getopt
 import glob
 import grp
 import os
@@ -63,8 +76,9 @@ NONE_HERE = "no serial device of USB is here now"
 # Linux's tcgets2 and tcsets2. Their 44 bytes: four words of flags, a byte, 19 control characters, two speeds
 TCGETS2, TCSETS2, BOTHER = 0x802C542A, 0x402C542B, 0x1000
 
-FAR = "a bootloader reads other addresses above 255"
-ONE_WRITE = "a bootloader erases pages from 0 on, so one command writes flash once, from 0 on without gaps"
+FAR = "a Mega's bootloader reads other addresses above 255"
+OWN_PAGES = "a bootloader of version 1 erases each page that it writes, and two of these images share a page"
+ONE_WRITE = "a Mega's bootloader erases pages from 0 on, so one command writes flash once, from 0 on without gaps"
 
 # the commands that carry the bytes of a memory
 CARRYING = {0x13: "writing flash", 0x14: "reading flash", 0x15: "writing eeprom", 0x16: "reading eeprom"}
@@ -72,12 +86,12 @@ CARRYING = {0x13: "writing flash", 0x14: "reading flash", 0x15: "writing eeprom"
 # fuses that keep an ISP programmer from the chip, by parts' long names: what a value does, its memory, its bits and
 # how these read then (by the parts' data sheets and the headers of avr-libc)
 GONE = "no ISP programmer reaches the chip then"
-EXTERNAL = "selects an external clock: the chip only works while a clock drives its pin XTAL1"
+EXTERNAL = "selects an external clock: the chip only works while a clock drives its pin XTAL1 or CLKI"
 SLOW = "selects a clock of 128 kHz or less, which is too slow for most programmers: they don't reach the chip then"
 RESET = f"turns the reset pin off (RSTDISBL): {GONE}"
 DEBUG = "turns debugWIRE on (DWEN): no ISP programmer reaches the chip after its next power-up"
 RISKS = [
-    ("", (f"turns SPIEN off: {GONE}", "hfuse", 0x20, 0x20)),
+    ("", (f"has SPIEN off: most parts keep it on, and the comparison fails; else {GONE}", "hfuse", 0x20, 0x20)),
     ("(?!attiny88)", (EXTERNAL, "lfuse", 0x0F, 0)),
     ("attiny88", (EXTERNAL, "lfuse", 0x03, 0)),
     ("attiny88", (SLOW, "lfuse", 0x03, 3)),
@@ -356,6 +370,7 @@ class Talk:
                 time.sleep(self.wait)
             self.count(frame)
             self.outcome.commands.add(frame[5])
+            self.outcome.is_held |= frame[5] == ENTER
             self.progress.frame(frame[5:-1])
         return piece
 
@@ -372,6 +387,8 @@ class Talk:
             self.words.note(f"the device replies at {self.words.baud} baud")
         for frame in filter(is_frame, self.replies.pieces(piece)):
             self.silent.pop(frame[1], None)
+            if frame[5:7] == bytes([LEAVE, 0]) and not xor(frame):
+                self.outcome.is_held = False
         if piece and time.monotonic() > self.quiet_until and self.outcome.commands <= {SIGN_ON, LEAVE}:
             self.outcome.is_noisy = True
         return piece
@@ -380,8 +397,8 @@ class Talk:
 class Run:
     """One run of avrstk. Once avrstk connects, the device is bridged to its port, unless it has a port of its own."""
 
-    def __init__(self, words: Words, earlier: frozenset[int], put: Callable[[bytes], None]) -> None:
-        self.words, self.put, self.outcome, self.progress = words, put, Outcome(words, earlier), Progress(words)
+    def __init__(self, words: Words, outcome: Outcome, put: Callable[[bytes], None]) -> None:
+        self.words, self.put, self.outcome, self.progress = words, put, outcome, Progress(words)
         # the files to close, and the ways between avrstk and the device
         self.files: list[socket.socket | Device | Bridge] = []
         self.ways: tuple[Way, ...] = ()
@@ -547,7 +564,7 @@ def judge_options(words: Words) -> None:
     """Refuses options that are not avrstk-serial's, or have a value that they don't take."""
     name = words.programmer.lower()
     if name not in SPEAKING:
-        what = f" is {PROGRAMMERS[name]}" if name in PROGRAMMERS else ": this speaks STK500 only"
+        what = f" is {PROGRAMMERS[name]}" if name in PROGRAMMERS else ": this speaks STK500 in ISP mode only"
         raise Fault(f"-c {words.programmer}{what}: use avrdude -c {words.programmer}")
     for option in words.last:
         if option in REFUSED:
@@ -654,14 +671,13 @@ def judge_bootloader(words: Words) -> None:
         raise Fault(f"{is_for}, which can't erase the chip: {', and '.join(cures)}. {programmer}; {UNOPENED}")
     for update in words.updates if words.is_version1 else []:
         if update.memory not in ("flash", "signature"):
-            why = f"{is_for}, which has only flash and the signature: use a programmer"
+            why = f"{is_for}, and only for its flash and signature: use a programmer"
             raise Fault(f"-U {update.given}: {why}; {UNOPENED}")
-    if words.is_wiring:
-        judge_pieces(words, UNOPENED)
+    judge_pieces(words, UNOPENED)
 
 
 def judge_pieces(words: Words, end: str) -> None:
-    """Refuses flash that isn't written once, from address 0 on without gaps."""
+    """Refuses flash that a bootloader can't write as the command does."""
     why = why_pieces(words)
     if why:
         raise Fault(f"{why}; {end}")
@@ -670,6 +686,10 @@ def judge_pieces(words: Words, end: str) -> None:
 def why_pieces(words: Words) -> str | None:
     """Returns why a bootloader can't write flash as the command does; None if it can, as far as is known."""
     writes = [update for update in words.updates if update.writes_flash()]
+    if words.is_version1:
+        pages = words.flash_pages() if len(writes) > 1 else None
+        cure = joined(writes, []).replace(ONE_IMAGE.capitalize(), "Give one image in place of them")
+        return f"{OWN_PAGES}. {cure}" if pages and overlaps(pages) else None
     if len(writes) > 1 or writes and words.is_whole() is False:
         return f"{ONE_WRITE}. {joined(writes, words.flash_pages() or [])}"
     return None
@@ -703,11 +723,13 @@ def judge_part(words: Words, end: str) -> None:
         if named and update.signature in (None, own):
             continue
         chip = update.chip or " or ".join(parts_of(update.signature or "")) or update.signature
-        why = f"{update.file} is made for {chip}, and -p is {words.part}"
+        why, cure = f"{update.file} is made for {chip}, and -p is {words.part}", "give -p for that chip, or -F"
+        if words.last.get("-p") == "auto":
+            why, cure = f"{update.file} is made for {chip}, and the chip is {words.part}", "give another file, or -F"
         if "-F" not in words.flags:
-            raise Fault(f"{why}: give -p for that chip, or -F if it fits both (-F takes any chip); {end}")
+            raise Fault(f"{why}: {cure} if it fits both (-F takes any chip); {end}")
         words.note(f"warning: {why}")
-    writes = words.is_wiring and any(update.writes_flash() for update in words.updates)
+    writes = words.is_bootloader and any(update.writes_flash() for update in words.updates)
     # (without that program it isn't known which pages are written)
     if writes and session_program(subprocess.DEVNULL):
         judge_pieces(words, end)
@@ -738,7 +760,7 @@ def risk_of_loader(words: Words) -> str | None:
 def warn(words: Words) -> None:
     """Warns of fuses that can make the chip unreachable, even if -q is given twice, and of what isn't proved."""
     if words.is_version1:
-        words.note("version 1 has no checksums: this run is tested, not proved")
+        words.note("version 1 has no checksums: such a run is tested, not proved")
     name = words.chip()
     writes = [update for update in words.updates if update.operation == "w" and update.memory in FUSES]
     values = [(update, update.value()) for update in writes]
@@ -751,13 +773,13 @@ def warn(words: Words) -> None:
 
 def ran(words: Words, put: Callable[[bytes], None] = messages.put, earlier: frozenset[int] = frozenset()) -> Outcome:
     """Makes a run, and gives the command again after faults that a second run repairs. Returns the last outcome."""
-    count = int(words.retry)
+    count, outcome = int(words.retry), Outcome(words)
     while True:
         words.tries += 1
         if words.each:
             give(words, words.each, earlier)
-        run = Run(words, earlier, put)
-        outcome = run.outcome
+        outcome = Outcome(words, earlier, is_held=outcome.is_held)
+        run = Run(words, outcome, put)
         words.report.runs.append(outcome)
         try:
             run.bridge()
@@ -822,6 +844,7 @@ def ask(
             why = "the session before the run got no reply to its last command; nothing was written"
             raise Fault(f"{why}. {POWER_CYCLE.capitalize()}, and {SAME}")
         if not words.has_port:
+            outcome.is_before = True
             raise Fault(hint(outcome, ended_by()))
     return outcome, b"".join(lines).decode()
 
@@ -948,12 +971,33 @@ def execute(words: Words) -> int:
     if outcome.status and not words.has_port:
         raise Fault(hint(outcome, ended_by()))
     if not outcome.status and words.backup is None and "flash: 0 bytes read" in words.report.lines:
-        words.note("flash is erased" + f", {HIDDEN}" * (not words.is_bootloader))
+        hidden = f", or the lock hid it ({OPEN_LOCK})"
+        words.note("flash was erased when it was read" + hidden * (not words.is_bootloader and not erases(words)))
     return outcome.status
 
 
+def judged() -> Words:
+    """Returns the command line. If it can't be read, a report that it asks for has what is found of it."""
+    given, report = sys.argv[1:], Report()
+    try:
+        return Words(given, report)
+    except (Fault, getopt.GetoptError) as fault:
+        found: list[str] = []
+        for word, text in zip(given, [*given[1:], ""]):
+            name, value = (word[:2], word[2:] or text) if word[:2] in ("-p", "-P", "-c") else word.partition("=")[::2]
+            value = text if word == "--json" else value
+            if name in ("-p", "-P", "-c", "--json") and (value == "-" or value[:1] not in ("", "-")):
+                found += [name, value]
+        words, report.fault = Words(found, report), text_of(fault)
+        place = words.last.get("--json", "")
+        # (a name that comes twice may be that of another file)
+        if place == "-" or place and sum(place in word for word in given) == 1 and not fault_of(place):
+            write(place, made(report, [], 1, 0.0) if words.is_station else report.made(words, 1, None))
+        raise
+
+
 def main(help_text: str) -> int:
-    words = Words(sys.argv[1:], Report())
+    words = judged()
     if "--help" in words.last:
         show(help_text)
     elif {"-h", "-?"} & set(words.last) or not sys.argv[1:]:

@@ -325,6 +325,10 @@ class Update:
             return len(re.findall(r"[^ \t,]+", self.file))
         return max(self.image(), default=-1) + 1
 
+    def may_have(self, address: int) -> bool:
+        """Whether an image has a byte at this address, as far as its first 64 kB tell."""
+        return self.format == "m" or len(self.front) == 65_536 or address in self.image()
+
     def value(self) -> int | None:
         """Returns the byte of an update of one byte, also from a file, else None."""
         if self.is_image:
@@ -380,17 +384,21 @@ class Update:
         end = END.search(held) if begins and self.format != "r" else None
         if end and DATA.search(held, end.end()):
             return "has data after its end record, which are never read: give each of the joined files a -U of its own"
-        if self.format == "e":
-            return "is not ELF"
+        if self.format == "e" or is_detected and not packed_as(front) and self.file.lower().endswith(OF_ELF):
+            form = form_of(held)
+            cure = f": it has {FORMATS[form]}: give {self.given_as(form)}" if form else ""
+            return f"is not ELF{', despite its name' * (self.format != 'e')}{cure}"
         return self.fault_of_detected(front) if is_detected else None
+
+    def given_as(self, form: str) -> str:
+        """Returns this update in another format, as a word of a command."""
+        return shlex.quote(f"{self.memory}:{self.operation}:{self.file}:{form}")
 
     def fault_of_detected(self, front: bytes) -> str | None:
         """Returns why a file whose format is detected is no image, by its first bytes; None if it is one."""
-        packed = next((name for name, begin in PACKED.items() if re.match(begin, front)), None)
+        packed = packed_as(front)
         if packed:
             return f"is {packed}, not firmware"
-        if self.file.lower().endswith(OF_ELF):
-            return "is not ELF, despite its name"
         if RECORD.match(front) or not (is_text(front, 20) or self.memory == "flash" and is_text(front.strip(b"\0"), 2)):
             return None
         cure = "give it as raw bytes (:r) only if its characters are meant"
@@ -483,6 +491,18 @@ def read_whole(file: str) -> bytes | None:
     except OSError as fault:
         raise Fault(f"{file} can't be read: {fault.strerror}: {UNOPENED}")
     raise Fault(f"{file} has more than {MOST:,} bytes: {UNOPENED}")
+
+
+def form_of(held: bytes) -> str | None:
+    """Returns the letter of the format that a file's first bytes show; None if they show none."""
+    if held[:4] == b"\x7fELF":
+        return "e"
+    return ("i" if held.lstrip()[:1] == b":" else "s") if RECORD.match(held) else None
+
+
+def packed_as(front: bytes) -> str | None:
+    """Returns what a file is by its first bytes if it is neither firmware nor text."""
+    return next((name for name, begin in PACKED.items() if re.match(begin, front)), None)
 
 
 def is_text(held: bytes, rarity: int) -> bool:
