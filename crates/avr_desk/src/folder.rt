@@ -8,7 +8,7 @@ ghost use Rattle.ghosts.specs.Preserves.{Preserves};
 use std::io;
 use std::io::{ErrorKind, Read, Write};
 
-/// The single calls of a system for files. [`crate::FileSystem`]'s implementation over any `Folder` is proved. Only
+/// The steps on files that a system makes, each by one call or a few. [`crate::FileSystem`]'s implementation over any `Folder` is proved. Only
 /// tests show that the calls of a real system do as asked.
 ///
 /// A clause covers the call and what other processes did since the last one. It assumes that they leave a locked file

@@ -55,8 +55,8 @@ LastAgree part s Reads (task.Verify mem image ∷ tasks) x =
     (Reads mem → OnlyRead Reads tasks → HoldsImage image (memory_in part mem x)) × LastAgree part s Reads tasks x
 LastAgree part s Reads (task.Read mem format file ∷ tasks) x = LastAgree part s Reads tasks x
 
--- WHAT STATUS 0 MEANS, by what passed over the link. Whatever state the reader was in, and whatever it received before
--- and after its restarts, what was compared last is there.
+-- WHAT STATUS 0 MEANS, by what passed over the link. Whatever state the reader was in, whichever of the frames sent it
+-- executed, in order, and wherever it restarted, what was compared last is there.
 abbrev pub LastIsThere : {P : Type 0} → Device P → (P → Memories) → (P → Type 0) → (Mem → Type 0) → Plan → Transcript
     → Type 0
 LastIsThere {P = P} m view IsIn Reads plan passed =

@@ -1,5 +1,4 @@
--- Worked runs: `-p m328p` over a programmer that replies at once, and with a part file that doesn't exist. Also a
--- session over a link that forges a frame.
+-- A worked run: `-p m328p` over a programmer that replies at once. Also a session over a link that forges a frame.
 use Rattle.std.specs.Prelude.{ℕ, List, [], ◌∷◌, ◌++◌, Some, None, false, codes}
 use Rattle.avr_plan.specs.declared.settings.Settings.{Settings}
 use Rattle.avr_plan.specs.declared.settings.Port.TheVariants.{Stdio}

@@ -1,4 +1,4 @@
--- A worked run over a bootloader that erases elsewhere: `-p loss_part -D -U flash:w:a.hex:i -U flash:w:b.hex:i`. Before it
+-- A worked run over a bootloader that erases elsewhere: `-p tiny -D -U flash:w:a.hex:i -U flash:w:b.hex:i`. Before it
 -- writes a page it erases the page that it counts, so the second image's page costs the first one's.
 use Rattle.std.specs.Prelude.{ℕ, zero, suc, Bool, true, false, ◌+◌, ◌*◌, ◌%◌, ◌/◌, ◌^◌, ◌==◌, ◌&&◌, List, [], ◌∷◌, ◌++◌, None, Some, codes, drop, replicate, slice_index, take, if◌then◌else◌}
 use Rattle.std.specs.List.{concat}
@@ -41,8 +41,8 @@ with_page part bytes b =
       flash = erased (b.page % (part.flash_size / part.flash_page) * part.flash_page) part.flash_page b.memories.flash;
     })
 
--- It replies to SIGN_ON, LOAD_ADDRESS and ENTER, and in programming mode to the reading of flash and signature, and to
--- the writing of flash. It refuses all else.
+-- It replies to SIGN_ON, LOAD_ADDRESS, ENTER and LEAVE, and in programming mode to the reading of flash and signature,
+-- and to the writing of flash. It refuses all else.
 abbrev pub boot_reply : Part → List ℕ → Bootloader → List ℕ
 boot_reply part body b =
     let code = slice_index body 0 in

@@ -35,7 +35,7 @@ pub fn the_emulated_programmer_keeps_the_table()
         (λ (row : Row) (is : IsRow part row) (x : Memories). Unit {0}) }
 {}
 
-/// States that a programmer is as the frames that it executed leave it, whatever bytes it received. The bytes came at
+/// States that a programmer is as the frames that it executed leave it, whatever else it received. The bytes came at
 /// first and after each restart. Their valid frames are those of the frames sent that it executed, in order. Anything
 /// else may be between them.
 // Proof: `through_after` (Lines/AnyTape).

@@ -38,9 +38,9 @@ pub trait AnyReader {
     ghost Reads: { Mem → Type 0 };
 }
 
-/// Runs a command line as [`avr_tool::run_command_line`] does, at a new desk and over a link on which nothing has
-/// passed. States what its status 0 means over any device that reads truly, whatever that does when it writes: each
-/// image that was compared after the plan's last write is in its memory.
+/// Runs a command line as [`avr_tool::run_command_line`] does, over a link on which nothing has passed. States what its
+/// status 0 means over any device that reads truly, whatever that does when it writes: each image that was compared
+/// after the plan's last write is in its memory, if the device reads this memory and those read later truly.
 // Proof: `words_kept` (KeptByPort/EachPort), by `promised_last` (Readers/LastImages).
 pub fn a_program_with_status_0_left_what_it_compared_last<
     T: AnyReader,

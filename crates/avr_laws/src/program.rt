@@ -17,11 +17,10 @@ use std::alloc::Global;
 use std::io::Write;
 use stk_host::StreamLink;
 
-/// Runs a command line as [`avr_tool::run_command_line`] does, at a new desk and over a link on which nothing has
-/// passed. States what its status 0 means, over any files, any network and any streams: the plan that the command line
-/// and the opened files ask for was kept. The record has the openings of these files, then over the emulator that of
-/// the chip file, and no others. It holds for any programmer that keeps the rows of the table. The clause `files` holds
-/// for any desk.
+/// Runs a command line as [`avr_tool::run_command_line`] does, over a link on which nothing has passed. States what its
+/// status 0 means, over any files, any network and any streams: the plan that the command line and the opened files ask
+/// for was kept. The record has the openings of these files, then over the emulator that of the chip file, and no
+/// others. It holds for any programmer that keeps the rows of the table. Only the clause `files` asks for a new desk.
 // Proof: `words_kept` (KeptByPort/EachPort), by `promised_by_any` (Table/Kept) over a link, and `file_kept`
 // (KeptByPort/InFile) over the emulator.
 pub fn a_program_with_status_0_kept_its_plan<

@@ -51,7 +51,7 @@ UPDATE is MEMORY:OP:FILE or MEMORY:OP:FILE:FORMAT. A FILE alone is flash:w:FILE:
   FORMAT  for w and v: a looks at the file's first bytes, and is the default; i Intel HEX,
           s S-records, r raw bytes, m values, as 0xE2 or 1,2,3
           for r: r raw bytes, the default; i, s; d, h, o, b numbers in that base
-Name the format if you know it: with a, a text whose first line is no record is taken
+Name the format if you know it: with a, a text that doesn't begin with a record is taken
 for raw bytes.
 
 Examples:

@@ -34,7 +34,7 @@ use thiserror::Error;
 /// The most bytes of an image file.
 pub(crate) const LARGEST_IMAGE_FILE: usize = 4_194_304;
 
-/// The most bytes read at a time. With the file's first bytes, 4,096 bytes are in memory.
+/// The most bytes read at a time.
 const PIECE: usize = 4096 - FIRST_BYTES;
 
 /// Why a file gave no image. Its text is the reason alone, without the file's name.
@@ -148,7 +148,7 @@ fn read_rest<D: Desk>(
 }
 
 /// Reads an image file for a memory of `size` bytes. The file is opened and read to its end, or until more than
-/// 4,194,304 bytes have come, and checked only then. At most 4,096 bytes of it are in memory at a time.
+/// 4,194,304 bytes have come, and checked only then. It is read in pieces of at most 3,072 bytes.
 ///
 /// The name `-` is standard input. For a `format` other than Intel HEX, S-record and raw, the first 1,024 bytes show
 /// which of these the file is, or that it is ELF. The image has exactly `size` places.
