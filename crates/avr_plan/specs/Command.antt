@@ -13,6 +13,7 @@ use Rattle.avr_plan.specs.declared.settings.SettingsFault.{SettingsFault}
 use Rattle.avr_plan.specs.declared.command.CommandOption.{CommandOption}
 use Rattle.avr_plan.specs.declared.command.OptionKind.{OptionKind}
 use Rattle.avr_plan.specs.declared.command.OptionKind.TheVariants as kind
+use Rattle.avr_plan.specs.declared.command.Values.TheVariants as values
 
 -- an option of one letter with a value; if given again, its last value counts
 abbrev pub value_rule : Bytes → ℕ → Rule
@@ -42,9 +43,10 @@ options =
 
 -- inside: the rule of an option as the code's table has it
 abbrev pub kind_rule : Bytes → OptionKind → Rule
-kind_rule id (kind.Value short name) = value_rule id short
-kind_rule id (kind.Values short name) = record (value_rule id short) { action = Some Append }
-kind_rule id (kind.Number short name) = record (value_rule id short) { parser = Some (Signed (pos 0) (pos 4294967295)) }
+kind_rule id (kind.Value short name values.Last) = value_rule id short
+kind_rule id (kind.Value short name values.All) = record (value_rule id short) { action = Some Append }
+kind_rule id (kind.Value short name values.Number) =
+    record (value_rule id short) { parser = Some (Signed (pos 0) (pos 4294967295)) }
 kind_rule id (kind.Flag short action) = flag_rule id short action
 kind_rule id (kind.LongValue name) = long_rule id
 

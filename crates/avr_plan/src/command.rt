@@ -31,14 +31,20 @@ There is no -C (no configuration file), no -B (the programmer has its own clock)
 clone, --parts /usr/share/avrstk/classic.toml from the package (PREFIX/share by install.sh).
 Values in place of a file need the format m. Manual: man avrstk. This is avrstk 0.9.0.";
 
+/// How the values of an option are read.
+#[derive(Clone, Copy)]
+enum Values {
+    /// The last one counts.
+    Last,
+    /// All are collected.
+    All,
+    /// The last one counts, a number below 2 to the power 32.
+    Number,
+}
+
 /// What an option takes: its letter, if it has one, and what help calls its value.
 enum OptionKind {
-    /// A value. If the option is given again, its last value counts.
-    Value(char, &'static str),
-    /// Values, which are collected.
-    Values(char, &'static str),
-    /// A number below 2 to the power 32.
-    Number(char, &'static str),
+    Value(char, &'static str, Values),
     /// No value: it sets a switch, or counts how often it is given.
     Flag(char, ArgAction),
     /// A value, after the option's id in place of a letter.
@@ -55,22 +61,22 @@ struct CommandOption {
 static OPTIONS: [CommandOption; 16] = [
     CommandOption {
         id: "part",
-        kind: OptionKind::Value('p', "ID"),
+        kind: OptionKind::Value('p', "ID", Values::Last),
         help: "The part: m328p, t85, m2560, or one of a part file; needed",
     },
     CommandOption {
         id: "programmer",
-        kind: OptionKind::Value('c', "NAME"),
+        kind: OptionKind::Value('c', "NAME", Values::Last),
         help: "The programmer: stk500v2, the default",
     },
     CommandOption {
         id: "port",
-        kind: OptionKind::Value('P', "PORT"),
+        kind: OptionKind::Value('P', "PORT", Values::Last),
         help: "Where the programmer is: stdio:, emu:CHIPFILE or net:HOST:PORT",
     },
     CommandOption {
         id: "update",
-        kind: OptionKind::Values('U', "UPDATE"),
+        kind: OptionKind::Value('U', "UPDATE", Values::All),
         help: "Write, compare or read a memory; up to 16 times",
     },
     CommandOption {
@@ -110,7 +116,7 @@ static OPTIONS: [CommandOption; 16] = [
     },
     CommandOption {
         id: "baud",
-        kind: OptionKind::Number('b', "N"),
+        kind: OptionKind::Value('b', "N", Values::Number),
         help: "The speed of a serial line; no effect",
     },
     CommandOption {
@@ -141,14 +147,14 @@ fn option_arg(alloc: Global, option: &CommandOption) -> Arg<'static>
 {
     let arg = Arg::new(alloc, option.id).help(option.help);
     match option.kind {
-        OptionKind::Value(short, name) => arg.short(short).value_name(name),
-        OptionKind::Values(short, name) => {
-            arg.short(short).value_name(name).action(ArgAction::Append)
+        OptionKind::Value(short, name, values) => {
+            let arg = arg.short(short).value_name(name);
+            match values {
+                Values::Last => arg,
+                Values::All => arg.action(ArgAction::Append),
+                Values::Number => arg.value_parser(value_parser!(u32)),
+            }
         }
-        OptionKind::Number(short, name) => arg
-            .short(short)
-            .value_name(name)
-            .value_parser(value_parser!(u32)),
         OptionKind::Flag(short, action) => arg.short(short).action(action),
         OptionKind::LongValue(name) => arg.long(option.id).value_name(name),
     }
