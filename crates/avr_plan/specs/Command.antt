@@ -10,6 +10,10 @@ use Rattle.avr_part.specs.PartFile.{Bytes}
 use Rattle.avr_plan.specs.Settings.{Entries, settings_of, switches_of}
 use Rattle.avr_plan.specs.declared.settings.Settings.{Settings}
 use Rattle.avr_plan.specs.declared.settings.SettingsFault.{SettingsFault}
+use Rattle.avr_plan.specs.declared.command.CommandOption.{CommandOption}
+use Rattle.avr_plan.specs.declared.command.OptionKind.{OptionKind}
+use Rattle.avr_plan.specs.declared.command.OptionKind.TheVariants as kind
+use Rattle.avr_plan.specs.declared.command.Values.TheVariants as values
 
 -- an option of one letter with a value; if given again, its last value counts
 abbrev pub value_rule : Bytes → ℕ → Rule
@@ -36,6 +40,18 @@ options =
     ∷ record (value_rule (codes "baud") 98) { parser = Some (Signed (pos 0) (pos 4294967295)) }
     ∷ flag_rule (codes "verbose") 118 Count
     ∷ long_rule (codes "parts") ∷ long_rule (codes "serve") ∷ long_rule (codes "chip") ∷ []
+
+-- inside: the rule of an option as the code's table has it
+abbrev pub kind_rule : Bytes → OptionKind → Rule
+kind_rule id (kind.Value short name values.Last) = value_rule id short
+kind_rule id (kind.Value short name values.All) = record (value_rule id short) { action = Some Append }
+kind_rule id (kind.Value short name values.Number) =
+    record (value_rule id short) { parser = Some (Signed (pos 0) (pos 4294967295)) }
+kind_rule id (kind.Flag short action) = flag_rule id short action
+kind_rule id (kind.LongValue name) = long_rule id
+
+abbrev pub option_rule : CommandOption → Rule
+option_rule o = kind_rule o.id.now o.kind
 
 -- the command with these options, too
 abbrev pub with_rules : App → List Rule → App

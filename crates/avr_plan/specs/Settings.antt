@@ -68,6 +68,13 @@ checked_streams port updates parts chip =
     if (option_map_or is_standard parts false || option_map_or is_standard chip false)
     || (is_port_taken port updates || nat_le 2 (count_by uses_input updates)) then Err StandardTaken else Ok tt
 
+-- inside: the standard streams are free, and these are the part and the part file; or why there are none
+abbrev pub KeepsTexts : Bytes → Port → List Update → Entries → Result (Bytes × Option Bytes) SettingsFault → Type 0
+KeepsTexts part port updates e (Ok kept) =
+    (checked_streams port updates e.parts e.chip ≡ Ok tt) × (kept ≡ (part, e.parts))
+KeepsTexts part port updates e (Err fault) =
+    (checked_streams port updates e.parts e.chip ≡ Err fault) ⊎ (fault ≡ Memory)
+
 -- the switch of this id was given
 abbrev pub is_on : Bytes → List Row → Bool
 is_on id rows = option_map_or (λ text. bytes_eq text (codes "true")) (first_of id rows) false

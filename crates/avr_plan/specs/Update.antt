@@ -71,6 +71,10 @@ update_after memory after =
     let parts = unwrap_or (split_first after) (after, []) in
     ok_or (op_named parts.0) BadOp >>= (λ op. update_by memory op (file_and_letter parts.1))
 
+-- inside: an update with this operation's name, and what follows its colon
+abbrev pub update_with_op : Mem → Bytes → Bytes → Result Update UpdateFault
+update_with_op memory op rest = ok_or (op_named op) BadOp >>= (λ op. update_by memory op (file_and_letter rest))
+
 -- a text without a colon is a file, written to flash in the format that its first bytes show
 abbrev pub update_of : Bytes → Result Update UpdateFault
 update_of text =

@@ -3,7 +3,7 @@ ghost use Rattle.std.specs.Prelude.{◌≡◌, Ok, option_map, map, IsOk, [], un
 ghost use Rattle.std.specs.Result.{result_map_both};
 ghost use Rattle.clap.specs.Words.{found_of, rows_of, first_of, all_of};
 ghost use Rattle.avr_plan.specs.Command.{entries_of};
-ghost use Rattle.avr_plan.specs.Settings.{GivesUnlessOutOfMemory, ReportsAnyway, settings_of, checked_programmer, updates_of, run_settings, serve_settings, is_on, switches_of, checked_streams};
+ghost use Rattle.avr_plan.specs.Settings.{GivesUnlessOutOfMemory, ReportsAnyway, settings_of, KeepsTexts, checked_programmer, updates_of, run_settings, serve_settings, is_on, switches_of, checked_streams};
 ghost use Rattle.avr_plan.specs.Update.{update_of};
 ghost use Rattle.std.specs.Option.{option_map_or};
 ghost use Rattle.std.specs.List.{list_any};
@@ -11,7 +11,7 @@ ghost use Rattle.avr_plan.specs.Standard.{is_standard, uses_standard, uses_input
 
 use crate::ports::{port_given, served};
 use crate::settings::{Port, Settings, SettingsFault, Switches};
-use crate::text::{owned, owned_option};
+use crate::text::{Text, owned, owned_option};
 use crate::update::{Format, Op, Update, UpdateFault, Updates, parse_update};
 use clap::ArgMatches;
 use std::alloc::Global;
@@ -99,6 +99,22 @@ fn updates_given(alloc: Global, texts: Option<&[&str]>) -> Result<Updates, Setti
     Ok(updates)
 }
 
+/// Checks the standard streams, and then copies the part's id and the name of the part file. The caller's port and
+/// updates are only lent: proving an early exit is slow where they are dropped.
+fn kept_texts(
+    alloc: Global,
+    part: &str,
+    port: &Port,
+    updates: &[Update],
+    matches: &ArgMatches<'_>,
+) -> Result<(Text, Option<Text>), SettingsFault>
+    ensures { KeepsTexts part.now port.now updates.now (entries_of (rows_of (found_of matches.now))) result }
+{
+    let parts = text_of(matches, "parts");
+    check_streams(port, updates, parts, text_of(matches, "chip"))?;
+    Ok((owned(alloc, part)?, owned_option(alloc, parts)?))
+}
+
 /// Reads the settings of a run.
 fn run_settings(
     alloc: Global,
@@ -112,12 +128,11 @@ fn run_settings(
     check_programmer(alloc, text_of(matches, "programmer"))?;
     let port = port_given(alloc, text_of(matches, "port"))?;
     let updates = updates_given(alloc, texts_of(matches, "update"))?;
-    let parts = text_of(matches, "parts");
-    check_streams(&port, updates.as_slice(), parts, text_of(matches, "chip"))?;
+    let (part, parts) = kept_texts(alloc, part, &port, updates.as_slice(), matches)?;
     Ok(Settings {
-        part: owned(alloc, part)?,
+        part,
         port,
-        parts: owned_option(alloc, parts)?,
+        parts,
         updates,
         switches: switches_of(matches),
     })
@@ -135,14 +150,12 @@ fn serve_settings(
     ensures is_reported { ReportsAnyway (serve_settings part.now at.now (entries_of (rows_of (found_of given.now))))
         result }
 {
-    let parts = text_of(given, "parts");
-    let chip = text_of(given, "chip");
-    let port = served(alloc, at, chip)?;
-    check_streams(&port, &[], parts, chip)?;
+    let port = served(alloc, at, text_of(given, "chip"))?;
+    let (part, parts) = kept_texts(alloc, part, &port, &[], given)?;
     Ok(Settings {
-        part: owned(alloc, part)?,
+        part,
         port,
-        parts: owned_option(alloc, parts)?,
+        parts,
         updates: Updates::new(alloc),
         switches: Switches::none(),
     })

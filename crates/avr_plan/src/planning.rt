@@ -2,6 +2,7 @@ ghost use Rattle.std.specs.Prelude.{◌≡◌, ◌<◌, [], None, All, IfOk, IfE
 ghost use Rattle.avr_plan.specs.Plan.{IsFitted};
 ghost use Rattle.avr_plan.specs.PlanFaults.{ReportsPlanFault, ReportsTaskFault, ReportsTasksFault, with_status};
 ghost use Rattle.avr_plan.specs.Planning.{LacksPart, task_stage, tasks_stage, planned};
+ghost use Rattle.avr_plan.specs.declared.planned.Task.{Task as AnyTask};
 ghost use Rattle.avr_plan.specs.AllocationPoints.{AtAllocatingUpdate, AtAllocatingTask, op_allocates};
 ghost use Rattle.avr_desk.specs.StageRuns.{OnlyAtStart, RunsStage};
 ghost use Rattle.ghosts.specs.Preserves.{Preserves};
@@ -16,7 +17,21 @@ use crate::text::Text;
 use crate::update::{Op, Update};
 use avr_desk::{Desk, memory_message, refuse};
 use avr_part::Part;
-use std::alloc::Global;
+use std::alloc::{AllocError, Global};
+
+/// Returns the task of an update that reads, and makes room for it in `tasks`.
+fn read_task(alloc: Global, tasks: &mut Vec<Task>, update: &Update) -> Result<Task, AllocError>
+    ensures made { IfOk result (λ task. task ≡ AnyTask.Read update.now.memory update.now.format update.now.file) }
+    ensures same { tasks.new.items ≡ tasks.old.items }
+    ensures room { OnOk result (vec_len tasks.new < vec_capacity tasks.new) }
+{
+    tasks.reserve(1)?;
+    Ok(Task::Read {
+        memory: update.memory,
+        format: update.format,
+        file: Text::new(alloc, update.file.as_str())?,
+    })
+}
 
 /// Returns the task of an update, and makes room for it in `tasks`.
 fn update_task<D: Desk>(
@@ -42,28 +57,22 @@ fn update_task<D: Desk>(
                 refuse(desk, &read_only_message(update.memory));
                 return Err(TaskFault::ReadOnly);
             }
-            let image = update_image(alloc, desk, tasks, switches, part, update)?;
-            Ok(Task::Write(update.memory, image))
-        }
-        Op::Verify => {
-            let image = update_image(alloc, desk, tasks, switches, part, update)?;
-            Ok(Task::Verify(update.memory, image))
-        }
-        Op::Read => {
-            if tasks.reserve(1).is_err() {
-                refuse(desk, &memory_message());
-                return Err(TaskFault::Memory);
+            match update_image(alloc, desk, tasks, switches, part, update) {
+                Ok(image) => Ok(Task::Write(update.memory, image)),
+                Err(fault) => Err(fault),
             }
-            let Ok(file) = Text::new(alloc, update.file.as_str()) else {
-                refuse(desk, &memory_message());
-                return Err(TaskFault::Memory);
-            };
-            Ok(Task::Read {
-                memory: update.memory,
-                format: update.format,
-                file,
-            })
         }
+        Op::Verify => match update_image(alloc, desk, tasks, switches, part, update) {
+            Ok(image) => Ok(Task::Verify(update.memory, image)),
+            Err(fault) => Err(fault),
+        },
+        Op::Read => match read_task(alloc, tasks, update) {
+            Ok(task) => Ok(task),
+            Err(_) => {
+                refuse(desk, &memory_message());
+                Err(TaskFault::Memory)
+            }
+        },
     }
 }
 

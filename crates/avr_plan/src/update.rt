@@ -1,11 +1,12 @@
 //! Updates: what `-U` asks for, and how its text is read.
 ghost use Rattle.std.specs.Prelude.{◌≡◌, ◌∷◌, ◌++◌, [], Some, None, is_ok, if◌then◌else◌, ◌==◌, find};
 ghost use Rattle.avr_plan.specs.Faults.{update_fault_number};
-ghost use Rattle.avr_plan.specs.Update.{letter_of, formats_of, format_of, op_named, file_and_letter, GivesUpdateUnlessOutOfMemory, update_of, update_by};
+ghost use Rattle.avr_plan.specs.Update.{letter_of, formats_of, format_of, op_named, file_and_letter, GivesUpdateUnlessOutOfMemory, update_of, update_after, update_by, update_with_op};
 
 use crate::text::{Text, split_first};
 use avr_part::Mem;
 use std::alloc::{AllocError, Global};
+use std::fmt;
 use std::marker::Model;
 use thiserror::Error;
 
@@ -118,19 +119,14 @@ pub struct Update {
 #[derive(Clone, Copy, Debug, PartialEq, Eq, Error)]
 pub enum UpdateFault {
     /// No memory has the name before the first colon.
-    #[error("no such memory")]
     BadMemory,
     /// The operation is missing, or not `r`, `w` or `v`.
-    #[error("no such operation")]
     BadOp,
     /// The letter names no format of this operation.
-    #[error("no such format here")]
     BadFormat,
     /// The file's name is empty or missing.
-    #[error("no file named")]
     NoFile,
     /// Allocation failed.
-    #[error("out of memory")]
     Memory,
 }
 
@@ -150,6 +146,19 @@ impl UpdateFault {
             UpdateFault::NoFile => 4,
             UpdateFault::Memory => 5,
         }
+    }
+}
+
+// Not derived: proving one call that writes a text is cheaper than proving one for each fault.
+impl fmt::Display for UpdateFault {
+    fn fmt<W: fmt::Write>(&self, f: &mut fmt::Formatter<W>) -> fmt::Result {
+        f.write_str(match self {
+            UpdateFault::BadMemory => "no such memory",
+            UpdateFault::BadOp => "no such operation",
+            UpdateFault::BadFormat => "no such format here",
+            UpdateFault::NoFile => "no file named",
+            UpdateFault::Memory => "out of memory",
+        })
     }
 }
 
@@ -268,6 +277,24 @@ fn update_by(
     })
 }
 
+fn update_with_op(alloc: Global, memory: Mem, op: &str, rest: &str) -> Result<Update, UpdateFault>
+    ensures { GivesUpdateUnlessOutOfMemory (update_with_op memory op.now rest.now) result }
+{
+    let op = op_named(op).ok_or(UpdateFault::BadOp)?;
+    let (file, letter) = file_and_letter(rest);
+    update_by(alloc, memory, op, file, letter)
+}
+
+/// Reads what follows a memory's colon.
+fn update_after(alloc: Global, memory: Mem, after: &str) -> Result<Update, UpdateFault>
+    ensures { GivesUpdateUnlessOutOfMemory (update_after memory after.now) result }
+{
+    match split_first(after) {
+        Some((op, rest)) => update_with_op(alloc, memory, op, rest),
+        None => update_with_op(alloc, memory, after, ""),
+    }
+}
+
 /// Reads the text of AVRDUDE's option `-U`: `MEMORY:OP:FILE`, `MEMORY:OP:FILE:FORMAT`, or a file alone, which is
 /// written to flash. Colons beyond these belong to the file.
 ///
@@ -289,8 +316,5 @@ pub fn parse_update(alloc: Global, text: &str) -> Result<Update, UpdateFault>
         return update_by(alloc, Mem::Flash, Op::Write, text, None);
     };
     let memory = Mem::named(name).ok_or(UpdateFault::BadMemory)?;
-    let (name, rest) = split_first(after).unwrap_or((after, ""));
-    let op = op_named(name).ok_or(UpdateFault::BadOp)?;
-    let (file, letter) = file_and_letter(rest);
-    update_by(alloc, memory, op, file, letter)
+    update_after(alloc, memory, after)
 }

@@ -40,6 +40,16 @@ module _ (switches : Switches) (memory : Mem) (size size' : ℕ) (file file' : B
       result
   goes_of_file other goes = goes_of_same false (search rules) (search (rules, file_stage-is))
 
+-- there is no task without an image
+pub goes_without_image : (switches : Switches) (part : Part) (u : Update) (make : List (Option ℕ) → Task)
+    (old new : DeskState) (status : ℕ)
+    → RunsStage (OnlyAtStart (has_immediate_values u.format)) (update_image switches part u) old new (Err status)
+    → RunsStage (OnlyAtStart (has_immediate_values u.format))
+    (update_image switches part u >>= λ image. result_stage (Ok (make image))) old new (Err status)
+goes_without_image switches part u make old new status goes =
+    runs_first_only (OnlyAtStart (has_immediate_values u.format)) (update_image switches part u)
+    (λ image. result_stage (Ok (make image))) old new status goes
+
 abbrev writes : Switches → Part → Update → Stage Task
 writes switches part u = update_image switches part u >>= λ image. result_stage (Ok (Write u.memory image))
 

@@ -1,13 +1,12 @@
-use Rattle.std.proofs.Common.{codes, rules, true}
-use Rattle.clap.specs.Words.{new_app}
-use Rattle.avr_plan.specs.Command.{avrstk, options}
+use Rattle.std.proofs.Common.{rules}
+use Rattle.std.proofs.lemmas.List.{drop_more, drop_all}
+use Rattle.avr_plan.proofs.ParsedCommands.{option_added}
 use Rattle.avr_plan.proofs.command.with_options.Goals as goal
 
+pub loop-option-preserved : goal.loop-option-preserved
+loop-option-preserved c =
+    option_added c.loop-option.option-index c.args.options.now _ _ c.in_ok-command.ensures c.option_arg.ensures
+    (drop_more c.args.options.now c.loop-option.option-index _ c.loop-option-test.true) c.loop-option.invariant
+
 pub returns : goal.returns
-unfolding avrstk options
-returns c =
-    let new = new_app (codes "avrstk") in
-    let target = c.with_target-command.ensures.app (record new { top = record new.top { args_override_self = true } })
-    (search rules) in
-    c.with_files.ensures.app _ (c.with_message_options-command.ensures.app _ (c.with_run-command.ensures.app _
-    (c.with_write-command.ensures.app _ target)))
+returns c = search (rules, drop_all)
