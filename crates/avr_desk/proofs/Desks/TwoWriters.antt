@@ -1,14 +1,14 @@
 -- A desk over two writers and the files of a system: its record stays true, call after call.
-use Rattle.std.proofs.Common.{◌≡◌, ◌⊎◌, ◌∙◌, inl, inr, sym, ap, subst, refl, arith, ℕ, ◌==◌, ◌&&◌, ◌||◌, not, true, false, List, [], ◌∷◌, ◌++◌, append_assoc, append-nil, length, take, Option, None, Some, rules}
+use Rattle.std.proofs.Common.{◌≡◌, ◌⊎◌, ◌∙◌, inl, inr, sym, ap, subst, refl, arith, ℕ, ◌==◌, ◌&&◌, ◌||◌, not, Bool, true, false, List, [], ◌∷◌, ◌++◌, append_assoc, append-nil, length, take, Option, None, Some, rules}
 use Rattle.std.specs.Prelude.{◌≤◌, IfErr, IfOk, Ok, Result}
 use Rattle.std.proofs.KnownBytes.{Appends-nil, Consumes-nil}
-use Rattle.avr_desk.specs.Record.{Bytes, DeskState, Record, after_read, all_files, all_uses, nothing_kept, use_of, with_absent, with_none_held, with_open, with_replaced, with_tried, after_write}
+use Rattle.avr_desk.specs.Record.{Bytes, DeskState, Record, after_read, all_files, all_uses, noted, nothing_kept, use_of, with_absent, with_none_held, with_open, with_replaced, with_tried, after_write}
 use Rattle.avr_desk.specs.declared.record.Open.TheVariants.{ToRead, ToWrite}
 use Rattle.std.proofs.lemmas.Bool.{or_parts}
 use Rattle.std.proofs.lemmas.Bool.Decides.{nat_tests}
 use Rattle.std.proofs.lemmas.Grind.{common_steps}
 use Rattle.std.proofs.lemmas.List.Elements.{All-append, All-cons, All-nil, Contains-append_left, Contains-push}
-use Rattle.std.specs.Io.KnownBytes.{Appends}
+use Rattle.std.specs.Io.KnownBytes.{Appends, Keeps}
 use Rattle.std.specs.List.{All, Contains}
 use Rattle.std.specs.declared.io.ErrorKind.{ErrorKind}
 use Rattle.std.specs.declared.io.Read.{Ghosts as Reads}
@@ -17,7 +17,7 @@ use Rattle.ghosts.specs.Preserves.{Preserves}
 use Rattle.avr_desk.specs.Named.{is_dash}
 use Rattle.avr_desk.proofs.FileUses.Calls.{opened, calls_opened, calls_replaced, made_dash, opened_dash, opened_named, calls_append}
 use Rattle.avr_desk.proofs.FileUses.Uses.{files_absent, files_opened, files_replaced}
-use Rattle.avr_desk.specs.Journal.{Counts, ChangesCalls, FileCall, Gives, ReleasesHeld, CrashMayAlsoLeave, CrashLeavesNoMore, Opens, with_calls, count_of, calls_of_record, with_one_more_held, made, no_calls}
+use Rattle.avr_desk.specs.Journal.{Counts, ChangesCalls, FileCall, Gives, ReleasesHeld, CrashMayAlsoLeave, CrashLeavesNoMore, Opens, with_calls, count_of, all_calls, calls_of_record, with_one_more_held, made, no_calls}
 use Rattle.avr_desk.specs.Fault.{IsCall, WriteCounts}
 use Rattle.avr_desk.specs.Stream.{IsWrite, SendsTaken}
 use Rattle.avr_desk.specs.declared.stream.Stream.{Stream}
@@ -213,6 +213,10 @@ module _ {S F I H O E : Type 0} (system : Ghosts S F I H) (reads : Reads F) (wri
   pub true_now : (a : Desk) → Since a a
   true_now a = quiet refl refl (λ none. none) (λ none was. was) (λ are. are)
 
+  -- a failure was counted
+  pub counted_true : {b : Desk} {f u : ℕ} {e : Option ErrorKind} → Since b (Next b b.system f u e b.opened b.hold b.kept)
+  counted_true = quiet refl refl (λ none. none) (λ none was. was) (λ are. are)
+
   -- a failed call did nothing
   pub failed_true : {b : Desk} {s : S} {f u : ℕ} {e : Option ErrorKind} (held : Option H) → held ≡ b.hold
       → Preserves system.has_done b.system s → (Counts system.has_done (count_of held) b.system → NoMore b.system s)
@@ -396,22 +400,65 @@ module _ {S F I H O E : Type 0} (system : Ghosts S F I H) (reads : Reads F) (wri
   pub unheld_true : {b : Desk} {s : S} {f u : ℕ} {e : Option ErrorKind} {name : Bytes}
       → Preserves system.has_done b.system s → CrashMayAlsoLeave system.left name (system.began name) b.system s
       → Since b (Next b s f u e b.opened b.hold b.kept)
-  unheld_true stays also = search (rules, quiet)
+  unheld_true stays also = quiet refl refl (λ none. none) (λ none was. was) (λ are. record {
+    uses = are.uses;
+    current = are.current;
+    denied = are.denied;
+    held = are.held;
+    has_done = stays _ are.has_done;
+    crash = crash_held _ also are.crash;
+  })
 
   pub released_true : {b : Desk} {t : S} {f u : ℕ} {e : Option ErrorKind} {h : Option H} {k : Record} → h ≡ None
       → k ≡ with_none_held b.kept → ReleasesHeld system.has_done b.hold b.system t → NoMore b.system t
       → Since b (Next b t f u e b.opened h k)
-  released_true {b = b} none kept leaves keeps = rw (none, kept) (search (rules, quiet, left_none))
+  released_true {b = b} none kept leaves keeps =
+      rw (none, kept) (quiet refl refl (λ none. none) (λ none was. was) (λ are. record {
+        uses = are.uses;
+        current = are.current;
+        denied = are.denied;
+        held = tt;
+        has_done = left_none b.hold b.kept.held _ are.held leaves are.has_done;
+        crash = crash_kept _ keeps are.crash;
+      }))
+
+  -- what a read does to the open file, and to the calls of the record
+  read_open : (old new : OpenFile F I) (current : Open) (buf : Bytes) (n : ℕ) → OpenFileGives reads input old new buf n
+      → TrueOpen old current → TrueOpen new (noted (take n buf) (n == 0 && not (length buf == 0)) current)
+  read_open old new current buf n gives is = search (rules, given_more)
+
+  unread_open : (old new : OpenFile F I) (current : Open) → OpenFileGivesNothing reads input old new
+      → TrueOpen old current → TrueOpen new current
+  unread_open old new current none is = search (rules, nat_tests)
+
+  read_calls : (bytes : Bytes) (ends : Bool) (uses : List FileUse) (current : Open)
+      → all_calls (uses ++ use_of (noted bytes ends current)) ≡ all_calls (uses ++ use_of current)
+  read_calls bytes ends uses current = search (rules, calls_append)
 
   pub read_true : {b : Desk} {f u : ℕ} {e : Option ErrorKind} {o : OpenFile F I} {k : Record} (buf : Bytes) (n : ℕ)
       → k ≡ after_read buf (Ok n) b.kept → is_output o ≡ is_output b.opened
       → OpenFileGives reads input b.opened o buf n → Since b (Next b b.system f u e o b.hold k)
   read_true {b = b} {o = o} buf n kept same gives =
-      search (rules, quiet, files_now, given_more, did_as, calls_append, same_left)
+      rw kept (quiet refl refl (search rules) (λ none was. same ∙ was) (λ are. record {
+        uses = are.uses;
+        current = read_open b.opened o b.kept.current buf n gives are.current;
+        denied = are.denied;
+        held = are.held;
+        has_done = did_as b.kept.held b.system (read_calls _ _ b.kept.uses b.kept.current) are.has_done;
+        crash = are.crash;
+      }))
 
   pub unread_true : {b : Desk} {f u : ℕ} {e : Option ErrorKind} {o : OpenFile F I} → is_output o ≡ is_output b.opened
       → OpenFileGivesNothing reads input b.opened o → Since b (Next b b.system f u e o b.hold b.kept)
-  unread_true {b = b} {o = o} same none = search (rules, nat_tests, quiet, same_left)
+  unread_true {b = b} {o = o} same none =
+      quiet refl refl (λ none. none) (λ none was. same ∙ was) (λ are. record {
+        uses = are.uses;
+        current = unread_open b.opened o b.kept.current none are.current;
+        denied = are.denied;
+        held = are.held;
+        has_done = are.has_done;
+        crash = are.crash;
+      })
 
   pub write_true : {b : Desk} {f u : ℕ} {e : Option ErrorKind} {k : Record} {old new : F} (bytes : Bytes)
       → b.opened ≡ open_file.ToWrite old → Appends (writes.contents old) (writes.contents new) bytes
@@ -420,6 +467,24 @@ module _ {S F I H O E : Type 0} (system : Ghosts S F I H) (reads : Reads F) (wri
       rw kept (quiet refl refl
       (λ none. sym (written_dashes bytes b.kept) ∙ none) (λ none elsewhere. refl)
       (grind (arith, common_steps, calls_append, same_left)))
+
+  -- the file took nothing
+  unwritten_open : (old new : F) (current : Open) → Keeps (writes.contents old) (writes.contents new)
+      → TrueOpen (open_file.ToWrite old) current → TrueOpen (open_file.ToWrite new) current
+  unwritten_open old new current keeps is = search rules
+
+  pub unwritten_true : {b : Desk} {f u : ℕ} {e : Option ErrorKind} {old new : F} → b.opened ≡ open_file.ToWrite old
+      → Keeps (writes.contents old) (writes.contents new)
+      → Since b (Next b b.system f u e (open_file.ToWrite new) b.hold b.kept)
+  unwritten_true {b = b} {old = old} {new = new} was keeps =
+      quiet refl refl (λ none. none) (λ none elsewhere. refl) (λ are. record {
+        uses = are.uses;
+        current = unwritten_open old new b.kept.current keeps (rw was at are.current);
+        denied = are.denied;
+        held = are.held;
+        has_done = are.has_done;
+        crash = are.crash;
+      })
 
   -- a desk after a call that sent to the output
   abbrev Put : Desk → O → ℕ → ℕ → Option ErrorKind → Record → Desk

@@ -1,7 +1,7 @@
 -- What is reported if a stage broke off, by what a desk shows.
 use Rattle.std.proofs.lemmas.Grind.{common_steps}
 use Rattle.std.proofs.lemmas.Bool.Decides.{nat_tests}
-use Rattle.std.proofs.Common.{arith, ◌≡◌, sym, ℕ, ◌⊎◌, inl, inr, List, [], ◌∷◌, ◌++◌, append-nil, append_assoc, Result, Ok, Err, true, rules}
+use Rattle.std.proofs.Common.{arith, ◌≡◌, ◌∙◌, ap, sym, ℕ, ◌⊎◌, inl, inr, List, [], ◌∷◌, ◌++◌, append-nil, append_assoc, Result, Ok, Err, true, rules}
 use Rattle.std.proofs.lemmas.List.{append_cancel_left}
 use Rattle.ghosts.specs.Failures.{NoFailureCounted}
 use Rattle.avr_desk.specs.Record.{DeskState, Record, showing, all_openings, after_err, Bytes}
@@ -103,9 +103,14 @@ module _ {A : Type 0} (taking : AllocationPoints) (name notice : Bytes) (stage :
 
   pub unopened : (status : ℕ) → RunsStage taking stage Old New (Err status) → ReportedAs
   unopened status (one, inl (line, went)) =
-      let none = none_opened (went.output_events ++ PrintsLine line ∷ []) went.kept in
-      search (rules, begins (went.passed ++ []))
-  unopened status (one, inr b) = let rest = b.rest [] in search (rules, by_break, begins (b.passed ++ []))
+      let (extra, begun) = begins (went.passed ++ []) in
+      let opens : went.output_events ≡ Opens (next_opening name (went.passed ++ [])) ∷ extra =
+      sym (ap (λ (p : StageResult A). p.output_events) (went.comes [])) ∙ begun in
+      let none = rw opens at (none_opened (went.output_events ++ PrintsLine line ∷ []) went.kept) in absurd (cc)
+  unopened status (one, inr b) =
+      let openings = b.passed ++ [] in let rest = b.rest [] in
+      by_break b.passed openings (stage openings) b.whole rest.later b.break b.notice (begins openings)
+      rest.output_events_are rest.broken b.taken b.is_reported b.kept
 
 -- ---- a file that was opened and is good
 
