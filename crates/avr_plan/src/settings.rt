@@ -110,21 +110,29 @@ impl Settings {
 #[derive(Drop, Error)]
 pub enum SettingsFault {
     /// No `-p`.
+    #[error("no part given (-p)")]
     NoPart,
     /// `-c` with this name, not `stk500v2`.
+    #[error("programmer {} is not known", .0.as_str())]
     BadProgrammer(Text),
     /// `-P` with this text, which names no port, or `--serve` with this text, which is no port number; `None` if
     /// neither option is given.
+    #[error("no port given, or one that is not known")]
     BadPort(Option<Text>),
     /// `--serve` without `--chip`.
+    #[error("no chip file given (--chip)")]
     NoChip,
     /// More than 16 updates.
+    #[error("more than 16 updates")]
     TooMany,
     /// The update with this 1-based number is bad.
+    #[error("update {0}: {1}")]
     BadUpdate(u8, UpdateFault),
     /// A standard stream is asked for twice, or in place of a file.
+    #[error("standard streams are taken")]
     StandardTaken,
     /// Allocation failed.
+    #[error("out of memory")]
     Memory,
 }
 
@@ -148,27 +156,6 @@ impl SettingsFault {
             SettingsFault::Memory => 7,
             SettingsFault::NoChip => 8,
         }
-    }
-}
-
-// Not derived: proving one call that writes a text is cheaper than proving one for each fault.
-impl fmt::Display for SettingsFault {
-    fn fmt<W: fmt::Write>(&self, f: &mut fmt::Formatter<W>) -> fmt::Result {
-        let reason = match self {
-            SettingsFault::BadProgrammer(name) => {
-                return write!(f, "programmer {} is not known", name.as_str());
-            }
-            SettingsFault::BadUpdate(number, fault) => {
-                return write!(f, "update {}: {}", number, fault);
-            }
-            SettingsFault::NoPart => "no part given (-p)",
-            SettingsFault::BadPort(_) => "no port given, or one that is not known",
-            SettingsFault::NoChip => "no chip file given (--chip)",
-            SettingsFault::TooMany => "more than 16 updates",
-            SettingsFault::StandardTaken => "standard streams are taken",
-            SettingsFault::Memory => "out of memory",
-        };
-        f.write_str(reason)
     }
 }
 

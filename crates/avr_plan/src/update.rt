@@ -6,7 +6,6 @@ ghost use Rattle.avr_plan.specs.Update.{letter_of, formats_of, format_of, op_nam
 use crate::text::{Text, split_first};
 use avr_part::Mem;
 use std::alloc::{AllocError, Global};
-use std::fmt;
 use std::marker::Model;
 use thiserror::Error;
 
@@ -119,14 +118,19 @@ pub struct Update {
 #[derive(Clone, Copy, Debug, PartialEq, Eq, Error)]
 pub enum UpdateFault {
     /// No memory has the name before the first colon.
+    #[error("no such memory")]
     BadMemory,
     /// The operation is missing, or not `r`, `w` or `v`.
+    #[error("no such operation")]
     BadOp,
     /// The letter names no format of this operation.
+    #[error("no such format here")]
     BadFormat,
     /// The file's name is empty or missing.
+    #[error("no file named")]
     NoFile,
     /// Allocation failed.
+    #[error("out of memory")]
     Memory,
 }
 
@@ -146,19 +150,6 @@ impl UpdateFault {
             UpdateFault::NoFile => 4,
             UpdateFault::Memory => 5,
         }
-    }
-}
-
-// Not derived: proving one call that writes a text is cheaper than proving one for each fault.
-impl fmt::Display for UpdateFault {
-    fn fmt<W: fmt::Write>(&self, f: &mut fmt::Formatter<W>) -> fmt::Result {
-        f.write_str(match self {
-            UpdateFault::BadMemory => "no such memory",
-            UpdateFault::BadOp => "no such operation",
-            UpdateFault::BadFormat => "no such format here",
-            UpdateFault::NoFile => "no file named",
-            UpdateFault::Memory => "out of memory",
-        })
     }
 }
 
