@@ -52,18 +52,15 @@ Ended allocates dialog m o p outcome n =
     (RunsOverLink dialog m o p outcome n × (standing_after (after_outcome outcome) ≡ Ok (standing outcome)))
     ⊎ ((stop : Stop) × StopsAs outcome stop × StopsOver allocates dialog m o p stop)
 
-line_at : (part : Part) (stop : Stop) → fault_line part (fault_at stop) ≡ cause_line (cause_at stop)
-unfolding cause_line fault_line
-line_at part stop = search rules
-
 -- a stop is reported, if the line of such a fault is the whole output for it
 pub cause_is_reported : {A : Type 0} (part : Part) (is_reported : Result A HostFault → List OutputEvent)
     → ((stop : Stop) → is_reported (Err (fault_at stop)) ≡ PrintsLine (fault_line part (fault_at stop)) ∷ [])
     → {d e : DeskState} {outcome : Result A HostFault} {emitted : Result (Unit {0}) DeskFault}
     → Reports PrintStops d e (is_reported outcome) emitted → (stop : Stop) → StopsAs outcome stop
     → ReportsLine d e (cause_line (cause_at stop))
+unfolding cause_line fault_line
 cause_is_reported part is_reported line {d = d} {e = e} {emitted = emitted} reports stop is =
-    search (rules, line_at, reported_some)
+    search (rules, reported_some)
 
 pub opening_line : (quiet : ℕ) (part : Part) (stop : Stop)
     → opening_output quiet part (Err (fault_at stop)) ≡ PrintsLine (fault_line part (fault_at stop)) ∷ []

@@ -47,15 +47,11 @@ abbrev Performs : Bool → Dialog OutputEvent Standing → Performing
 Performs allocates dialog = PerformsOnTerms (before_fault allocates) (AtStartOnly allocates) dialog
 
 -- a desk that failed in printing stops the run, whatever was reported
-printing_reports : (flag : Bool) (notice : List ℕ) (d : DeskState) → notice ≡ []
-    → ReportsCause flag PrintingFailed notice d d
-unfolding cause_line
-printing_reports flag notice d none = search (rules, same_here)
-
 pub print_stops_run : (terms : Terms) (o : LinkState) (d e : DeskState) → CountsNeverFall d e
     → (emitted : List OutputEvent) (cause : Cause) (notice : List ℕ) → PrintStops d e cause notice
     → StopsAfterOutput terms (devices o d) (devices o e) emitted cause notice
-print_stops_run terms o d e le emitted PrintingFailed notice stops = search (rules, printing_reports, follows_here)
+unfolding cause_line
+print_stops_run terms o d e le emitted PrintingFailed notice stops = search (rules, same_here, follows_here)
 print_stops_run terms o d e le emitted cause notice stops = absurd stops
 
 -- so does a desk that failed at a file, if no fault was reported
@@ -108,8 +104,7 @@ left_out_runs : (allocates : Bool) (outputs : List OutputEvent) (m : Progress) (
     (notice : Result (Unit {0}) DeskFault) → Reports PrintStops d e outputs notice
     → Runs (emits outputs (Done NoFault)) m (devices o d) (devices o e) (before_fault allocates) (AtStartOnly allocates)
     (standing_after (conclusion {A = Unit {0}} (Ok tt) notice)) m
-left_out_runs allocates outputs m o d e (Ok done) reports =
-    ran_from (came_emitted outputs (Done NoFault) m o reports.emits)
+left_out_runs allocates outputs m o d e (Ok done) reports = search (rules, ran_from, came_emitted)
 left_out_runs allocates outputs m o d e (Err _) reports = search (rules, broke_output, print_stops_report)
 
 pub left_out_performs : (allocates : Bool) (outputs : List OutputEvent) {host : HostState} {o : LinkState}
@@ -299,8 +294,7 @@ pub read_stops_report : (part : Part) (good : List ℕ → List OutputEvent) (it
     (ReadStops outcome)
 read_stops_report part good items none (Ok done) allocates o {d = d} {e = e} reports =
     search (rules, desk_stops_run, prefix_reports_none)
-read_stops_report part good items none (Err fault) allocates o reports =
-    print_stops_report (before_fault allocates) o reports
+read_stops_report part good items none (Err fault) allocates o reports = search (rules, print_stops_report)
 
 -- the end of a session
 
