@@ -90,9 +90,8 @@ operation_reports : {A : Type 0} (operation : Dialog ⊥ (Result A HostFault))
     → ((outcome : Result A HostFault) → reports_fault (outcome_output outcome) ≡ has_fault (standing outcome))
     → ReportsFault (reported operation outcome_output)
 operation_reports operation outcome_output f =
-    along_bind (λ emitted outcome. emitted ≡ []) FaultAsInState (lifted operation)
-    (λ outcome. emits (outcome_output outcome) (Done (standing outcome))) (along_lifted operation) λ emitted outcome
-    none. along_output (λ more after. FaultAsInState (emitted ++ more) after) (outcome_output outcome)
+    along_bind (λ emitted outcome. emitted ≡ []) FaultAsInState (lifted operation) _ (along_lifted operation)
+    λ emitted outcome none. along_output (λ more after. FaultAsInState (emitted ++ more) after) (outcome_output outcome)
     (Done (standing outcome)) (search rules)
 
 output_reports : (outputs : List OutputEvent) → reports_fault outputs ≡ false

@@ -13,7 +13,7 @@ use Rattle.stk_host.proofs.Dialogs.Lifted.{outputs_raised}
 use Rattle.avr_desk.specs.OutputEvents.{OutputEvent, PrintsLine, ReportsLine}
 use Rattle.avr_session.specs.Concluding.{after_outcome, conclusion, standing_after}
 use Rattle.avr_session.specs.Lines.{fault_line}
-use Rattle.avr_session.specs.Session.{emits, standing, reported, opening_output}
+use Rattle.avr_session.specs.Session.{standing, reported, opening_output}
 use Rattle.avr_session.specs.AllocationPoints.{AtStartOnly}
 use Rattle.avr_session.specs.Runs.{Cause, AllocationFailed, devices, Terms, cause_line, CauseOccurred}
 use Rattle.avr_session.specs.Performing.{Runs}
@@ -84,15 +84,11 @@ pub operation_runs : {A : Type 0} (operation : Dialog ⊥ (Result A HostFault))
     → Runs (reported operation outcome_output) m (devices o d) (devices p e) terms (AtStartOnly terms.allocates)
     (standing_after (conclusion outcome emitted)) n
 unfolding came_lifted
-operation_runs operation outcome_output m n {p = p} {d = d} outcome (Ok done) terms By why (inl played) few reports
-    notice =
-    rw played.1
-    (ran_from (came_on (came_lifted (λ outcome. emits (outcome_output outcome) (Done (standing outcome))) d played.0
-    few) (came_emitted (outcome_output outcome) (Done (standing outcome)) n p reports)))
-operation_runs operation outcome_output m n {p = p} {d = d} outcome (Err _) terms By why (inl played) few reports
-    notice =
-    broke_quietly (came_lifted (λ outcome. emits (outcome_output outcome) (Done (standing outcome))) d played.0 few)
-    (outputs_raised played.0.events)
+operation_runs operation outcome_output m n {p = p} {d = d} outcome (Ok done) terms By why (inl played) few reports _ =
+    rw played.1 (ran_from (came_on (came_lifted _ d played.0 few)
+    (came_emitted (outcome_output outcome) (Done (standing outcome)) n p reports)))
+operation_runs operation outcome_output m n {p = p} {d = d} outcome (Err _) terms By why (inl played) few reports _ =
+    broke_quietly (came_lifted _ d played.0 few) (outputs_raised played.0.events)
     (broke_output (outcome_output outcome) (Done (standing outcome)) n p why reports)
 operation_runs operation outcome_output m n outcome emitted terms By why (inr stops) few reports notice =
     search (rules, broke_lacking, broke_operation)

@@ -24,7 +24,7 @@ use Rattle.avr_plan.specs.Plan.{Plan}
 use Rattle.avr_session.specs.Standing.{Standing, NoFault, Over}
 use Rattle.avr_session.specs.declared.ending.End.{End}
 use Rattle.avr_session.specs.declared.ending.End.TheVariants as ends
-use Rattle.avr_session.specs.Actions.{Action, action_allocates, actions, plan_allocates}
+use Rattle.avr_session.specs.Actions.{Action, action_allocates, actions}
 use Rattle.avr_session.specs.Concluding.{HostIsUsable, conclusion, standing_after}
 use Rattle.avr_session.specs.Lines.{fault_line}
 use Rattle.avr_session.specs.Outcomes.{EndsWithFaultLine}
@@ -257,12 +257,9 @@ module _ (plan : Plan) (xs ys : List Action) where
       → DoesPlanActions plan xs x y o p (Ok NoFault) → DoesPlanActions plan ys y z p q result
       → DoesPlanActions plan (xs ++ ys) x z o q result
   does_then result done rest =
-      does_both (performs_on {K = AtAllocation plan.part plan.switches xs}
-      (list_any action_allocates xs || list_any action_allocates ys) NoFault
-      (performs_as done done.runs done.serves)
-      (list_any action_allocates ys) (unless_fault (actions_dialog plan.part plan.switches ys)) result
-      (search rules)
-      (actions_report plan.part plan.switches xs) (taking_then plan.part plan.switches xs ys done.runs) rest)
+      does_both (performs_on {K = AtAllocation plan.part plan.switches xs} _ NoFault
+      (performs_as done done.runs done.serves) _ (unless_fault (actions_dialog plan.part plan.switches ys)) result
+      (search rules) (actions_report _ plan.switches xs) (taking_then plan.part plan.switches xs ys done.runs) rest)
 
   -- the others are skipped
   pub does_last : {x y : HostState} {o p : Devices} (end : End)
@@ -341,9 +338,8 @@ pub ends_so : (plan : Plan) (standing : Standing) {x y z : HostState} {o p q : D
     (result : Result Standing (Unit {0})) → DoesPlanActions plan (actions plan) x y o p (Ok standing)
     → EndsSession plan standing y z p q result → PlaysSession plan x z o q result
 ends_so plan standing result done rest =
-    performs_on (plan_allocates plan) standing done false (ending plan.part plan.switches) result (λ e. absurd (cc))
-    (actions_report plan.part plan.switches (actions plan)) (λ during shown never. let e = never.0 in absurd (cc))
-    rest
+    performs_on _ standing done false (ending plan.part plan.switches) result (λ e. absurd (cc))
+    (actions_report _ plan.switches (actions plan)) (λ during shown never. let e = never.0 in absurd (cc)) rest
 
 -- a whole session, run to its status, or stopped in this state
 pub session_played : (plan : Plan) {x y : HostState} {o p : Devices} (standing : Standing) → x.progress ≡ start

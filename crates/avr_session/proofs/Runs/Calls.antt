@@ -80,8 +80,8 @@ came during events grows leads few kept sound = record {
 
 unfoldable pub came_here : {R : Type 0} (dialog : Dialog OutputEvent R) (m : Progress) (o : Devices)
     → Came (point dialog m o) (point dialog m o)
-came_here dialog m o =
-    came [] [] (grows_none o.link.transcript) (leads_here dialog m) (λ f. f) (kept_none o.desk.kept) (none_failed_here o)
+came_here dialog m o = came [] [] (grows_none o.link.transcript) (leads_here dialog m) (λ f. f)
+    (kept_none o.desk.kept) (none_failed_here o)
 
 pub came_on : {R : Type 0} {x y z : Point R} → Came x y → Came y z → Came x z
 came_on {x = x} {y = y} {z = z} f g =
@@ -195,9 +195,7 @@ module _ {R : Type 0} {dialog : Dialog OutputEvent R} {m : Progress} {o p : Devi
         → (cause ≡ AllocationFailed → L m during shown) → BrokeOff dialog m o p terms L
     broke_silent during shown cause quiet some grows placed all_sent in_turn listens at_point =
         broke_off during shown cause some.0 grows placed all_sent in_turn listens
-        (subst (λ emitted. StopsAfterOutput terms o p emitted cause some.0) (sym quiet) some.1)
-        (subst (λ emitted. ChangesRecord (λ r. after_err some.0 (after_events emitted r)) o.desk p.desk) (sym quiet)
-        some.2) at_point
+        (rw quiet some.1) (rw quiet some.2) at_point
 
 pub broke_on : {R : Type 0} {x y : Point R} {q : Devices} {some all : Terms} {L M : RunAllocationPoints}
     (came : Came x y) → StopsWhole some all (outputs came.events) x.devices y.devices q
@@ -228,8 +226,7 @@ pub broke_quietly : {R : Type 0} {x y : Point R} {q : Devices} {terms : Terms} {
     (came : Came x y) → outputs came.events ≡ [] → BrokeOff y.left y.progress_at y.devices q terms Never
     → BrokeOff x.left x.progress_at x.devices q terms L
 broke_quietly {x = x} {y = y} {q = q} {terms = terms} came quiet broke =
-    broke_on came (search rules)
-    (λ during shown never. absurd never) broke
+    broke_on came (search rules) (λ during shown never. absurd never) broke
 
 -- in an operation of the host; its report follows it
 
@@ -264,8 +261,7 @@ module _ {A R : Type 0} (go_on : A → Dialog OutputEvent R) where
       → Came (point (lifted dialog >>= go_on) m (devices o d)) (point (go_on result) n (devices p d))
   came_lifted d f few =
       came f.during (raised f.events) f.grows (leads_bind go_on (leads_from (plays_lifted f.plays))) (λ _. few)
-      (subst (λ ss. ChangesRecord (after_events ss) d d) (sym (outputs_raised f.events)) (kept_none d.kept))
-      (f.sound, same_here d)
+      (rw (outputs_raised f.events) (kept_none d.kept)) (f.sound, same_here d)
 
   unfoldable pub came_part : {a : Dialog OutputEvent A} {m n : Progress} {o p : Devices} {result : A}
       → RanWhole a m o p result n → Came (point (a >>= go_on) m o) (point (go_on result) n p)
@@ -331,8 +327,7 @@ module _ {R : Type 0} (xs : List OutputEvent) (dialog : Dialog OutputEvent R) (m
       (subst (Placed f.cause [] (map Emitted shown)) (sym (emits_events xs dialog m.next m.unread))
       (placed_more (played_over dialog m []).events (λ listens. absurd (search rules))
       (search (rules, map_append)))) (no_bytes shown) tt (search rules)
-      (subst (λ emitted. StopsAfterOutput terms (devices o d) (devices o e) emitted f.cause f.notice)
-      (sym (outputs_emitted shown)) (why f.between f.cause f.prefix f.notice f.stops))
+      (rw (outputs_emitted shown) (why f.between f.cause f.prefix f.notice f.stops))
       (search (rules, kept_on, outputs_emitted)) (λ is. absurd (subst IsOfDesk is prefix.by_desk))
 
 -- at once, for a failed allocation
