@@ -1,16 +1,10 @@
 use Rattle.std.proofs.Common.{◌≡◌, List, [], ◌∷◌, ◌++◌, refl, rules}
 use Rattle.avr_plan.specs.declared.settings.Switches.{Switches}
-use Rattle.avr_desk.specs.OutputEvents.{OutputEvent}
 use Rattle.avr_part.specs.Part.{Part}
-use Rattle.stk_host.specs.Dialog.{Dialog, ◌>>=◌}
-use Rattle.stk_host.proofs.Dialogs.Bound.{bind_same, bind_done, bind_assoc}
-use Rattle.avr_session.specs.Standing.{Standing}
+use Rattle.stk_host.specs.Dialog.{◌>>=◌}
+use Rattle.stk_host.proofs.Dialogs.Bound.{bind_done, bind_assoc}
 use Rattle.avr_session.specs.Actions.{Action}
 use Rattle.avr_session.specs.Session.{unless_fault, action_dialog, actions_dialog}
-
-unless_both : (first more : Dialog OutputEvent Standing) (standing : Standing)
-    → unless_fault (first >>= unless_fault more) standing ≡ unless_fault first standing >>= unless_fault more
-unless_both first more standing = search rules
 
 -- a list of one action has that action's dialog
 pub actions_dialog-one : (part : Part) (s : Switches) (action : Action) → actions_dialog part s (action ∷ [])
@@ -22,4 +16,4 @@ pub actions_dialog-append : (part : Part) (s : Switches) (xs ys : List Action)
     → actions_dialog part s (xs ++ ys) ≡ actions_dialog part s xs >>= unless_fault (actions_dialog part s ys)
 actions_dialog-append part s [] ys = refl
 actions_dialog-append part s (x ∷ xs) ys =
-    search (rules, bind_same, unless_both, bind_assoc, actions_dialog-append part s xs ys)
+    search (rules, bind_assoc, actions_dialog-append part s xs ys)

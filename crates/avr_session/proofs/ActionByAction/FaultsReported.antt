@@ -14,12 +14,12 @@ use Rattle.stk_host.specs.Transcript.{heard}
 use Rattle.stk_host.specs.Dialog.{Dialog, Done, Emit, Ask, ◌>>=◌, lifted, Event, Emitted, Played, played, continue_with_reading, next, outputs}
 use Rattle.avr_desk.specs.OutputEvents.{OutputEvent, PrintsLine}
 use Rattle.avr_session.specs.Standing.{Standing, NoFault}
-use Rattle.avr_session.specs.Actions.{SkippedByDryRun, Action, OpenSession}
+use Rattle.avr_session.specs.Actions.{Action, OpenSession}
 use Rattle.avr_session.specs.Lines.{fault_line}
 use Rattle.avr_session.specs.Performing.{has_fault}
 use Rattle.avr_session.specs.Runs.{Devices, Cause, SendingFailed, reports_fault, RanWhole, StopsAt}
 use Rattle.avr_session.specs.Reporting.{OutputsPrefix}
-use Rattle.avr_session.specs.Session.{emits, standing, reported, unless_fault, opening_output, bytes_output, read_output, skipped_output, action_dialog, actions_dialog}
+use Rattle.avr_session.specs.Session.{emits, standing, reported, unless_fault, read_output, action_dialog, actions_dialog}
 use Rattle.avr_session.proofs.Runs.Stops.{outputs_by}
 
 -- ---- along every path of a dialog
@@ -36,8 +36,7 @@ pub along_bind : {A R : Type 0} (P : List OutputEvent → A → Type 0) (Q : Lis
     → Along Q (dialog >>= go_on)
 along_bind P Q (Done a) go_on f g = g [] a f
 along_bind P Q (Emit e dialog) go_on f g =
-    along_bind (λ emitted a. P (e ∷ emitted) a) (λ emitted r. Q (e ∷ emitted) r) dialog go_on f (λ emitted a p. g (e
-    ∷ emitted) a p)
+    along_bind (λ emitted. P (e ∷ emitted)) (λ emitted. Q (e ∷ emitted)) dialog go_on f (λ emitted. g (e ∷ emitted))
 along_bind P Q (Ask body resume) go_on f g = λ reading. along_bind P Q (resume reading) go_on (f reading) g
 
 pub along_lifted : {R : Type 0} (dialog : Dialog ⊥ R) → Along (λ emitted r. emitted ≡ []) (lifted dialog)
@@ -61,8 +60,8 @@ along_play : {R : Type 0} (P : List OutputEvent → R → Type 0) (dialog : Dial
 along_play P (Done r) seq tape f = f
 along_play P (Emit e dialog) seq tape f = search (rules, along_play (λ emitted r. P (e ∷ emitted) r) dialog seq tape f)
 along_play {R = R} P (Ask body resume) seq tape f =
-    elim (answer seq tape) as (λ o. Ends P (outputs (continue_with_reading (λ r. played (resume r) (next seq))
-    o).events) (continue_with_reading (λ r. played (resume r) (next seq)) o).outcome) [
+    let go : Reading → Tape → Played OutputEvent R = λ r. played (resume r) (next seq) in
+    elim (answer seq tape) as (λ o. let p = continue_with_reading go o in Ends P (outputs p.events) p.outcome) [
       | None ↦ tt
       | Some got ↦ along_play P (resume got.0) (next seq) got.1 (f got.0)
     ]
@@ -91,15 +90,13 @@ operation_reports : {A : Type 0} (operation : Dialog ⊥ (Result A HostFault))
     → ((outcome : Result A HostFault) → reports_fault (outcome_output outcome) ≡ has_fault (standing outcome))
     → ReportsFault (reported operation outcome_output)
 operation_reports operation outcome_output f =
-    along_bind (λ emitted outcome. emitted ≡ []) FaultAsInState (lifted operation)
-    (λ outcome. emits (outcome_output outcome) (Done (standing outcome))) (along_lifted operation) λ emitted outcome
-    none. along_output (λ more after. FaultAsInState (emitted ++ more) after) (outcome_output outcome)
+    along_bind (λ emitted outcome. emitted ≡ []) FaultAsInState (lifted operation) _ (along_lifted operation)
+    λ emitted outcome none. along_output (λ more after. FaultAsInState (emitted ++ more) after) (outcome_output outcome)
     (Done (standing outcome)) (search rules)
 
 output_reports : (outputs : List OutputEvent) → reports_fault outputs ≡ false
     → ReportsFault (emits outputs (Done NoFault))
-output_reports outputs f = along_output FaultAsInState outputs (Done NoFault) (ap reports_fault (append-nil outputs) ∙
-    f)
+output_reports outputs f = search (rules, along_output, append-nil)
 
 -- ---- lines that report no fault, and those that do
 
@@ -107,27 +104,16 @@ fault_reports : (part : Part) (fault : HostFault) → reports_fault (PrintsLine 
 unfolding fault_line
 fault_reports part fault = refl
 
-bytes_none : (quiet : ℕ) (mem : Mem) (count : ℕ) (done : Bytes) → reports_fault (bytes_output quiet mem count done)
-    ≡ false
-bytes_none quiet mem count done = search rules
-
 pub read_none : (s : Switches) (mem : Mem) (format : Format) (file bytes : Bytes)
     → reports_fault (read_output s mem format file bytes) ≡ false
 read_none s mem format file bytes = search rules
 
-opening_reports : (quiet : ℕ) (part : Part) (outcome : Result Bytes HostFault)
-    → reports_fault (opening_output quiet part outcome) ≡ has_fault (standing outcome)
-opening_reports quiet part outcome = search (rules, list_any-append, fault_reports)
-
-left_out_none : (quiet : ℕ) (what : SkippedByDryRun) → reports_fault (skipped_output quiet what) ≡ false
-left_out_none quiet what = search (rules, bytes_none)
-
 -- ---- the actions of a session
 
 pub action_reports : (part : Part) (s : Switches) (action : Action) → ReportsFault (action_dialog part s action)
-action_reports part s OpenSession = search (rules, operation_reports, opening_reports)
+action_reports part s OpenSession = search (rules, operation_reports, list_any-append, fault_reports)
 action_reports part s action =
-    search (rules, operation_reports, fault_reports, bytes_none, read_none, output_reports, left_out_none)
+    search (rules, operation_reports, fault_reports, output_reports)
 
 pub actions_report : (part : Part) (s : Switches) (actions : List Action) → ReportsFault (actions_dialog part s actions)
 actions_report part s [] = refl

@@ -13,7 +13,7 @@ use Rattle.stk_host.proofs.Dialogs.Lifted.{outputs_raised}
 use Rattle.avr_desk.specs.OutputEvents.{OutputEvent, PrintsLine, ReportsLine}
 use Rattle.avr_session.specs.Concluding.{after_outcome, conclusion, standing_after}
 use Rattle.avr_session.specs.Lines.{fault_line}
-use Rattle.avr_session.specs.Session.{emits, standing, reported, opening_output}
+use Rattle.avr_session.specs.Session.{standing, reported, opening_output}
 use Rattle.avr_session.specs.AllocationPoints.{AtStartOnly}
 use Rattle.avr_session.specs.Runs.{Cause, AllocationFailed, devices, Terms, cause_line, CauseOccurred}
 use Rattle.avr_session.specs.Performing.{Runs}
@@ -52,18 +52,15 @@ Ended allocates dialog m o p outcome n =
     (RunsOverLink dialog m o p outcome n × (standing_after (after_outcome outcome) ≡ Ok (standing outcome)))
     ⊎ ((stop : Stop) × StopsAs outcome stop × StopsOver allocates dialog m o p stop)
 
-line_at : (part : Part) (stop : Stop) → fault_line part (fault_at stop) ≡ cause_line (cause_at stop)
-unfolding cause_line fault_line
-line_at part stop = search rules
-
 -- a stop is reported, if the line of such a fault is the whole output for it
 pub cause_is_reported : {A : Type 0} (part : Part) (is_reported : Result A HostFault → List OutputEvent)
     → ((stop : Stop) → is_reported (Err (fault_at stop)) ≡ PrintsLine (fault_line part (fault_at stop)) ∷ [])
     → {d e : DeskState} {outcome : Result A HostFault} {emitted : Result (Unit {0}) DeskFault}
     → Reports PrintStops d e (is_reported outcome) emitted → (stop : Stop) → StopsAs outcome stop
     → ReportsLine d e (cause_line (cause_at stop))
+unfolding cause_line fault_line
 cause_is_reported part is_reported line {d = d} {e = e} {emitted = emitted} reports stop is =
-    search (rules, line_at, reported_some)
+    search (rules, reported_some)
 
 pub opening_line : (quiet : ℕ) (part : Part) (stop : Stop)
     → opening_output quiet part (Err (fault_at stop)) ≡ PrintsLine (fault_line part (fault_at stop)) ∷ []
@@ -87,15 +84,11 @@ pub operation_runs : {A : Type 0} (operation : Dialog ⊥ (Result A HostFault))
     → Runs (reported operation outcome_output) m (devices o d) (devices p e) terms (AtStartOnly terms.allocates)
     (standing_after (conclusion outcome emitted)) n
 unfolding came_lifted
-operation_runs operation outcome_output m n {p = p} {d = d} outcome (Ok done) terms By why (inl played) few reports
-    notice =
-    rw played.1
-    (ran_from (came_on (came_lifted (λ outcome. emits (outcome_output outcome) (Done (standing outcome))) d played.0
-    few) (came_emitted (outcome_output outcome) (Done (standing outcome)) n p reports)))
-operation_runs operation outcome_output m n {p = p} {d = d} outcome (Err _) terms By why (inl played) few reports
-    notice =
-    broke_quietly (came_lifted (λ outcome. emits (outcome_output outcome) (Done (standing outcome))) d played.0 few)
-    (outputs_raised played.0.events)
+operation_runs operation outcome_output m n {p = p} {d = d} outcome (Ok done) terms By why (inl played) few reports _ =
+    rw played.1 (ran_from (came_on (came_lifted _ d played.0 few)
+    (came_emitted (outcome_output outcome) (Done (standing outcome)) n p reports)))
+operation_runs operation outcome_output m n {p = p} {d = d} outcome (Err _) terms By why (inl played) few reports _ =
+    broke_quietly (came_lifted _ d played.0 few) (outputs_raised played.0.events)
     (broke_output (outcome_output outcome) (Done (standing outcome)) n p why reports)
 operation_runs operation outcome_output m n outcome emitted terms By why (inr stops) few reports notice =
     search (rules, broke_lacking, broke_operation)

@@ -3,15 +3,14 @@ use Rattle.std.proofs.Common.{◌≡◌, ◌++◌, List, [], None, Ok, Err, Resu
 use Rattle.avr_desk.specs.declared.desk.Desk.{Ghosts as Desks}
 use Rattle.stk_host.specs.declared.link.Link.{Ghosts as Links}
 use Rattle.avr_session.specs.Actions.{Action}
-use Rattle.avr_session.specs.Held.{Does, devices_of}
+use Rattle.avr_session.specs.Held.{Does}
 use Rattle.avr_session.specs.declared.ending.End.{End}
 use Rattle.avr_session.specs.declared.session.Session.{Session}
 use Rattle.avr_session.proofs.ActionByAction.Sequences.{does_nothing, does_then, does_last}
 
 pub none_done : {D L : Type 0} (link : Links L) (desk : Desks D) (session : Session D L) → session.host.broken ≡ None
     → Does link desk [] session session (Ok tt)
-none_done link desk session sound =
-    let performs = does_nothing session.plan.now session.host (devices_of link desk session) sound in search rules
+none_done link desk session sound = search (rules, does_nothing)
 
 module _ {D L : Type 0} (link : Links L) (desk : Desks D) (xs ys : List Action) where
   pub both_done : {a b c : Session D L} {result : Result (Unit {0}) End} → Does link desk xs a b (Ok tt)
@@ -22,5 +21,4 @@ module _ {D L : Type 0} (link : Links L) (desk : Desks D) (xs ys : List Action) 
   -- the others are skipped
   pub first_ends : {a b : Session D L} {end : End} → Does link desk xs a b (Err end)
       → Does link desk (xs ++ ys) a b (Err end)
-  first_ends {a = a} {end = end} done =
-      let performs = does_last a.plan.now xs ys end done.performs in search rules
+  first_ends {a = a} {end = end} done = search (rules, does_last)

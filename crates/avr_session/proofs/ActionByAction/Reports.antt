@@ -1,6 +1,6 @@
 -- Reports, one after another.
 use Rattle.std.proofs.lemmas.Grind.{common_steps}
-use Rattle.std.proofs.Common.{◌≡◌, ◌≤◌, ℕ, arith, List, [], ◌∷◌, ◌++◌, Result, Ok, Err, refl, sym, inl, IfErr, nat_lt, false, rules}
+use Rattle.std.proofs.Common.{◌≡◌, ◌≤◌, ℕ, arith, List, [], ◌∷◌, ◌++◌, Result, Ok, Err, refl, sym, IfErr, nat_lt, false, rules}
 use Rattle.std.proofs.lemmas.Bool.Decides.{nat_tests}
 use Rattle.avr_desk.specs.Record.{DeskState, ChangesRecord, after_err}
 use Rattle.avr_desk.specs.Fault.{CountsFailure, CountsNeverFall, HasFailedAt, HasFailedToReport, HasSameCounts}
@@ -41,18 +41,13 @@ module _ {D : Type 0} (desk : Ghosts D) (first more : List OutputEvent) where
   pub reports_then : {old mid new : D} {done : Unit {0}} (result : Result (Unit {0}) DeskFault)
       → Prints desk first old mid (Ok done) → Prints desk more mid new result
       → Prints desk (first ++ more) old new result
-  reports_then {old = old} {mid = mid} {new = new} result was then = record {
-    reports = search (rules, emitted_then, follows_on);
-    stays = λ start of. then.stays start (was.stays start of);
-  }
+  reports_then {old = old} {mid = mid} {new = new} result was then = search (rules, emitted_then, follows_on)
 
   pub saves_then : {old mid new : D} (file : List ℕ) {done : Unit {0}} (result : Result (Unit {0}) DeskFault)
       → Outputs desk (SaveStops file) first old mid (Ok done) → Prints desk more mid new result
       → Outputs desk DeskStops (first ++ more) old new result
-  saves_then {old = old} {mid = mid} {new = new} file result was then = record {
-    reports = search (rules, emitted_then, message_failures_since, follows_on);
-    stays = λ start of. then.stays start (was.stays start of);
-  }
+  saves_then {old = old} {mid = mid} {new = new} file result was then =
+      search (rules, emitted_then, message_failures_since, follows_on)
 
   -- the first report was the last
   pub reports_until : (By Then : DeskState → DeskState → Cause → List ℕ → Type 0) {old new : D} (fault : DeskFault)
@@ -89,16 +84,11 @@ reported_line : (cause : Cause) (notice l : List ℕ) (old new between : DeskSta
 reported_line PrintingFailed notice l old new between follows prefix stops kept = search (rules, one_line l prefix)
 reported_line cause notice l old new between follows prefix stops kept = absurd stops
 
-some_reported : (old new : DeskState) (l : List ℕ) (result : Result (Unit {0}) DeskFault) → CountsNeverFall old new
-    → OutputsOrStops PrintStops old new (PrintsLine l ∷ []) result → ReportsLine old new l
-some_reported old new l (Ok done) follows emitted =
-    record { notice = l; is_reported = inl (refl, emitted.1); kept = emitted.0; follows = follows }
-some_reported old new l (Err _) follows some = search (rules, reported_line)
-
 -- the part of a reported line that was printed
 pub reported_some : (old new : DeskState) (l : List ℕ) (result : Result (Unit {0}) DeskFault)
     → Reports PrintStops old new (PrintsLine l ∷ []) result → ReportsLine old new l
-reported_some old new l result reports = some_reported old new l result reports.follows reports.emits
+reported_some old new l (Ok done) reports = search rules
+reported_some old new l (Err _) reports = search (rules, reported_line)
 
 -- a file's fault is reported after the output so far
 pub file_stops : (By : DeskState → DeskState → Cause → List ℕ → Type 0) (old mid new : DeskState)

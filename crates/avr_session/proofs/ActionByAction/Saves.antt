@@ -15,21 +15,15 @@ use Rattle.avr_session.specs.Runs.{Cause, FileFailed, NotCreated, NotWritten, ca
 use Rattle.avr_session.specs.Reporting.{OutputsPrefix, OutputsOrStops, Reports, DeskStops}
 use Rattle.avr_session.specs.Session.{saving_output}
 use Rattle.avr_session.specs.Saving.{SaveStops, WritesSome, WritesAll}
-use Rattle.avr_session.proofs.Runs.Stops.{file_part, output_part}
+use Rattle.avr_session.proofs.Runs.Stops.{file_part, output_part, prefix_from}
 
 pub not_created : (old new : DeskState) (file : List ℕ) (result : Result (Unit {0}) DeskFault) (fault : DeskFault)
     (more : List OutputEvent) → result ≡ Err fault → ChangesRecord (after_create file result) old new
     → OutputsPrefix (FileFailed file NotCreated) old new (CreatesFile file ∷ more)
 not_created old new file (Ok done) fault more is kept = cc
-not_created old new file (Err other) fault more is kept = record {
-  whole = [];
-  begun = [];
-  later = CreatesFile file ∷ more;
-  outputs_are = refl;
-  place = record { more = map Emitted more; due = refl; none = refl };
-  by_desk = tt;
-  kept = kept ∙ kept_none old.kept;
-}
+not_created old new file (Err other) fault more is kept =
+    prefix_from [] [] (CreatesFile file ∷ more) (record { more = map Emitted more; due = refl; none = refl }) tt
+    (kept ∙ kept_none old.kept)
 
 -- if a file can't be saved, the desk has failed
 pub save_is_desk : (file : List ℕ) (before now : DeskState) (cause : Cause) (notice : List ℕ)

@@ -24,7 +24,7 @@ use Rattle.avr_plan.specs.Plan.{Plan}
 use Rattle.avr_session.specs.Standing.{Standing, NoFault, Over}
 use Rattle.avr_session.specs.declared.ending.End.{End}
 use Rattle.avr_session.specs.declared.ending.End.TheVariants as ends
-use Rattle.avr_session.specs.Actions.{Action, action_allocates, actions, plan_allocates}
+use Rattle.avr_session.specs.Actions.{Action, action_allocates, actions}
 use Rattle.avr_session.specs.Concluding.{HostIsUsable, conclusion, standing_after}
 use Rattle.avr_session.specs.Lines.{fault_line}
 use Rattle.avr_session.specs.Outcomes.{EndsWithFaultLine}
@@ -47,15 +47,11 @@ abbrev Performs : Bool → Dialog OutputEvent Standing → Performing
 Performs allocates dialog = PerformsOnTerms (before_fault allocates) (AtStartOnly allocates) dialog
 
 -- a desk that failed in printing stops the run, whatever was reported
-printing_reports : (flag : Bool) (notice : List ℕ) (d : DeskState) → notice ≡ []
-    → ReportsCause flag PrintingFailed notice d d
-unfolding cause_line
-printing_reports flag notice d none = search (rules, same_here)
-
 pub print_stops_run : (terms : Terms) (o : LinkState) (d e : DeskState) → CountsNeverFall d e
     → (emitted : List OutputEvent) (cause : Cause) (notice : List ℕ) → PrintStops d e cause notice
     → StopsAfterOutput terms (devices o d) (devices o e) emitted cause notice
-print_stops_run terms o d e le emitted PrintingFailed notice stops = search (rules, printing_reports, follows_here)
+unfolding cause_line
+print_stops_run terms o d e le emitted PrintingFailed notice stops = search (rules, same_here, follows_here)
 print_stops_run terms o d e le emitted cause notice stops = absurd stops
 
 -- so does a desk that failed at a file, if no fault was reported
@@ -108,8 +104,7 @@ left_out_runs : (allocates : Bool) (outputs : List OutputEvent) (m : Progress) (
     (notice : Result (Unit {0}) DeskFault) → Reports PrintStops d e outputs notice
     → Runs (emits outputs (Done NoFault)) m (devices o d) (devices o e) (before_fault allocates) (AtStartOnly allocates)
     (standing_after (conclusion {A = Unit {0}} (Ok tt) notice)) m
-left_out_runs allocates outputs m o d e (Ok done) reports =
-    ran_from (came_emitted outputs (Done NoFault) m o reports.emits)
+left_out_runs allocates outputs m o d e (Ok done) reports = search (rules, ran_from, came_emitted)
 left_out_runs allocates outputs m o d e (Err _) reports = search (rules, broke_output, print_stops_report)
 
 pub left_out_performs : (allocates : Bool) (outputs : List OutputEvent) {host : HostState} {o : LinkState}
@@ -262,12 +257,9 @@ module _ (plan : Plan) (xs ys : List Action) where
       → DoesPlanActions plan xs x y o p (Ok NoFault) → DoesPlanActions plan ys y z p q result
       → DoesPlanActions plan (xs ++ ys) x z o q result
   does_then result done rest =
-      does_both (performs_on {K = AtAllocation plan.part plan.switches xs}
-      (list_any action_allocates xs || list_any action_allocates ys) NoFault
-      (performs_as done done.runs done.serves)
-      (list_any action_allocates ys) (unless_fault (actions_dialog plan.part plan.switches ys)) result
-      (search rules)
-      (actions_report plan.part plan.switches xs) (taking_then plan.part plan.switches xs ys done.runs) rest)
+      does_both (performs_on {K = AtAllocation plan.part plan.switches xs} _ NoFault
+      (performs_as done done.runs done.serves) _ (unless_fault (actions_dialog plan.part plan.switches ys)) result
+      (search rules) (actions_report _ plan.switches xs) (taking_then plan.part plan.switches xs ys done.runs) rest)
 
   -- the others are skipped
   pub does_last : {x y : HostState} {o p : Devices} (end : End)
@@ -299,8 +291,7 @@ pub read_stops_report : (part : Part) (good : List ℕ → List OutputEvent) (it
     (ReadStops outcome)
 read_stops_report part good items none (Ok done) allocates o {d = d} {e = e} reports =
     search (rules, desk_stops_run, prefix_reports_none)
-read_stops_report part good items none (Err fault) allocates o reports =
-    print_stops_report (before_fault allocates) o reports
+read_stops_report part good items none (Err fault) allocates o reports = search (rules, print_stops_report)
 
 -- the end of a session
 
@@ -347,9 +338,8 @@ pub ends_so : (plan : Plan) (standing : Standing) {x y z : HostState} {o p q : D
     (result : Result Standing (Unit {0})) → DoesPlanActions plan (actions plan) x y o p (Ok standing)
     → EndsSession plan standing y z p q result → PlaysSession plan x z o q result
 ends_so plan standing result done rest =
-    performs_on (plan_allocates plan) standing done false (ending plan.part plan.switches) result (λ e. absurd (cc))
-    (actions_report plan.part plan.switches (actions plan)) (λ during shown never. let e = never.0 in absurd (cc))
-    rest
+    performs_on _ standing done false (ending plan.part plan.switches) result (λ e. absurd (cc))
+    (actions_report _ plan.switches (actions plan)) (λ during shown never. let e = never.0 in absurd (cc)) rest
 
 -- a whole session, run to its status, or stopped in this state
 pub session_played : (plan : Plan) {x y : HostState} {o p : Devices} (standing : Standing) → x.progress ≡ start

@@ -62,32 +62,36 @@ after_both x y r = ap (λ ss. after_events ss r) (outputs_append x y) ∙ after_
 
 -- how far a call has come
 
+abbrev came : {R : Type 0} {x y : Point R} (during : Transcript) (events : List (Event OutputEvent))
+    → Grows x.devices.link.transcript during y.devices.link.transcript
+    → TranscriptLeads x.left x.progress_at during events y.left y.progress_at
+    → (length x.progress_at.unread ≤ 281 → length y.progress_at.unread ≤ 281)
+    → ChangesRecord (after_events (outputs events)) x.devices.desk y.devices.desk → NoDeviceFailed x.devices y.devices
+    → Came x y
+came during events grows leads few kept sound = record {
+  during = during;
+  events = events;
+  grows = grows;
+  leads = leads;
+  few = few;
+  kept = kept;
+  sound = sound;
+}
+
 unfoldable pub came_here : {R : Type 0} (dialog : Dialog OutputEvent R) (m : Progress) (o : Devices)
     → Came (point dialog m o) (point dialog m o)
-came_here dialog m o = record {
-  during = [];
-  events = [];
-  grows = grows_none o.link.transcript;
-  leads = leads_here dialog m;
-  few = λ f. f;
-  kept = kept_none o.desk.kept;
-  sound = none_failed_here o;
-}
+came_here dialog m o = came [] [] (grows_none o.link.transcript) (leads_here dialog m) (λ f. f)
+    (kept_none o.desk.kept) (none_failed_here o)
 
 pub came_on : {R : Type 0} {x y z : Point R} → Came x y → Came y z → Came x z
 came_on {x = x} {y = y} {z = z} f g =
     let o = x.devices in
     let p = y.devices in
     let q = z.devices in
-    record {
-      during = f.during ++ g.during;
-      events = f.events ++ g.events;
-      grows = grows_on o.link.transcript p.link.transcript q.link.transcript f.during g.during f.grows g.grows;
-      leads = leads_on f.leads g.leads;
-      few = λ few. g.few (f.few few);
-      kept = search (rules, kept_on, after_both);
-      sound = none_failed_on o p q f.sound g.sound;
-    }
+    came (f.during ++ g.during) (f.events ++ g.events)
+    (grows_on o.link.transcript p.link.transcript q.link.transcript f.during g.during f.grows g.grows)
+    (leads_on f.leads g.leads) (λ few. g.few (f.few few)) (search (rules, kept_on, after_both))
+    (none_failed_on o p q f.sound g.sound)
 
 -- a dialog was run whole: the call has come to its result
 
@@ -99,15 +103,7 @@ ran_from f = search rules
 abbrev came_of : {A R : Type 0} {a : Dialog OutputEvent A} {m n : Progress} {o p : Devices} {result : A}
     {b c : Dialog OutputEvent R} (f : RanWhole a m o p result n) → TranscriptLeads b m f.during f.events c n
     → Came (point b m o) (point c n p)
-came_of f leads = record {
-  during = f.during;
-  events = f.events;
-  grows = f.grows;
-  leads = leads;
-  few = f.few;
-  kept = f.kept;
-  sound = f.sound;
-}
+came_of f leads = came f.during f.events f.grows leads f.few f.kept f.sound
 
 pub ran_on : {R : Type 0} {x y : Point R} {q : Devices} {result : R} {n : Progress} → Came x y
     → RanWhole y.left y.progress_at y.devices q result n → RanWhole x.left x.progress_at x.devices q result n
@@ -199,9 +195,7 @@ module _ {R : Type 0} {dialog : Dialog OutputEvent R} {m : Progress} {o p : Devi
         → (cause ≡ AllocationFailed → L m during shown) → BrokeOff dialog m o p terms L
     broke_silent during shown cause quiet some grows placed all_sent in_turn listens at_point =
         broke_off during shown cause some.0 grows placed all_sent in_turn listens
-        (subst (λ emitted. StopsAfterOutput terms o p emitted cause some.0) (sym quiet) some.1)
-        (subst (λ emitted. ChangesRecord (λ r. after_err some.0 (after_events emitted r)) o.desk p.desk) (sym quiet)
-        some.2) at_point
+        (rw quiet some.1) (rw quiet some.2) at_point
 
 pub broke_on : {R : Type 0} {x y : Point R} {q : Devices} {some all : Terms} {L M : RunAllocationPoints}
     (came : Came x y) → StopsWhole some all (outputs came.events) x.devices y.devices q
@@ -232,8 +226,7 @@ pub broke_quietly : {R : Type 0} {x y : Point R} {q : Devices} {terms : Terms} {
     (came : Came x y) → outputs came.events ≡ [] → BrokeOff y.left y.progress_at y.devices q terms Never
     → BrokeOff x.left x.progress_at x.devices q terms L
 broke_quietly {x = x} {y = y} {q = q} {terms = terms} came quiet broke =
-    broke_on came (search rules)
-    (λ during shown never. absurd never) broke
+    broke_on came (search rules) (λ during shown never. absurd never) broke
 
 -- in an operation of the host; its report follows it
 
@@ -266,15 +259,9 @@ module _ {A R : Type 0} (go_on : A → Dialog OutputEvent R) where
   unfoldable pub came_lifted : {dialog : Dialog ⊥ A} {m n : Progress} {o p : LinkState} {result : A} (d : DeskState)
       → RunsOverLink dialog m o p result n → length n.unread ≤ 281
       → Came (point (lifted dialog >>= go_on) m (devices o d)) (point (go_on result) n (devices p d))
-  came_lifted d f few = record {
-    during = f.during;
-    events = raised f.events;
-    grows = f.grows;
-    leads = leads_bind go_on (leads_from (plays_lifted f.plays));
-    few = λ _. few;
-    kept = subst (λ ss. ChangesRecord (after_events ss) d d) (sym (outputs_raised f.events)) (kept_none d.kept);
-    sound = (f.sound, same_here d);
-  }
+  came_lifted d f few =
+      came f.during (raised f.events) f.grows (leads_bind go_on (leads_from (plays_lifted f.plays))) (λ _. few)
+      (rw (outputs_raised f.events) (kept_none d.kept)) (f.sound, same_here d)
 
   unfoldable pub came_part : {a : Dialog OutputEvent A} {m n : Progress} {o p : Devices} {result : A}
       → RanWhole a m o p result n → Came (point (a >>= go_on) m o) (point (go_on result) n p)
@@ -327,12 +314,8 @@ StopsReport terms o d e outputs By = (mid : DeskState) (cause : Cause) (prefix :
 module _ {R : Type 0} (xs : List OutputEvent) (dialog : Dialog OutputEvent R) (m : Progress) (o : LinkState) where
   pub came_emitted : {d e : DeskState} → ChangesRecord (after_events xs) d e × HasSameCounts d e
       → Came (point (emits xs dialog) m (devices o d)) (point dialog m (devices o e))
-  came_emitted {d = d} {e = e} emitted = search (
-    rules,
-    grows_none o.transcript,
-    leads_output xs dialog m,
-    outputs_emitted xs,
-  )
+  came_emitted {d = d} {e = e} emitted =
+      search (rules, grows_none o.transcript, leads_output xs dialog m, outputs_emitted xs)
 
   pub broke_output : {By : DeskState → DeskState → Cause → List ℕ → Type 0} {terms : Terms} {L : RunAllocationPoints}
       {d e : DeskState} → StopsReport terms o d e xs By → OutputsPrefixAndReports By d e xs
@@ -344,15 +327,12 @@ module _ {R : Type 0} (xs : List OutputEvent) (dialog : Dialog OutputEvent R) (m
       (subst (Placed f.cause [] (map Emitted shown)) (sym (emits_events xs dialog m.next m.unread))
       (placed_more (played_over dialog m []).events (λ listens. absurd (search rules))
       (search (rules, map_append)))) (no_bytes shown) tt (search rules)
-      (subst (λ emitted. StopsAfterOutput terms (devices o d) (devices o e) emitted f.cause f.notice)
-      (sym (outputs_emitted shown)) (why f.between f.cause f.prefix f.notice f.stops))
+      (rw (outputs_emitted shown) (why f.between f.cause f.prefix f.notice f.stops))
       (search (rules, kept_on, outputs_emitted)) (λ is. absurd (subst IsOfDesk is prefix.by_desk))
 
 -- at once, for a failed allocation
 pub broke_lacking : {R : Type 0} {terms : Terms} {L : RunAllocationPoints} {o p : Devices}
     (dialog : Dialog OutputEvent R) (m : Progress)
     → p.link ≡ o.link → ReportedBy terms AllocationFailed o p → L m [] [] → BrokeOff dialog m o p terms L
-broke_lacking {o = o} dialog m same some lack =
-    broke_silent [] [] AllocationFailed refl some
-    (subst (λ (v : LinkState). Grows o.link.transcript [] v.transcript) (sym same) (grows_none o.link.transcript))
-    (search rules) refl tt tt (λ is. lack)
+broke_lacking {o = o} dialog m same some lack = broke_silent [] [] AllocationFailed refl some
+    (rw same (grows_none o.link.transcript)) (search rules) refl tt tt (λ is. lack)

@@ -10,7 +10,7 @@ use Rattle.stk_host.proofs.Transcripts.Laws.{none_append, none_behind}
 use Rattle.avr_desk.specs.OutputEvents.{OutputEvent, PrintsLine, CreatesFile, WritesFile, WritesOutput, after_events}
 use Rattle.avr_desk.proofs.Stages.Outputs.{kept_append}
 use Rattle.avr_session.specs.Runs.{Cause, SendingFailed, ReceivingFailed, FileFailed, PrintingFailed, NotWritten, StopsInOutput, StopsAt}
-use Rattle.avr_session.specs.Reporting.{OutputsPrefix}
+use Rattle.avr_session.specs.Reporting.{IsOfDesk, OutputsPrefix}
 
 -- ---- events
 
@@ -19,8 +19,7 @@ pub place_behind : (cause : Cause) (first during : Transcript) (before whole beg
     → NoneTaken first → StopsAt cause during whole begun later
     → StopsAt cause (first ++ during) (before ++ whole) begun later
 place_behind SendingFailed first during before whole begun later none x = search (rules, none_behind)
-place_behind ReceivingFailed first during before whole begun later none x =
-    (none_append first during none x.0, x.1, x.2)
+place_behind ReceivingFailed first during before whole begun later none x = search (rules, none_append)
 place_behind (FileFailed file NotWritten) first during before whole begun later none (inl x) =
     let again = ap (λ es. before ++ es) x.0.1 ∙ sym (append_assoc before x.0.0 (Emitted (CreatesFile file) ∷ [])) in
     inl ((before ++ x.0.0, again), x.1)
@@ -70,43 +69,29 @@ part_due : (event : Bytes → OutputEvent) (n : ℕ) (bytes : Bytes)
     → StopsInOutput event (Emitted (event (take n bytes)) ∷ []) (Emitted (event bytes) ∷ [])
 part_due event n bytes = search (rules, take-append-drop n bytes)
 
+-- the prefix of some output events up to the one that was begun
+pub prefix_from : {cause : Cause} {old new : DeskState} (whole begun later : List OutputEvent)
+    → StopsAt cause [] (map Emitted whole) (map Emitted begun) (map Emitted later) → IsOfDesk cause
+    → ChangesRecord (after_events (whole ++ begun)) old new → OutputsPrefix cause old new (whole ++ later)
+prefix_from whole begun later place by_desk kept = search rules
+
 -- a line of which a prefix was printed
 pub line_part : (old new : DeskState) (bytes : Bytes) → SendsPart Messages old new bytes
     → OutputsPrefix PrintingFailed old new (PrintsLine bytes ∷ [])
-line_part old new bytes part = record {
-  whole = [];
-  begun = PrintsLine (take part.0 bytes) ∷ [];
-  later = PrintsLine bytes ∷ [];
-  outputs_are = refl;
-  place = part_due PrintsLine part.0 bytes;
-  by_desk = tt;
-  kept = part.2;
-}
+line_part old new bytes part =
+    prefix_from [] (PrintsLine (take part.0 bytes) ∷ []) _ (part_due PrintsLine part.0 bytes) tt part.2
 
 -- a file that was created, and of whose bytes a prefix was written
 pub file_part : (old mid new : DeskState) (file bytes : Bytes) → ChangesRecord (after_events (CreatesFile file ∷ []))
     old mid → SendsPart File mid new bytes
     → OutputsPrefix (FileFailed file NotWritten) old new (CreatesFile file ∷ WritesFile bytes ∷ [])
-file_part old mid new file bytes created part = record {
-  whole = CreatesFile file ∷ [];
-  begun = WritesFile (take part.0 bytes) ∷ [];
-  later = WritesFile bytes ∷ [];
-  outputs_are = refl;
-  place = inl (([], refl), part_due WritesFile part.0 bytes);
-  by_desk = tt;
-  kept = kept_append (CreatesFile file ∷ []) (WritesFile (take part.0 bytes) ∷ []) old.kept mid.kept new.kept created
-      part.2;
-}
+file_part old mid new file bytes created part =
+    let begun : List OutputEvent = WritesFile (take part.0 bytes) ∷ [] in
+    prefix_from (CreatesFile file ∷ []) begun _ (inl (([], refl), part_due WritesFile part.0 bytes)) tt
+    (kept_append (CreatesFile file ∷ []) begun old.kept mid.kept new.kept created part.2)
 
 -- bytes of the output of which a prefix was written
 pub output_part : (old new : DeskState) (file bytes : Bytes) → file ≡ codes "-" → SendsPart Output old new bytes
     → OutputsPrefix (FileFailed file NotWritten) old new (WritesOutput bytes ∷ [])
-output_part old new file bytes named part = record {
-  whole = [];
-  begun = WritesOutput (take part.0 bytes) ∷ [];
-  later = WritesOutput bytes ∷ [];
-  outputs_are = refl;
-  place = inr (named, part_due WritesOutput part.0 bytes);
-  by_desk = tt;
-  kept = part.2;
-}
+output_part old new file bytes named part = prefix_from [] (WritesOutput (take part.0 bytes) ∷ []) _
+    (inr (named, part_due WritesOutput part.0 bytes)) tt part.2
