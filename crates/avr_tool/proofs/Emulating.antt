@@ -1,5 +1,5 @@
 -- A run over the emulated programmer, from its stages.
-use Rattle.std.proofs.Common.{◌≡◌, ◌∙◌, ap, sym, ℕ, true, List, [], All, Ok, Err, length, subst, rules}
+use Rattle.std.proofs.Common.{◌≡◌, ℕ, true, List, [], All, Ok, Err, length, subst, rules}
 use Rattle.std.specs.Prelude.{◌<◌, get_or}
 use Rattle.std.specs.Str.{bytes_eq}
 use Rattle.std.proofs.lemmas.List.Folds.{list_any_at}
@@ -26,7 +26,7 @@ use Rattle.stk_emu.specs.Wired.{WiredState, ComesOf, wired_link}
 use Rattle.avr_session.specs.Run.{RunsSession}
 use Rattle.avr_session.specs.Runs.{devices}
 use Rattle.avr_tool.specs.OverFaultyLink.{SessionOverWire}
-use Rattle.avr_tool.specs.Emulated.{ChecksRead, ChecksReads, IsSavedIfSent, RefusesRead, TakesChip, any_reads_into, new_wire, reads_into, RunsOverEmulator}
+use Rattle.avr_tool.specs.Emulated.{ChecksRead, ChecksReads, IsSavedIfSent, TakesChip, new_wire, RunsOverEmulator}
 
 same_name : (one other : Bytes) → one ≡ other → bytes_eq other one ≡ true
 same_name one other same = search (rules, bytes_eq-Decides)
@@ -37,9 +37,7 @@ pub read_refused : (tasks : List Task) (i : ℕ) (task : Task) (memory : Mem) (f
     → task ≡ Read memory format file → into ≡ file → mid ≡ old → status ≡ told → ChecksRead into mid new (Err told)
     → ChecksReads tasks old new (Err status)
 read_refused tasks i task memory format into file old mid new status told below is reads same here one checks =
-    let among : any_reads_into into tasks ≡ true =
-    list_any_at (reads_into into) tasks i task below (ap (reads_into into) (sym is ∙ reads) ∙ same_name into file same) in
-    (one ∙ checks.0, into, among, subst (λ (d : DeskState). RefusesRead into d new) here checks.1)
+    search (rules, list_any_at, same_name)
 
 module _ (settings : Settings) (file : Bytes) (plan : Plan) (chip : Chip) (w v : WiredState) (held : w.held ≡ [])
     (begun : w.wire ≡ fresh_wire (fresh_programmer chip) []) (waits : w.waits ≡ []) (silent : w.transcript ≡ [])

@@ -1,5 +1,5 @@
 -- Replies to bytes after others.
-use Rattle.std.proofs.Common.{◌≡◌, ℕ, ◌<◌, ◌≤◌, List, [], ◌∷◌, ◌++◌, length, sym, ap, ◌∙◌, append_assoc, arith, rules}
+use Rattle.std.proofs.Common.{◌≡◌, ℕ, ◌<◌, ◌≤◌, List, [], ◌∷◌, ◌++◌, length, sym, ap, ◌∙◌, append_assoc, rules}
 use Rattle.std.specs.Prelude.{filter}
 use Rattle.std.proofs.lemmas.List.{append-nil}
 use Rattle.std.proofs.lemmas.List.Elements.{filter-append}
@@ -48,8 +48,7 @@ breaks_found p text used unused part unsent transcript now [] few fs replied fed
 breaks_found p text used unused part unsent transcript now (frame ∷ []) few fs replied fed some is not_whole =
     search (rules, append-nil)
 breaks_found p text used unused part unsent transcript now (frame ∷ other ∷ more) few fs replied fed some is
-    not_whole =
-    absurd (omega arith)
+    not_whole = search rules
 
 pub breaks_here : (p : Programmer) (text used unused out : List ℕ) (a b : Transcript) (old now : EmulatorState)
     → RepliesToFrame old used now out → WasFedText p text old → (s : SendsOnlyPart out a b)

@@ -1,5 +1,5 @@
 -- The last use of a file is the open file again: what a call of the inner desk does to the record that is shown.
-use Rattle.std.proofs.Common.{◌≡◌, ◌≤◌, ℕ, Bool, true, List, [], ◌∷◌, ◌++◌, append-nil, take, length, Result, Ok, Err, OnOk, ◌&&◌, ◌==◌, not, false, None, ap, refl, sym, arith}
+use Rattle.std.proofs.Common.{◌≡◌, ◌≤◌, ℕ, Bool, true, List, [], ◌∷◌, ◌++◌, append-nil, take, length, Result, Ok, Err, OnOk, ◌&&◌, not, false, None, ap, refl, sym, arith}
 use Rattle.std.specs.Prelude.{⊤}
 use Rattle.avr_desk.specs.Record.{Record, DeskState, Bytes, ChangesRecord, all_uses, use_of, noted, written_on, is_to_read, is_to_write, after_open, after_create, after_read, after_write, with_replaced, with_tried}
 use Rattle.avr_desk.specs.declared.desk.DeskFault.{DeskFault}
@@ -35,8 +35,7 @@ rejoined (first ∷ next ∷ uses) = ap (λ x. first ∷ x) (rejoined (next ∷ 
 -- what is shown has all uses, whether a file is open or not
 pub all_shown : (is_open : Bool) (n : Noted) (uses : List FileUse) (r : Record)
     → all_uses (record_shown is_open uses n r) ≡ uses
-all_shown true n uses r = rejoined uses
-all_shown false n uses r = append-nil uses
+all_shown is_open n uses r = grind (arith, rejoined, append-nil)
 
 -- ---- opening and creating a file
 
@@ -73,44 +72,31 @@ created_shown name is_open n old new is = rw (
 noted_last : (uses : List FileUse) (o : Open) (bytes : Bytes) (ended : Bool) → is_to_read o ≡ true
     → (all_but_open (uses ++ use_of (noted bytes ended o)) ≡ all_but_open (uses ++ use_of o))
     × (last_open (uses ++ use_of (noted bytes ended o)) ≡ noted bytes ended (last_open (uses ++ use_of o)))
-noted_last uses Closed bytes ended reads = absurd (cc)
-noted_last uses (ToWrite x) bytes ended reads = absurd (cc)
-noted_last uses (ToRead x) bytes ended reads =
-    (rw (before_last uses _, before_last uses _) refl, rw (last_of uses _, last_of uses _) refl)
+noted_last uses o bytes ended reads = grind (arith, before_last, last_of)
 
 pub read_shown : (buf : Bytes) (done : Result ℕ DeskFault) (n : Noted) (old new : Record)
     → new ≡ after_read buf done old → OnOk done (is_to_read old.current ≡ true)
     → record_shown true (all_uses new) n new ≡ after_read buf done (record_shown true (all_uses old) n old)
-read_shown buf (Err fault) n old new is reads = rw is refl
-read_shown buf (Ok count) n old new is reads =
-    let last = noted_last old.uses old.current (take count buf) (count == 0 && not (length buf == 0)) reads in rw (is, last.0, last.1) refl
+read_shown buf done n old new is reads = grind (arith, noted_last)
 
 pub to_read_shown : (uses : List FileUse) (o : Open) → is_to_read o ≡ true
     → is_to_read (last_open (uses ++ use_of o)) ≡ true
-to_read_shown uses Closed reads = absurd (cc)
-to_read_shown uses (ToWrite x) reads = absurd (cc)
-to_read_shown uses (ToRead x) reads = rw (last_of uses _) refl
+to_read_shown uses o reads = grind (arith, last_of)
 
 -- ---- writing
 
 written_last : (uses : List FileUse) (o : Open) (bytes : Bytes) → is_to_write o ≡ true
     → (all_but_open (uses ++ use_of (written_on bytes o)) ≡ all_but_open (uses ++ use_of o))
     × (last_open (uses ++ use_of (written_on bytes o)) ≡ written_on bytes (last_open (uses ++ use_of o)))
-written_last uses Closed bytes writes = absurd (cc)
-written_last uses (ToRead x) bytes writes = absurd (cc)
-written_last uses (ToWrite x) bytes writes =
-    (rw (before_last uses _, before_last uses _) refl, rw (last_of uses _, last_of uses _) refl)
+written_last uses o bytes writes = grind (arith, before_last, last_of)
 
 pub written_shown : (bytes : Bytes) (n : Noted) (old new : Record) → new ≡ after_write bytes old
     → is_to_write old.current ≡ true
     → record_shown true (all_uses new) n new ≡ after_write bytes (record_shown true (all_uses old) n old)
-written_shown bytes n old new is writes =
-    let last = written_last old.uses old.current bytes writes in rw (is, last.0, last.1) refl
+written_shown bytes n old new is writes = grind (arith, written_last)
 
 written_none : (o : Open) → written_on [] o ≡ o
-written_none Closed = refl
-written_none (ToRead x) = refl
-written_none (ToWrite x) = ap (λ (b : Bytes). ToWrite (record x { bytes = b })) (append-nil x.bytes)
+written_none o = grind (arith, append-nil)
 
 -- a failed write may have written a prefix, or no byte if no file is open to write
 part_last : (uses : List FileUse) (o : Open) (bytes : Bytes) (k : ℕ) → k ≤ length bytes → (m : ℕ) × (m ≤ length bytes)
@@ -131,9 +117,7 @@ part_shown bytes n k old new within is =
 
 pub to_write_shown : (uses : List FileUse) (o : Open) → is_to_write o ≡ true
     → is_to_write (last_open (uses ++ use_of o)) ≡ true
-to_write_shown uses Closed writes = absurd (cc)
-to_write_shown uses (ToRead x) writes = absurd (cc)
-to_write_shown uses (ToWrite x) writes = rw (last_of uses _) refl
+to_write_shown uses o writes = grind (arith, last_of)
 
 -- ---- replacing a file
 
@@ -155,8 +139,7 @@ pub opened_kept : (name : Bytes) (opened : Result ⊤ DeskFault) (is_open is_bro
     → is_broken ≡ false → new ≡ after_open name opened old
     → record_shown (open_after is_open opened) (uses_shown is_broken new) n new
     ≡ after_open name opened (record_shown is_open (uses_shown is_broken old) n old)
-opened_kept name opened is_open is_broken n old new sound is =
-    rw sound (opened_shown name opened is_open n old new is)
+opened_kept name opened is_open is_broken n old new sound is = grind (arith, opened_shown)
 
 pub created_kept : (name : Bytes) (is_open is_broken : Bool) (n : Noted) (old new : Record)
     → is_broken ≡ false → new ≡ after_create name (Ok tt) old
@@ -168,25 +151,17 @@ pub read_kept : (buf : Bytes) (done : Result ℕ DeskFault) (is_open is_broken :
     → (is_open && not is_broken) ≡ true → new ≡ after_read buf done old → OnOk done (is_to_read old.current ≡ true)
     → record_shown is_open (uses_shown is_broken new) n new
     ≡ after_read buf done (record_shown is_open (uses_shown is_broken old) n old)
-read_kept buf done true false n old new has is reads = read_shown buf done n old new is reads
-read_kept buf done true true n old new has is reads = absurd (cc)
-read_kept buf done false is_broken n old new has is reads = absurd (cc)
+read_kept buf done is_open is_broken n old new has is reads = grind (arith, read_shown)
 
 pub reads_kept : (done : Result ℕ DeskFault) (is_open is_broken : Bool) (n : Noted) (old : Record)
     → (is_open && not is_broken) ≡ true → OnOk done (is_to_read old.current ≡ true)
     → OnOk done (is_to_read (record_shown is_open (uses_shown is_broken old) n old).current ≡ true)
-reads_kept (Err fault) is_open is_broken n old has reads = tt
-reads_kept (Ok count) true false n old has reads = to_read_shown old.uses old.current reads
-reads_kept (Ok count) true true n old has reads = absurd (cc)
-reads_kept (Ok count) false is_broken n old has reads = absurd (cc)
+reads_kept done is_open is_broken n old has reads = grind (arith, to_read_shown)
 
 pub writes_kept : (done : Result ℕ DeskFault) (is_open is_broken : Bool) (n : Noted) (old : Record)
     → (is_open && not is_broken) ≡ true → OnOk done (is_to_write old.current ≡ true)
     → OnOk done (is_to_write (record_shown is_open (uses_shown is_broken old) n old).current ≡ true)
-writes_kept (Err fault) is_open is_broken n old has writes = tt
-writes_kept (Ok count) true false n old has writes = to_write_shown old.uses old.current writes
-writes_kept (Ok count) true true n old has writes = absurd (cc)
-writes_kept (Ok count) false is_broken n old has writes = absurd (cc)
+writes_kept done is_open is_broken n old has writes = grind (arith, to_write_shown)
 
 sends_shown : (bytes : Bytes) (done : Result ℕ DeskFault) (n : Noted) (old new a b : DeskState)
     → SendsTaken File bytes old new done → OnOk done (is_to_write old.kept.current ≡ true)
@@ -204,8 +179,7 @@ sends_at : (bytes : Bytes) (done : Result ℕ DeskFault) (is_open is_broken : Bo
     → b.kept ≡ record_shown is_open (uses_shown is_broken new.kept) n new.kept → SendsTaken File bytes a b done
 sends_at bytes done true false n old new a b has sends writes at_a at_b =
     sends_shown bytes done n old new a b sends writes at_a at_b
-sends_at bytes done true true n old new a b has sends writes at_a at_b = absurd (cc)
-sends_at bytes done false is_broken n old new a b has sends writes at_a at_b = absurd (cc)
+sends_at bytes done is_open is_broken n old new a b has sends writes at_a at_b = absurd (cc)
 
 pub sends_kept : {D : Type 0} (view : D → DeskState) (bytes : Bytes) (done : Result ℕ DeskFault) (u : UnlockedState D)
     (inner : D) → (u.is_open && not u.is_broken) ≡ true → SendsTaken File bytes (view u.inner) (view inner) done
@@ -228,9 +202,7 @@ pub tried_kept : (name key bytes : Bytes) (is_open is_broken : Bool) (n : Noted)
     → record_shown is_open (uses_shown true new.kept)
     (record n { tried = n.tried ++ record { name = key; bytes = bytes } ∷ [] }) new.kept
     ≡ with_tried name bytes (record_shown is_open (uses_shown is_broken old.kept) n old.kept)
-tried_kept name key bytes is_open is_broken n old mid new same sound created part =
-    rw (same, sound) (tried_shown name bytes (take part.0 bytes) is_open n _ old.kept new.kept
-    (rw (part.2, created) refl) refl)
+tried_kept name key bytes is_open is_broken n old mid new same sound created part = grind (arith, tried_shown)
 
 pub writes_whole : (name bytes : Bytes) (old mid new : DeskState) → ChangesRecord (after_create name (Ok tt)) old mid
     → ChangesRecord (after_write bytes) mid new → ChangesRecord (with_written name bytes) old new

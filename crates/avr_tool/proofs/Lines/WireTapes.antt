@@ -55,11 +55,7 @@ module _ {P : Type 0} (m : Device P) (replies_fit : RepliesFitFrames m) where
   pub over_wire : {E R : Type 0} (d : Dialog E R) (n : ℕ) (w : Wire P) (sent more : List (List ℕ)) → SendsValidBodies d
       → NoneHasNumber n w.late → AreLawful w.fates → frames_in (played d n (tape_of m sent w)).events ≡ sent ++ more
       → GoesOver m d n w sent w.programmer (exchanges_of_fates w.fates)
-  over_wire (Done r) n w [] more asks clear lawful e = record {
-    programmer = refl;
-    play = refl;
-    is_authentic = λ j le. tt;
-  }
+  over_wire (Done r) n w [] more asks clear lawful e = search rules
   over_wire (Done r) n w (f ∷ sent) more asks clear lawful e = absurd (cons_none f (sent ++ more) e)
   over_wire (Emit s d) n w sent more asks clear lawful e = search (rules, over_wire d n w sent more asks clear lawful e)
   over_wire (Ask bytes go_on) n w [] more asks clear lawful e =

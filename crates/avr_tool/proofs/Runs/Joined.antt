@@ -1,9 +1,8 @@
 -- Planning and session as one run.
-use Rattle.std.proofs.Common.{◌≡◌, ℕ, ◌⊎◌, inl, inr, List, [], ◌∷◌, ◌++◌, map, Bool, true, false, refl, sym, ap, ◌∙◌, subst, arith, append_assoc, append-nil, rules}
+use Rattle.std.proofs.Common.{◌≡◌, ℕ, ◌⊎◌, inl, inr, List, [], ◌∷◌, ◌++◌, map, Bool, refl, sym, ap, ◌∙◌, subst, arith, append_assoc, append-nil, rules}
 use Rattle.avr_plan.specs.declared.settings.Settings.{Settings}
 use Rattle.avr_plan.specs.declared.update.Update.{Update}
 use Rattle.avr_desk.specs.Fault.{CountsNeverFall}
-use Rattle.avr_desk.specs.Lines.{memory_line, not_opened_line, not_read_line}
 use Rattle.avr_desk.specs.Record.{DeskState, Record, Bytes, after_err}
 use Rattle.avr_desk.specs.OutputEvents.{OutputEvent, PrintsLine, CreatesFile, IsPartOfEvent, IsBytePrefixOf, ReportsLineAs, after_events}
 use Rattle.avr_desk.proofs.Stages.Outputs.{kept_append, after_append}
@@ -13,14 +12,14 @@ use Rattle.avr_plan.specs.Plan.{Plan}
 use Rattle.avr_plan.specs.Planning.{planned}
 use Rattle.avr_desk.specs.declared.record.Opening.{Opening}
 use Rattle.stk_host.specs.Play.{IsPrefixOfEvents}
-use Rattle.avr_desk.specs.StageRuns.{AllocatesThere, StageCompleted, StageRefused, RestOfStage, BreakCause, LineNotPrinted, NotOpened, NotRead, NoMemory, NoMemoryForFile, ReportsBreakAs, events_of_break}
-use Rattle.avr_desk.specs.Stage.{Produced, Refused, NotReadToEnd, StageOutcome, StageResult, events_with_refusal}
+use Rattle.avr_desk.specs.StageRuns.{AllocatesThere, StageCompleted, StageRefused, RestOfStage, BreakCause, LineNotPrinted, NotOpened, NotRead, NoMemory, ReportsBreakAs, events_of_break}
+use Rattle.avr_desk.specs.Stage.{Produced, StageOutcome, StageResult, events_with_refusal}
 use Rattle.stk_host.specs.Dialog.{Event, Played, Emitted, played, prepend_events, bytes_sent, outputs}
 use Rattle.stk_host.specs.Transcript.{LinkState, Transcript, heard, Grows}
 use Rattle.stk_host.specs.Tape.{Tape}
 use Rattle.stk_host.proofs.Transcripts.Laws.{grows_none}
 use Rattle.avr_session.specs.Run.{RunsSession, RunsSettings, StopsSession}
-use Rattle.avr_session.specs.Runs.{Devices, devices, Cause, StopsAt, NotCreated, NotWritten, SendingFailed, ReceivingFailed, FileFailed, PrintingFailed, AllocationFailed, ReportsCause, cause_line}
+use Rattle.avr_session.specs.Runs.{Devices, devices, Cause, StopsAt, NotCreated, NotWritten, SendingFailed, ReceivingFailed, FileFailed, AllocationFailed, ReportsCause, cause_line}
 use Rattle.avr_session.specs.Session.{session}
 use Rattle.avr_session.specs.Stopping.{RanToStatus}
 use Rattle.avr_tool.specs.Headline.{run, run_after_planning, FitsNext, IsInTurn, IsRun, IsPrefixOfRun, Reason, StopsAtAllocation, StopsThere, InSession, InPlanning, stop_line, opened_at, StoppedInSession, StoppedPlanning, IsStopped}
@@ -85,8 +84,7 @@ refused_whole settings x y same (line, went) = record {
   in_turn = λ later. subst (λ stage_outcome. IsInTurn stage_outcome []) (sym (outcomes_equal (went.comes later))) refl;
   all_sent = emitted_bytes went.output_events (Emitted (PrintsLine line) ∷ []);
   grows = subst (λ (l : LinkState). Grows x.link.transcript [] l.transcript) (sym same) (grows_none x.link.transcript);
-  kept = went.kept ∙ ap (λ output_events. after_events output_events x.desk.kept)
-      (sym (emitted_outputs went.output_events (Emitted (PrintsLine line) ∷ [])));
+  kept = search (rules, emitted_outputs);
   few = omega arith;
   sound = (ap (λ (l : LinkState). l.failures) same, went.sound);
 }
@@ -116,10 +114,7 @@ pub is_run : (settings : Settings) (x : Devices) (between : DeskState) (y : Devi
     → RunsSettings settings x between y status → IsRun settings x y status ⊎ IsStopped settings x y status
 is_run settings x between y status (inl runs) = elim runs.runs [
   | inl whole ↦ inl (ran_whole settings runs.plan x y between status runs.made whole)
-  | inr broke ↦ inr (
-    inl (record { plan = runs.plan; between = between; made = runs.made; then_is = broke.0 }),
-    broke.1,
-  )
+  | inr broke ↦ search rules
 ]
 is_run settings x between y status (inr (lacks, same)) = search (rules, refused_whole)
 
@@ -127,38 +122,25 @@ is_run settings x between y status (inr (lacks, same)) = search (rules, refused_
 shown_kept : (output_events : List OutputEvent) (shown : List (Event OutputEvent)) (notice : Bytes) (r s t : Record)
     → s ≡ after_events output_events r → t ≡ after_err notice (after_events (outputs shown) s)
     → t ≡ after_err notice (after_events (outputs (map Emitted output_events ++ shown) ++ []) r)
-shown_kept output_events shown notice r s t first then =
-    then ∙ ap (λ k. after_err notice (after_events (outputs shown) k)) first
-    ∙ ap (after_err notice) (sym (after_append output_events (outputs shown) r))
-    ∙ ap (λ done. after_err notice (after_events done r))
-    (sym (append-nil (outputs (map Emitted output_events ++ shown)) ∙ emitted_outputs output_events shown))
+shown_kept output_events shown notice r s t first then = search (rules, after_append, append-nil, emitted_outputs)
 
 -- what was reported is a part of the reason's line
 line_part : (line notice : Bytes) (x y : DeskState) → ReportsLineAs line notice x y → IsBytePrefixOf notice line
-line_part line notice x y (inl whole) = ([], append-nil notice ∙ whole.0)
-line_part line notice x y (inr part) = part.0
+line_part line notice x y is_reported = search (rules, append-nil)
 
 none_part : (line notice : Bytes) → notice ≡ [] → IsBytePrefixOf notice line
 none_part line notice none = (line, ap (λ t. t ++ line) none)
 
 cause_part : (has_reported : Bool) (cause : Cause) (notice : Bytes) (x y : DeskState)
     → ReportsCause has_reported cause notice x y → IsBytePrefixOf notice (cause_line cause)
-cause_part false cause notice x y is_reported = line_part (cause_line cause) notice x y is_reported
-cause_part true SendingFailed notice x y none = none_part (cause_line SendingFailed) notice none
-cause_part true ReceivingFailed notice x y none = none_part (cause_line ReceivingFailed) notice none
-cause_part true PrintingFailed notice x y none = none_part (cause_line PrintingFailed) notice none
-cause_part true (FileFailed file trouble) notice x y is_reported = absurd is_reported
-cause_part true AllocationFailed notice x y is_reported = absurd is_reported
+cause_part has_reported cause notice x y is_reported = search (rules, line_part, none_part)
 
 break_part : (break : BreakCause) (notice : Bytes) (x y : DeskState)
     → ReportsBreakAs break notice x y → IsBytePrefixOf notice (stop_line (InPlanning break))
 break_part (LineNotPrinted line) notice x y is_reported = is_reported.0
-break_part (NotOpened name) notice x y is_reported =
-    line_part (not_opened_line name) notice is_reported.between y is_reported.is_reported
-break_part (NotRead name bytes) notice x y is_reported =
-    line_part (not_read_line name) notice is_reported.between y is_reported.is_reported
-break_part NoMemory notice x y is_reported = line_part memory_line notice x y is_reported
-break_part (NoMemoryForFile reading) notice x y is_reported = line_part memory_line notice x y is_reported
+break_part (NotOpened name) notice x y is_reported = search (rules, line_part)
+break_part (NotRead name bytes) notice x y is_reported = search (rules, line_part)
+break_part break notice x y is_reported = search (rules, line_part)
 
 emitted_append : (whole later : List OutputEvent) (events : List (Event OutputEvent))
     → map Emitted (whole ++ later) ++ events ≡ map Emitted whole ++ (map Emitted later ++ events)
@@ -182,19 +164,14 @@ same_place before whole begun later (FileFailed file NotWritten) during (inl pla
   place.1,
 )
 same_place before whole begun later (FileFailed file NotWritten) during (inr place) = inr place
-same_place before whole begun later PrintingFailed during place = place
-same_place before whole begun later AllocationFailed during place = place
+same_place before whole begun later cause during place = search rules
 
 -- in planning: the line of a refusal is an event of planning
 with_line : (tape : Tape) (later : List OutputEvent) (outcome : StageOutcome Plan)
     → (more : List (Event OutputEvent)) × (map Emitted later ++ (run_after_planning outcome tape).events
     ≡ map Emitted (events_with_refusal later outcome) ++ more)
 with_line tape later (Produced plan) = ((run_after_planning (Produced plan) tape).events, refl)
-with_line tape later (Refused line) = (
-  [],
-  sym (emitted_append later (PrintsLine line ∷ []) []),
-)
-with_line tape later NotReadToEnd = ([], refl)
+with_line tape later outcome = search (rules, emitted_append)
 
 module _ (settings : Settings) (x y : Devices) (stopped : StoppedPlanning settings x y) (openings : List Opening) where
   abbrev rest : RestOfStage (planned settings (stopped.broke.passed ++ openings)) stopped.broke.whole
@@ -226,9 +203,7 @@ module _ (settings : Settings) (x y : Devices) (stopped : StoppedPlanning settin
 
   taken_planned : AllocatesThere (AtAllocatingUpdate settings) stopped.broke.break stopped.broke.passed
       (outputs (map Emitted stopped.broke.whole))
-  taken_planned =
-      subst (AllocatesThere (AtAllocatingUpdate settings) stopped.broke.break stopped.broke.passed)
-      (sym (emitted_whole stopped.broke.whole)) stopped.broke.taken
+  taken_planned = search (rules, emitted_whole)
 
 module _ (settings : Settings) (x y : Devices) (stopped : StoppedInSession settings x y) (openings : List Opening) where
   abbrev planned_events : List (Event OutputEvent)
@@ -253,18 +228,6 @@ module _ (settings : Settings) (x y : Devices) (stopped : StoppedInSession setti
     part = in_session.part;
   }
 
-  at_allocation : stopped.then_is.cause ≡ AllocationFailed
-      → StopsAtAllocation settings (stopped.made.passed ++ openings) stopped.then_is.during
-      (planned_events ++ stopped.then_is.shown)
-  at_allocation failed =
-      let made = sym (stopped.made.comes openings) in (
-        stopped.plan,
-        stopped.then_is.shown,
-        sym (outcomes_equal made),
-        ap (λ (p : StageResult Plan). map Emitted p.output_events ++ stopped.then_is.shown) made,
-        stopped.then_is.at_point failed,
-      )
-
 stopped_prefix : (settings : Settings) (x y : Devices) → StoppedInSession settings x y → IsPrefixOfRun settings x y
 stopped_prefix settings x y stopped = record {
   openings = stopped.made.passed;
@@ -274,13 +237,8 @@ stopped_prefix settings x y stopped = record {
   notice = stopped.then_is.notice;
   reported_part = cause_part _ stopped.then_is.cause stopped.then_is.notice _ y.desk stopped.then_is.stops.is_reported;
   prefix = λ later. session_prefix settings x y stopped later;
-  place = λ later. (
-    same_place (map Emitted stopped.made.output_events) _ _ _ stopped.then_is.cause stopped.then_is.during
-        stopped.then_is.place,
-    at_allocation settings x y stopped later,
-  );
-  in_turn = λ later. subst (λ stage_outcome. IsInTurn stage_outcome stopped.then_is.during)
-      (sym (outcomes_equal (stopped.made.comes later))) stopped.then_is.breaks.in_turn;
+  place = λ later. search (rules, same_place);
+  in_turn = λ later. search (rules, outcomes_equal, stopped.made.comes);
   all_sent = emitted_bytes stopped.made.output_events stopped.then_is.shown ∙ stopped.then_is.breaks.all_sent;
   grows = stopped.then_is.grows;
   kept = shown_kept stopped.made.output_events stopped.then_is.shown stopped.then_is.notice x.desk.kept
@@ -289,21 +247,13 @@ stopped_prefix settings x y stopped = record {
 
 last_is : (break : BreakCause) (notice : Bytes) → events_of_break break notice ≡ opened_at (InPlanning break)
     ++ PrintsLine notice ∷ []
-last_is (NotRead name bytes) notice = refl
-last_is (NoMemoryForFile reading) notice = refl
-last_is (LineNotPrinted line) notice = refl
-last_is (NotOpened name) notice = refl
-last_is NoMemory notice = refl
+last_is break notice = search rules
 
 broken_kept : (whole : List OutputEvent) (break : BreakCause) (notice : Bytes) (r t : Record)
     → t ≡ after_events (whole ++ events_of_break break notice) r
     → t ≡ after_err notice (after_events (outputs (map Emitted whole ++ []) ++ opened_at (InPlanning break)) r)
 broken_kept whole break notice r t kept =
-    kept ∙ ap (λ last. after_events (whole ++ last) r) (last_is break notice)
-    ∙ ap (λ done. after_events done r) (sym (append_assoc whole (opened_at (InPlanning break)) (PrintsLine notice
-    ∷ []))) ∙ after_append (whole ++ opened_at (InPlanning break)) (PrintsLine notice ∷ []) r
-    ∙ ap (λ done. after_err notice (after_events (done ++ opened_at (InPlanning break)) r))
-    (sym (emitted_outputs whole [] ∙ append-nil whole))
+    search (rules, last_is, append_assoc, after_append, emitted_outputs, append-nil)
 
 planned_prefix : (settings : Settings) (x y : Devices) → StoppedPlanning settings x y → IsPrefixOfRun settings x y
 planned_prefix settings x y stopped = record {
@@ -317,8 +267,7 @@ planned_prefix settings x y stopped = record {
   place = λ later. (refl, place_planned settings x y stopped later, taken_planned settings x y stopped later);
   in_turn = λ later. search rules;
   all_sent = emitted_bytes stopped.broke.whole [];
-  grows = subst (λ (l : LinkState). Grows x.link.transcript [] l.transcript) (sym stopped.same)
-      (grows_none x.link.transcript);
+  grows = search (rules, grows_none);
   kept = broken_kept stopped.broke.whole stopped.broke.break stopped.broke.notice x.desk.kept y.desk.kept
       stopped.broke.kept;
 }
@@ -335,12 +284,7 @@ line_of other = []
 pub another_text : (settings : Settings) (x y : Devices) (p : IsPrefixOfRun settings x y) (text line : Bytes)
     (more : List (Event OutputEvent)) → p.reason ≡ InPlanning (LineNotPrinted text)
     → (p.prefix []).later ≡ Emitted (PrintsLine line) ∷ more → (text ≡ line → ⊥) → ⊥
-another_text settings x y p text line more because next other =
-    let there = subst (λ (reason : Reason). StopsThere settings p.openings reason p.during [] (p.prefix [])) because
-    (p.place []) in
-    let due = there.1.3.1 in
-    other (ap line_of
-    (sym (there.1.2 ∙ ap (λ (events : List OutputEvent). map Emitted events ++ there.1.1) due) ∙ next))
+another_text settings x y p text line more because next other = search rules
 
 -- without updates no allocation fails in planning, except for a file
 pub no_memory : (settings : Settings) (x y : Devices) (p : IsPrefixOfRun settings x y)

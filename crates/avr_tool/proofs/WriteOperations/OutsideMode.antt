@@ -96,8 +96,7 @@ record Idles (part : Part) (commands : List Command) : Type 0 where
 
 either_restarted : (part : Part) (m n : Memories) (p : Programmer) → Settled part m p ⊎ Settled part n p
     → Settled part m (device.reset p) ⊎ Settled part n (device.reset p)
-either_restarted part m n p (inl s) = inl (restart_is_settled part m p s)
-either_restarted part m n p (inr s) = inr (restart_is_settled part n p s)
+either_restarted part m n p settled = search (rules, restart_is_settled)
 
 -- after a restart the programmer is outside
 fails_restarted : (part : Part) (m n : Memories) (c : Command) → FailsOutside c → (p : Programmer)
@@ -190,11 +189,7 @@ module _ (part : Part) (sound : IsPart part) where
       let short = page_most part.flash_page (omega arith) sound.flash_fits in
       as_written _ commands e (two_idles part (flash_address part (number * part.flash_page)) (program_page bytes)
       (address_fits part sound (number * part.flash_page) (omega arith)) (page_fails bytes (omega arith)))
-  idles commands (ProgramsEepromRun address bytes is_run e) =
-      let inside = is_run.inside in
-      let most = sound.eeprom_most in
-      as_written _ commands e (two_idles part address (program_eeprom_block bytes) (omega arith)
-      (run_fails bytes (omega arith)))
+  idles commands (ProgramsEepromRun address bytes is_run e) = search (rules, as_written, two_idles, run_fails)
   idles commands (ProgramsFuse f v e) = as_written _ commands e (one_idles part (program_fuse f v) (fuse_fails f v))
   idles commands (ProgramsLock v e) = as_written _ commands e (one_idles part (program_lock v) (lock_fails v))
   idles commands (ReadsFlash start count is_block words e) =
@@ -203,16 +198,10 @@ module _ (part : Part) (sound : IsPart part) where
       let few = is_block.few in
       as_written _ commands e (two_idles part (flash_address part start) (read_flash_block count)
       (address_fits part sound start (omega arith)) (flash_read_fails count (omega arith)))
-  idles commands (ReadsEeprom start count is_block e) =
-      let inside = is_block.inside in
-      let most = sound.eeprom_most in
-      let few = is_block.few in
-      as_written _ commands e (two_idles part start (read_eeprom_block count) (omega arith)
-      (eeprom_read_fails count (omega arith)))
+  idles commands (ReadsEeprom start count is_block e) = search (rules, as_written, two_idles, eeprom_read_fails)
   idles commands (ReadsFuse f e) = as_written _ commands e (one_idles part (read_fuse f) (fuse_read_fails f))
   idles commands (ReadsLock e) = as_written _ commands e (one_idles part read_lock lock_read_fails)
-  idles commands (ReadsSignature place few e) =
-      as_written _ commands e (one_idles part (read_signature place) (signature_read_fails place))
+  idles commands (ReadsSignature place few e) = search (rules, as_written, one_idles, signature_read_fails)
   idles commands (ReadsCalibration e) = as_written _ commands e (one_idles part read_calibration calibration_read_fails)
 
   -- no attempt at a step goes on after a restart
@@ -263,7 +252,5 @@ module _ (part : Part) (sound : IsPart part) where
   pub all_fit : (steps : List (List Command)) (m : Memories) → AreSteps part steps
       → AllFit device (λ j. Settled part (memories_after_steps part j steps m)) steps
   all_fit [] m are = tt
-  all_fit (commands ∷ steps) m are = (
-    step_fits commands m are.0,
-    all_fit steps (memories_after_step part commands m) are.1,
-  )
+  all_fit (commands ∷ steps) m are =
+      search (rules, step_fits, all_fit steps (memories_after_step part commands m) are.1)

@@ -90,10 +90,8 @@ module _ (part : Part) (sound : IsPart part) (image : Image) where
             cond-false (holds_any image start page) (page_step part image start ∷ []) [] unused in
             record {
               new = r.new;
-              is = ap (λ ss. effects part (write_operations_of (ss ++ others)) (record m { flash = old })) steps_are ∙
-                  r.is;
-              written = gap_first and_with image start (start + page) old r.new (λ x. refl) (omega arith)
-                  (unused_gap page image start unused) (search rules);
+              is = search rules;
+              written = grind (arith, gap_first, unused_gap);
             }
       ]
 
@@ -131,8 +129,7 @@ module _ (part : Part) (sound : IsPart part) (image : Image) where
       let count : (0 + part.flash_size / part.flash_page) * part.flash_page ≡ part.flash_size =
       search rules in
       elim (cases_Bool (are_locked m)) [
-        | inl lock ↦ pages_locked 0 (part.flash_size / part.flash_page) m lock (omega (arith, count))
-            ∙ ap (λ f. record m { flash = f }) (sym (cond-true (are_locked m) m.flash (and_in image m.flash) lock))
+        | inl lock ↦ search (rules, pages_locked, cond-true)
         | inr free ↦
             let r : Flashed (each_from (page_steps part image) 0 (part.flash_size / part.flash_page)) m
             (0 * part.flash_page) m.flash = search (rules, pages_free) in

@@ -1,6 +1,6 @@
 -- The runs of a write do what the write does.
 use Rattle.std.proofs.lemmas.Grind.{common_steps}
-use Rattle.std.proofs.Common.{◌≡◌, ℕ, zero, suc, ◌+◌, ◌-◌, ◌*◌, ◌/◌, ◌%◌, ◌≤◌, ◌<◌, List, ◌∷◌, length, refl, sym, ap, ◌∙◌, arith, inl, inr, ◌⊎◌, true, false, Option, Some, None, is_some, unwrap_or, rules}
+use Rattle.std.proofs.Common.{◌≡◌, ℕ, zero, suc, ◌+◌, ◌-◌, ◌*◌, ◌/◌, ◌%◌, ◌≤◌, ◌<◌, List, ◌∷◌, length, refl, ap, ◌∙◌, arith, inl, inr, ◌⊎◌, true, false, Option, Some, None, is_some, unwrap_or, rules}
 use Rattle.std.proofs.lemmas.Bool.{cases_Bool, cond-true}
 use Rattle.avr_image.specs.Image.{byte_at, filled_bytes, run_end, first_from}
 use Rattle.avr_image.specs.Walk.{IsNextHeld}
@@ -93,8 +93,7 @@ module _ (part : Part) (sound : IsPart part) (image : Image) where
       → effects part (write_operations_of (each_from (run_steps_at part image) 0 part.eeprom_size)) m
       ≡ effect part (Write Eeprom image) m
   runs_effect m fits = elim (cases_Bool (are_locked m)) [
-    | inl lock ↦ runs_locked 0 part.eeprom_size m lock
-        ∙ ap (λ e. record m { eeprom = e }) (sym (cond-true (are_locked m) m.eeprom (with_image image m.eeprom) lock))
+    | inl lock ↦ search (rules, runs_locked, cond-true)
     | inr free ↦
         let r : Loaded (each_from (run_steps_at part image) 0 (part.eeprom_size - 0)) m 0 m.eeprom =
         runs_free part.eeprom_size 0 m m.eeprom free fits (omega arith) (inl (zero_border part.eeprom_page)) in

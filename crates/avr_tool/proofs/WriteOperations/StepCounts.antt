@@ -50,5 +50,4 @@ all_are_write_operations part (Write mem image ∷ items) =
 pub items_counted : (part : Part) (items : List Item) (count : ℕ) (m : Memories)
     → memories_after_steps part count (steps_of_items part items) m
     ≡ effects part (take count (write_operations_of (steps_of_items part items))) m
-items_counted part items count m = counted_write_operations part count (steps_of_items part items) m
-    (all_are_write_operations part items)
+items_counted part items count m = search (rules, counted_write_operations, all_are_write_operations)

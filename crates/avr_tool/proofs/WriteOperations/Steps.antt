@@ -11,7 +11,7 @@ use Rattle.stk_frame.specs.HostCommands.{enter, leave, program_page, program_eep
 use Rattle.stk_host.specs.Places.{flash_address, load_flash, load_eeprom}
 use Rattle.stk_emu.specs.Programmer.{Programmer}
 use Rattle.stk_emu.specs.Device.{device}
-use Rattle.stk_emu.specs.Effect.{Memories, Item, Erase, Write, effect}
+use Rattle.stk_emu.specs.Effect.{Memories, Item, effect}
 use Rattle.stk_emu.specs.Settled.{HasMemories, Ready}
 use Rattle.stk_emu.proofs.Repeatable.{IsRepeatable, Settled}
 use Rattle.stk_emu.specs.WriteOperations.{memories_after_step, IsStep, Erases, ProgramsPage, ProgramsEepromRun, ProgramsFuse, ProgramsLock, ReadsFlash, ReadsEeprom, ReadsFuse, ReadsLock, ReadsSignature, ReadsCalibration, IsPage, FitsEepromPage, IsBlock, AreWords}
@@ -23,8 +23,7 @@ use Rattle.avr_tool.proofs.Given.ReadReplies.{flash_read_keeps, eeprom_read_keep
 
 pub effect_twice : (part : Part) (item : Item) (m : Memories)
     → effect part item (effect part item m) ≡ effect part item m
-effect_twice part Erase m = search (rules, length-replicate)
-effect_twice part (Write mem image) m = search (rules, laid_twice, and_in_twice, and_byte)
+effect_twice part item m = search (rules, length-replicate, laid_twice, and_in_twice, and_byte)
 
 fuse_twice : (part : Part) (f : Fuse) (v : ℕ) (m : Memories)
     → memories_after_step part (program_fuse f v ∷ []) (memories_after_step part (program_fuse f v ∷ []) m)
@@ -117,18 +116,14 @@ module _ (part : Part) where
     pub step_ready : (commands : List Command) (m : Memories) → IsStep part commands
         → IsRepeatable steady commands (Ready part m) (Ready part (memories_after_step part commands m))
     step_ready commands m (Erases e) = search (rules, by_commands, one_steady, erase_does, again_of, effect_twice)
-    step_ready commands m (ProgramsPage number bytes is_page e) =
-        by_commands _ commands m e (page_fits number bytes m is_page)
-    step_ready commands m (ProgramsEepromRun address bytes is_run e) =
-        by_commands _ commands m e (run_fits address bytes m is_run)
+    step_ready commands m (ProgramsPage number bytes is_page e) = search (rules, by_commands, page_fits)
+    step_ready commands m (ProgramsEepromRun address bytes is_run e) = search (rules, by_commands, run_fits)
     step_ready commands m (ProgramsFuse f v e) = by_commands _ commands m e
         (search (rules, one_steady, fuse_does, again_of, fuse_twice))
     step_ready commands m (ProgramsLock v e) = by_commands _ commands m e
         (search (rules, one_steady, lock_does, again_of, effect_twice))
-    step_ready commands m (ReadsFlash start count is_block words e) =
-        by_commands _ commands m e (flash_read_fits start count m is_block words)
-    step_ready commands m (ReadsEeprom start count is_block e) =
-        by_commands _ commands m e (eeprom_read_fits start count m is_block)
+    step_ready commands m (ReadsFlash start count is_block words e) = search (rules, by_commands, flash_read_fits)
+    step_ready commands m (ReadsEeprom start count is_block e) = search (rules, by_commands, eeprom_read_fits)
     step_ready commands m (ReadsFuse f e) = by_commands _ commands m e (fuse_read_fits f m)
     step_ready commands m (ReadsLock e) = by_commands _ commands m e
         (quiet read_lock m (λ p s. subst (Ready part m) (sym (lock_read_after p s.mode)) s))
