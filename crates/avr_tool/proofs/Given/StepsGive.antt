@@ -135,23 +135,15 @@ module _ (part : Part) (sound : IsPart part) where
   pub step_data : (commands : List Command) (m : Memories) (p : Programmer) → IsStep part commands → FitsPart part m
       → Ready part m p → joined_reply device commands [] p ≡ Data (data_of_step part commands m)
   step_data commands m p (Erases e) f s = search rules
-  step_data commands m p (ProgramsPage number bytes is_page e) f s =
-      as_written _ commands m p e (page_given number bytes m p is_page s)
-  step_data commands m p (ProgramsEepromRun address bytes is_run e) f s =
-      as_written _ commands m p e (run_given address bytes m p is_run s)
-  step_data commands m p (ProgramsFuse fuse v e) f s =
-      as_written _ commands m p e (one_gathered device (program_fuse fuse v) p [] (fuse_reply fuse v p s.mode))
-  step_data commands m p (ProgramsLock v e) f s =
-      as_written _ commands m p e (search (rules, one_gathered, in_mode_reply))
-  step_data commands m p (ReadsFlash start count is_block words e) f s =
-      as_written _ commands m p e (flash_given start count m p is_block words f s)
-  step_data commands m p (ReadsEeprom start count is_block e) f s =
-      as_written _ commands m p e (eeprom_given start count m p is_block f s)
+  step_data commands m p (ProgramsPage number bytes is_page e) f s = search (rules, as_written, page_given)
+  step_data commands m p (ProgramsEepromRun address bytes is_run e) f s = search (rules, as_written, run_given)
+  step_data commands m p (ProgramsFuse fuse v e) f s = search (rules, as_written, one_gathered, fuse_reply)
+  step_data commands m p (ProgramsLock v e) f s = search (rules, as_written, one_gathered, in_mode_reply)
+  step_data commands m p (ReadsFlash start count is_block words e) f s = search (rules, as_written, flash_given)
+  step_data commands m p (ReadsEeprom start count is_block e) f s = search (rules, as_written, eeprom_given)
   step_data commands m p (ReadsFuse fuse e) f s = search rules
-  step_data commands m p (ReadsLock e) f s =
-      as_written _ commands m p e (one_gathered device read_lock p _ (lock_given m p s))
-  step_data commands m p (ReadsSignature place few e) f s =
-      as_written _ commands m p e (one_gathered device (read_signature place) p _ (signature_given place m p few s))
+  step_data commands m p (ReadsLock e) f s = search (rules, as_written, one_gathered, lock_given)
+  step_data commands m p (ReadsSignature place few e) f s = search (rules, as_written, one_gathered, signature_given)
   step_data commands m p (ReadsCalibration e) f s = search (rules, as_written, one_gathered, calibration_given)
 
 -- a step keeps the sizes of the memories

@@ -120,23 +120,17 @@ module _ {P : Type 0} (m : Device P) where
         → Tries (with_data go_on (reply_from_reading command (reading_of_exchange one_exchange
         (m.reply (body command) p)))) (restarted n (after_exchange one_exchange (m.after (body command) p) p m.reset))
     by_exchange AsIntended n command go_on p o s right = right n
-    by_exchange (Disturbed execution Refusal) n command go_on p o s right =
-        done (stands_restarted n _ (lost execution _ p o s))
-    by_exchange (Disturbed execution NoReply) n command go_on p o s right =
-        done (stands_restarted n _ (lost execution _ p o s))
-    by_exchange (Disturbed execution Babble) n command go_on p o s right =
-        done (stands_restarted n _ (lost execution _ p o s))
-    by_exchange (Disturbed execution Ending) n command go_on p o s right =
-        done (failed LinkEnded _ (stands_restarted n _ (lost execution _ p o s)))
+    by_exchange (Disturbed execution Refusal) n command go_on p o s right = search (rules, done, stands_restarted, lost)
+    by_exchange (Disturbed execution NoReply) n command go_on p o s right = search (rules, done, stands_restarted, lost)
+    by_exchange (Disturbed execution Babble) n command go_on p o s right = search (rules, done, stands_restarted, lost)
+    by_exchange (Disturbed execution Ending) n command go_on p o s right = search (rules, done, stands_restarted, lost)
     by_exchange (ThenRestarts one_exchange) n command go_on p o s right =
         by_exchange one_exchange (suc n) command go_on p o s right
 
     -- a command that fails ends the attempt
     never : (go_on : List ℕ → Dialog ⊥ Reply) (reply : Reply) (q : P) → Stands q
         → ((bytes : List ℕ) → reply ≡ Data bytes → ⊥) → Tries (with_data go_on reply) q
-    never go_on (Data bytes) q s none = absurd (none bytes refl)
-    never go_on (Again fault) q s none = done s
-    never go_on (Stop fault) q s none = done (failed fault q s)
+    never go_on reply q s none = search (rules, done)
 
     failing : (command : Command) (commands : List Command) (before : List ℕ) (q : P) → Stands q
         → FailsAt m Stands command q → Tries (attempt (command ∷ commands) before) q
@@ -155,10 +149,8 @@ module _ {P : Type 0} (m : Device P) where
     rest_goes (command ∷ commands) before q s fails rest (suc n) =
         subst (λ (x : P). Tries (attempt (command ∷ commands) before) x) (sym (last_restart n q))
         (elim (fails.0 (restarted n q) (stands_restarted n q s)) [
-          | inl same ↦ subst (λ (x : P). Tries (attempt (command ∷ commands) before) x) (sym same)
-              (rest_goes (command ∷ commands) before q s fails rest n)
-          | inr f ↦ failing command commands before (m.reset (restarted n q))
-              (restart_keeps _ (stands_restarted n q s)) f
+          | inl same ↦ search (rules, rest_goes (command ∷ commands) before q s fails rest n)
+          | inr f ↦ search (rules, failing, stands_restarted)
         ])
 
     later_unbroken : (commands : List Command) → FailOnceRestarted m Stands commands → Unbroken m Stands commands
@@ -169,8 +161,7 @@ module _ {P : Type 0} (m : Device P) where
     later_replied : (i : ℕ) (command : Command) (commands : List Command) (p : P)
         → ((bytes : List ℕ) × (reply_to m command p ≡ Data bytes))
         → AreReplied m i commands (m.after (body command) p) → AreReplied m (suc i) (command ∷ commands) p
-    later_replied zero command commands p first more = tt
-    later_replied (suc i) command commands p first more = (first, more)
+    later_replied i command commands p first more = search rules
 
     attempt_goes : (commands : List Command) (before : List ℕ) (p : P) → Unbroken m Stands commands
         → ((i : ℕ) → AreReplied m i commands p → Stands (after_commands m i commands p))
@@ -236,5 +227,4 @@ module _ {P : Type 0} (m : Device P) where
     step_along p exchanges before = leads at_end (step_goes p before)
       where
         at_end : (o : StepOutcome) (q : P) → AfterStep o q → Either q × AfterStep o q
-        at_end (Ok got) q x = (inr x.0, x)
-        at_end (Err fault) q x = (x, x)
+        at_end o q x = search rules

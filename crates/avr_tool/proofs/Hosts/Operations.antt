@@ -90,8 +90,7 @@ module _ (part : Part) (sound : IsPart part) (real : Real part) where
     where
       verdict : (o : StepOutcome) (q : real.P) → AfterSteps real steps m [] o q
           → AfterCall steps m judge (checked_by judge o) q
-      verdict (Ok got) q a = inl (a.0, ap judge a.1)
-      verdict (Err fault) q a = inr (fault, refl, a)
+      verdict o q a = search rules
 
   idle_reached : (m : Memories) (q : real.P) → Reached real signature_steps m q → HasMemories real m q
   idle_reached m q r = settled_idle real m q (search (rules, quiet_stays, read_quiet))
@@ -132,8 +131,7 @@ closing_goes {P = P} m Stands fits p stands =
     left : (o : StepOutcome) (q : P)
         → OnOutcome (λ got q. Stands q × IsDataOfAttempt m (leave ∷ []) Stands Stands got)
         (λ o q. Stands q) o q → Stands q × IsClosed (checked_by no_result o)
-    left (Ok bytes) q i = (i.0, inl refl)
-    left (Err fault) q i = (i, inr (fault, refl))
+    left o q i = search rules
 
 -- ---- along a link
 

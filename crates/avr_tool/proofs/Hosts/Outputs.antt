@@ -123,11 +123,9 @@ module _ {P : Type 0} (m : Device P) where
     on_moment Now After last k (Emit event d) z h =
         let more = on_moment (λ x. Now (event ∷ x)) (λ r x. After r (event ∷ x)) (λ r x. last r (event ∷ x)) k d z h.1
         in record { now = more.now; after = more.after }
-    on_moment Now After last zero (Ask bytes go_on) z h =
-        record { now = h.0; after = λ r e. absurd (asks≢done bytes go_on r e) }
+    on_moment Now After last zero (Ask bytes go_on) z h = search (rules, asks≢done)
     on_moment Now After last (suc k) (Ask bytes go_on) z h =
-        let more = on_moment Now After last k (go_on _) ((this_link m).after bytes z tt) h.1 in
-        record { now = more.now; after = more.after }
+        search (rules, on_moment Now After last k (go_on _) ((this_link m).after bytes z tt) h.1, this_link)
 
     pub at_moment : {R : Type 0} {Now : Moment P} {After : End P R} {d : Dialog OutputEvent R} {z : Spot P}
         → ((r : R) (emitted : List OutputEvent) (y : Spot P) → After r emitted y → Now emitted y) → (k : ℕ)

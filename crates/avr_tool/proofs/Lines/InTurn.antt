@@ -188,8 +188,7 @@ module _ {E R : Type 0} (d : Dialog E R) (n : ℕ) (p : Programmer) (fates : Lis
     over = search (rules, goes_along, never_idle)
 
     pub whole_emitted : outputs events ≡ outputs_after device count d p (exchanges_of_fates fates)
-    whole_emitted = sym (ap (λ x. outputs x.events) over) ∙ emitted_played device count d n p (exchanges_of_fates fates)
-        []
+    whole_emitted = search (rules, over, emitted_played)
 
     pub whole_done : (state_after device count d p (exchanges_of_fates fates)).dialog ≡ Done r
     whole_done = search (rules, done_played, over)

@@ -263,8 +263,7 @@ module _ (part : Part) (sound : IsPart part) (real : Real part) (s : Switches) (
                 before_fault = emitted ++ line.before_fault;
                 first = first_behind line.before_fault line.first;
                 fault = line.fault;
-                output_events_are = ap (λ y. emitted ++ y) line.output_events_are
-                    ∙ sym (append_assoc emitted line.before_fault (fault_output part line.fault));
+                output_events_are = search (rules, append_assoc);
               };
             }),
           )

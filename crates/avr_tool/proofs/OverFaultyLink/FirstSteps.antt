@@ -24,8 +24,7 @@ pub record Rests {part : Part} (real : Real part) (steps : List (List Command)) 
 pub changed_min : (part : Part) (count : ℕ) (steps : List (List Command)) (m : Memories)
     → memories_after_steps part (min count (length steps)) steps m ≡ memories_after_steps part count steps m
 changed_min part zero steps m = search rules
-changed_min part (suc count) [] m = ap (λ n. memories_after_steps part n [] m) (let e : min (suc count) 0 ≡ 0 =
-    omega arith in e)
+changed_min part (suc count) [] m = search rules
 changed_min part (suc count) (commands ∷ steps) m =
     ap (λ n. memories_after_steps part n (commands ∷ steps) m)
     (let e : min (suc count) (suc (length steps)) ≡ suc (min count (length steps)) = omega arith in e)
@@ -43,8 +42,7 @@ changed_prefix part (suc count) (commands ∷ xs) ys m few =
 pub changed_behind : (part : Part) (count : ℕ) (xs ys : List (List Command)) (m : Memories)
     → memories_after_steps part (count + length xs) (xs ++ ys) m
     ≡ memories_after_steps part count ys (memories_after_steps part (length xs) xs m)
-changed_behind part count [] ys m = ap (λ n. memories_after_steps part n ys m) (let e : count + 0 ≡ count =
-    omega arith in e)
+changed_behind part count [] ys m = search rules
 changed_behind part count (commands ∷ xs) ys m =
     ap (λ n. memories_after_steps part n (commands ∷ xs ++ ys) m)
     (let e : count + suc (length xs) ≡ suc (count + length xs) = omega arith in e)

@@ -43,8 +43,7 @@ module _ (Such : List Exchange → Type 0) where
   pub brings_reported : {A B : Type 0} (d : Dialog ⊥ A) (report_line : A → B) (a : A) (Before After : Programmer
       → Type 0) → Brings Such Before d a After → Brings Such Before (d >>= (λ outcome. Done (report_line outcome)))
       (report_line a) After
-  brings_reported d report_line a Before After l z before such =
-      outcome_mapped report_line (l z before such) (λ got y x. ((ap report_line x.0.0, x.0.1), x.1))
+  brings_reported d report_line a Before After l z before such = search (rules, outcome_mapped)
 
 -- ---- the steps of a host
 

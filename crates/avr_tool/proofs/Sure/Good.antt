@@ -71,7 +71,6 @@ Has got d z = Runs steady (λ y. ⊤) (λ reply y. (reply ≡ Data got) × AllAr
 replied : (go_on : List ℕ → Dialog ⊥ Reply) (go : List ℕ → Reply) (got : List ℕ) (z : Spot Programmer) (reply : Reply)
     → ((bytes : List ℕ) → go bytes ≡ Data got → Has got (go_on bytes) z)
     → on_data reply go ≡ Data got → Has got (with_data go_on reply) z
-replied go_on go got z (Data bytes) each has = each bytes has
 replied go_on go got z reply each has = search rules
 
 attempt_has : (commands : List Command) (before : List ℕ) (z : Spot Programmer) (got : List ℕ) → AllArriveRight z.1
@@ -101,9 +100,7 @@ module _ (Before After : Programmer → Type 0) (commands : List Command) (got :
   after_try : (more : ℕ) (reply : Reply) (y : Spot Programmer)
       → OnReply (λ q. Before q ⊎ After q) (AfterStep steady commands Before After fits) reply y.0
       × ((reply ≡ Data got) × AllArriveRight y.1) → OnReply (Begins more) Whole reply y
-  after_try more (Data bytes) y (stood, (is, good)) = ((ap (λ x. Ok x) (same_data bytes got is), stood.0), good)
-  after_try more (Again fault) y (stood, (is, good)) = absurd (cc)
-  after_try more (Stop fault) y (stood, (is, good)) = absurd (cc)
+  after_try more reply y (stood, (is, good)) = search (rules, same_data)
 
   step_has : (z : Spot Programmer) → Before z.0 → AllArriveRight z.1 → Runs steady (λ y. ⊤) Whole (step commands) z
   step_has z before good =

@@ -68,8 +68,7 @@ module _ {P : Type 0} (m : Device P) where
         (state_after m (suc k) (step commands) p exchanges).programmer (state_after m (suc k) (step commands) p
         exchanges).exchanges)) (steps_completed m (commands ∷ steps) k p exchanges)
     climbs_from k steps commands p exchanges go_on (Done (Ok bytes)) e stepped rest =
-        behind (state_after m (suc k) (step commands) p exchanges).left k steps commands p exchanges bytes _ e refl
-        (rest bytes (stepped.whole bytes e))
+        search (rules, behind, stepped.whole)
     climbs_from k steps commands p exchanges go_on d e stepped rest = search rules
 
     none_asked : (command : Command) (commands : List Command) (steps : List (List Command)) (before : List ℕ) (p : P)

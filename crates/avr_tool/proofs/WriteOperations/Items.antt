@@ -45,8 +45,7 @@ all_below xs below = All-from_get_or (λ b. b < 256) xs 0 below
 module _ (part : Part) (sound : IsPart part) where
   flash_bytes : (mem : Mem) (image : Image) (m : Memories) → AreBytes m.flash
       → AreBytes (effect part (Write mem image) m).flash
-  flash_bytes Flash image m bytes = search (rules, all_below, below_and_in)
-  flash_bytes mem image m bytes = bytes
+  flash_bytes mem image m bytes = search (rules, all_below, below_and_in)
 
   pub effect_sizes : (item : Item) (m : Memories) → FitsPart part m → FitsPart part (effect part item m)
   effect_sizes Erase m f = search (rules, length-replicate, get_or-replicate)
