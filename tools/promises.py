@@ -23,7 +23,7 @@ SENTENCES = {
         "a_program_with_status_0_kept_its_plan_on_an_emulated_chip",
         "the_emulated_programmer_keeps_the_table",
     ],
-    "each image that was compared after the last write is in the chip": [
+    "the chip holds each image compared after the last write": [
         "a_program_with_status_0_left_what_it_compared_last",
     ],
     "found before the first frame": ["a_plan_only_reads_and_warns"],
