@@ -503,8 +503,8 @@ def texts_and_firmware():
 
 
 def no_firmware():
-    """A text without records, an archive, a page and an image without a byte are refused, also from a pipe; a text as
-    raw bytes (:r) is not."""
+    """A text without records, an archive, an HTML page and an empty image are refused, also from a pipe. A text as raw
+    bytes (:r) is not."""
     why = {
         **dict.fromkeys(TEXTS, "is text without records: give it as raw bytes (:r) only if its characters are meant"),
         **dict.fromkeys(EMPTY, "is empty (did its build fail?)"),

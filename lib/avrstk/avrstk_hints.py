@@ -57,7 +57,7 @@ class Outcome:
     left_at_error: bool = False
     # whether the session that may change the chip got as far as its signature
     may_change: bool = False
-    # whether the chip may be in programming mode: it was at the beginning, or ENTER was sent, and LEAVE got no good reply
+    # whether the chip may be in programming mode: it was at first, or ENTER was sent, and LEAVE got no good reply
     is_held: bool = False
     # whether this is a session before the run, which only asks
     is_before: bool = False

@@ -68,7 +68,8 @@ pub fn a_byte_of_flash_is_made_by_images()
         (byte_in plan.part Flash addr after) }
 {}
 
-/// States that an image reported as written is in its memory, under conditions on the chip's lock and the plan's erase.
+/// States that an image reported as written is in its memory, under conditions on the chip's lock, and on what the plan
+/// erased and wrote before.
 /// EEPROM and fuses: the chip was not locked. Flash: moreover, the same plan erased it before, and wrote no other image
 /// at the same addresses. The lock: the plan did the same for it. Otherwise `written` means only that each command got
 /// the status OK.
