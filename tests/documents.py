@@ -1,6 +1,6 @@
 #!/usr/bin/env python3
-"""Compares what docs/CHECK and CONTRIBUTING quote with the sources, and the logic's checksum in documents with that of
-the kit. Checks that each worked row has its test, and the form of Python.
+"""Checks that docs/CHECK and CONTRIBUTING quote the sources as they are, that documents have the checksum of the kit's
+logic, that each worked row has its test, and the form of Python.
 
 Not proved: No proof covers documents and scripts.
 
@@ -80,7 +80,7 @@ def what_check_quotes():
 
 
 def the_first_change():
-    """CONTRIBUTING's first change can be made: the text is once in the script, and once in the test's table."""
+    """CONTRIBUTING's first change can be made: the text is once in its file, and once in the test's table."""
     begun = re.search(r"replace `([^`]*)`\s+by", words(text("CONTRIBUTING.md")))[1]
     for file in ("lib/avrstk/avrstk_hints.py", "tests/tables/refused.txt"):
         check_equal(f"{file}: {begun}", text(file).count(begun), 1)

@@ -2342,7 +2342,7 @@ sys.meta_path.insert(0, Sends)
 
 
 def names_and_interrupts():
-    """Tests names with control bytes and bytes that are not UTF-8, and Ctrl-C before a run."""
+    """Gives names with control bytes and bytes that are not UTF-8, and Ctrl-C before a run."""
     room.put("sitecustomize.py", SENDS)
     for device, shown in [
         (b"/dev/\xff\xc3\xa9", "/dev/\\xff\u00e9"),

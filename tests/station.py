@@ -155,7 +155,8 @@ EEPROM_LINES = ["eeprom: 6 bytes written", "eeprom: 6 bytes verified"]
 
 
 def one_command():
-    """An image from a pipe is read once for all; reads go into a file of each. A board that isn't there stops none."""
+    """An image from a pipe is read once for all boards, and each board is read into a file of its own. A board that
+    isn't there stops none."""
     with Doubles(["one", "two"]) as doubles, open(TOP / "examples/blink.hex", "rb") as given:
         words = ["-p", "m328p", *doubles.ports(), "-P", "three", "-q", "--json", "-"]
         updates = ["flash:w:-:i", "flash:r:{board}.hex:i", "lfuse:r:-:h"]

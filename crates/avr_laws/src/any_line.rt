@@ -80,8 +80,8 @@ pub fn what_a_run_reports_is_true<T: AnyProgrammer>()
         exchanges }
 {}
 
-/// States for the emulated programmer what [`what_a_run_reports_is_true`] states, for any plan and any state of the
-/// lock and the fuses.
+/// States that at the emulated programmer all of [`what_a_run_reports_is_true`] holds, for any plan and any state of
+/// the lock and the fuses.
 pub fn what_a_run_reports_is_true_on_an_emulated_chip()
     ensures { (plan : Plan) (m : Memories) (k : ℕ) (p : Programmer) (exchanges : List Exchange)
         → IsPart plan.part → All (IsFitted plan.part) plan.tasks → FitsPart plan.part m → HasMemories plan.part m p
@@ -179,8 +179,8 @@ pub fn a_session_over_any_link()
         (exchanges_on_tape (session plan) 1 tape executions) bytes (played (session plan) 1 tape).events }
 {}
 
-/// States that a session over a new link that forges no frame makes the plan's first write operations, also if it
-/// breaks off. These are the ones completed by what was received, and at most one more. The programmer is the emulated
+/// States that a session over a new link that forges no frame makes some first ones of the plan's write operations, and
+/// no others, also if it breaks off. These are the ones completed by what was received, and at most one more. The programmer is the emulated
 /// one. The session's output is the expected run's, up to the line of a failed step. This holds also if the link fails.
 // Proof: `over_any_run` (AnyLink); its write operations are avr_tool's `session_makes`
 // (OverFaultyLink/WriteOperationOrder).

@@ -149,8 +149,8 @@ pub fn an_ended_run_and_one_with_status_0_are_as_one<T: AnyProgrammer>()
         (memory_in T.part mem (T.view (after_sent_frames T.device (frames (sent second)) others q)))) }
 {}
 
-/// States for the emulated programmer what [`an_ended_run_and_one_with_status_0_are_as_one`] states, for any plan and
-/// any state of the lock and the fuses. The first run sent any prefix of its bytes.
+/// States that at the emulated programmer all of [`an_ended_run_and_one_with_status_0_are_as_one`] holds, for any plan
+/// and any state of the lock and the fuses. The first run sent any prefix of its bytes.
 // Proof: `emulated_as_one` (Outcomes/TwoRuns), by `done_again` (SecondRun/Status) and, for another signature,
 // `session_alike` (Outcomes/OtherPart).
 pub fn an_ended_run_and_one_with_status_0_are_as_one_on_an_emulated_chip()
