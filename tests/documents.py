@@ -1,6 +1,6 @@
 #!/usr/bin/env python3
-"""Checks that docs/CHECK and CONTRIBUTING quote the sources as they are, that documents have the checksum of the kit's
-logic, that each worked row has its test, and the form of Python.
+"""Checks that docs/CHECK and CONTRIBUTING quote the sources as they are, and that documents have the checksum of the
+kit's logic. Checks that each worked row has its test, and the form of Python.
 
 Not proved: No proof covers documents and scripts.
 
