@@ -13,7 +13,6 @@ from avrstk_rows import try_rows
 from avrstk_hints import CHANGING, ENTER, LEAVE, MAYBE_CHANGED, NO_CHIP, NO_SIGNATURES, ONE_IMAGE, OPEN_LOCK
 from avrstk_hints import (
     POWER_CYCLE,
-    SAME,
     SIGN_ON,
     UNCHANGED,
     Outcome,
@@ -21,6 +20,7 @@ from avrstk_hints import (
     hint,
     may_erase_kept,
     overwritten,
+    same,
     state_of,
 )
 from avrstk_station import made, station
@@ -582,8 +582,7 @@ def check(words: Words) -> None:
     if words.part == "auto":
         return
     only, quiet = copy.copy(words), subprocess.DEVNULL
-    only.updates = [update for update in words.updates if not update.is_stream()]
-    only.given = [update.given for update in only.updates]
+    only.updates = [update.unwritten() if update.is_stream() else update for update in words.updates]
     try:
         program = session_program(quiet)
     except SystemExit:
@@ -842,7 +841,7 @@ def ask(
         messages.put(b"".join(lines))
         if outcome.left_at_error and outcome.error == "no answer" and not ended_by() and not words.has_port:
             why = "the session before the run got no reply to its last command; nothing was written"
-            raise Fault(f"{why}. {POWER_CYCLE.capitalize()}, and {SAME}")
+            raise Fault(f"{why}. {POWER_CYCLE.capitalize()}, and {same(words)}")
         if not words.has_port:
             outcome.is_before = True
             raise Fault(hint(outcome, ended_by()))

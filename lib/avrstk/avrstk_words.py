@@ -460,6 +460,12 @@ class Update:
         is_other = self.file == "-" or os.path.exists(self.file) and not os.path.isfile(self.file)
         return self.operation == "r" and is_other
 
+    def unwritten(self) -> Update:
+        """Returns this update of a stream as it is judged, with a file that keeps nothing."""
+        other = copy.copy(self)
+        other.text = ":".join([self.memory, self.operation, os.devnull, *[self.format or ""] * (self.format is not None)])
+        return other
+
     def kind(self) -> str | None:
         """Returns the letter of an image's format, which is detected if none is given; None of values."""
         detected = {b":": "i", b"S": "s"}.get(self.front.lstrip()[:1], "r")
