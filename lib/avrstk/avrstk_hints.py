@@ -122,17 +122,20 @@ def hint(run: Outcome, number: int | None) -> str:
         end = state if run.earlier else UNOPENED
         why = matched(REFUSALS, error, words)
         return f"{why}; {end}" if why else end
-    speed, resets = f"the speed (-b {words.baud})", "that the board resets when the port opens"
-    others = f"{resets} (else press reset right after starting). {other_kinds(words)}. USBasp needs avrdude"
+    speed, others = f"the speed (-b {words.baud})", f"{other_kinds(words)}. USBasp needs avrdude"
+    # (Arduino as ISP and other programmers need no reset)
+    needs_reset = words.is_bootloader or not words.is_version1
+    resets = "that the board resets when the port opens (else press reset right after starting)" * needs_reset
     if run.is_noisy:
         why = f"the device sends data, but no valid reply: its application is running, or {speed} is wrong"
-        return f"{why}. Check {others}"
+        return f"{why}. Check {resets}. {others}" if resets else f"{why}. {others}"
     if error == "no answer" and run.left_at_error and not run.is_before:
         if words.backup is not None:
             return f"only the last command got no reply. {POWER_CYCLE.capitalize()}, and {same(words)}"
         return f"everything was done; only the last command got no reply. {POWER_CYCLE.capitalize()}"
     if error == "no answer" and run.commands <= {SIGN_ON, LEAVE}:
-        return f"no valid reply; {UNCHANGED}. Check: {speed}; that no serial monitor has the port open; {others}"
+        checks = "; ".join([speed, "that no serial monitor has the port open", *[resets] * needs_reset])
+        return f"no valid reply; {UNCHANGED}. Check: {checks}. {others}"
     fields = {"speed": speed, "state": state, "left": state_of(run, False), "noisy": noisy(words, error)}
     return matched(REPLIED, error, words, **fields) or state
 
@@ -259,8 +262,8 @@ def unopened(words: Words, found: Match[str]) -> str:
 
 
 def as_value(text: str) -> str:
-    """Returns a value as format m takes it; a placeholder if the text can be read in several ways."""
-    if re.fullmatch("0[xb][0-9A-Fa-f]+|[0-9]|[1-9][0-9]{2}", text):
+    """Returns a value as format m takes it; a placeholder if the text is none, or can be read in several ways."""
+    if re.fullmatch("0x[0-9A-Fa-f]+|0b[01]+|[0-9]|[1-9][0-9]{2}", text) and int(text, 0) < 256:
         return text
     return f"0x{text}" if re.fullmatch("[0-9A-Fa-f]{2}", text) and not text.isdigit() else "0xNN"
 

@@ -564,8 +564,9 @@ def judge_options(words: Words) -> None:
     """Refuses options that are not avrstk-serial's, or have a value that they don't take."""
     name = words.programmer.lower()
     if name not in SPEAKING:
-        what = f" is {PROGRAMMERS[name]}" if name in PROGRAMMERS else ": this speaks STK500 in ISP mode only"
-        raise Fault(f"-c {words.programmer}{what}: use avrdude -c {words.programmer}")
+        unknown = "not known here: -c '?' lists the names. For another programmer use avrdude"
+        what = f"{PROGRAMMERS[name]}: use avrdude -c {words.programmer}" if name in PROGRAMMERS else unknown
+        raise Fault(f"-c {words.programmer} is {what}")
     for option in words.last:
         if option in REFUSED:
             raise Fault(REFUSED[option])
