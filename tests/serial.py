@@ -936,8 +936,8 @@ def status_and_lines(words, board):
 
 def backups_that_fail():
     """A failed backup leaves no folder. A chip of another part, or a folder with faults, is not restored."""
-    loader = "a bootloader may refuse to write fuses and the lock, and to read the calibration: use a programmer. If this "
-    loader += "is one, use another; the chip is unchanged"
+    loader = "a bootloader may refuse to write fuses and the lock, and to read the calibration: use a programmer. If "
+    loader += "this is one, use another; the chip is unchanged"
 
     def written(answer):
         check("no write", answer[5] not in (0x12, 0x13, 0x15, 0x17, 0x19))

@@ -467,7 +467,8 @@ class Update:
     def unwritten(self) -> Update:
         """Returns this update of a stream as it is judged, with a file that keeps nothing."""
         other = copy.copy(self)
-        other.text = ":".join([self.memory, self.operation, os.devnull, *[self.format or ""] * (self.format is not None)])
+        form = "" if self.format is None else f":{self.format}"
+        other.text = f"{self.memory}:{self.operation}:{os.devnull}{form}"
         return other
 
     def kind(self) -> str | None:
