@@ -40,7 +40,8 @@ WRITING = ["erases", "writes flash", "writes fuses", "writes lock"]
 SAFE, ALL = ["--try-rows"], ["--try-rows=all", "--yes"]
 BY_A_GOOD_LINE = " while the line changes no byte (version 1 has no checksums)"
 FIRMWARE = "after a verified run with status 0 the chip holds the images (README has the conditions)"
-COMPARED = "each image that a run compared after its last write is in the chip"
+COMPARED = "after a run with status 0, each image that it compared after its last write is in the chip"
+UNTRIED = " if it obeys no damaged frame, which was not tried"
 TINY, FLASH, EEPROM = ["--parts", "tiny.toml", "-p", "tiny"], 2_048, 64
 room.keep("tiny.toml", boards.TINY.encode())
 # (the same sizes in hexadecimal)
@@ -331,7 +332,7 @@ def wrong():
         left = ["damaged frame", "writes EEPROM"] if row == "reads EEPROM" else []
         plug = Plug(Wrong(act).call)
         words = [*TINY, "-P", plug.device, *(ALL if row in WRITING else SAFE)]
-        unread = f" (not {row[6:]})" if row in READING else ""
+        unread = UNTRIED * bool(left) + (f" (not {row[6:]})" if row in READING else "")
         promise = "none" if set(rows) & set(KEPT) else COMPARED + unread
         found, _ = tried(what, words, rows, left + WRITING * (row not in WRITING), promise)
         check(f"{what}: the frames are shown", " was answered " in found[rows[0]][1], found[rows[0]])
@@ -447,7 +448,7 @@ def mega_2560():
     words = ["--parts", "mega.toml", "-p", "m2560", "-c", "wiring"]
     with mega.Board(content) as board:
         plug = Plug(board.call)
-        wrong, promise = ["reads EEPROM", "writes flash", "writes lock"], f"{COMPARED} (not EEPROM)"
+        wrong, promise = ["reads EEPROM", "writes flash", "writes lock"], f"{COMPARED}{UNTRIED} (not EEPROM)"
         found, _ = tried("a Mega, all", [*words, "-P", plug.device, *ALL], wrong, ["writes EEPROM"], promise)
         for name, code in ("erases", "12"), ("writes fuses", "17"), ("reads calibration", "1C"):
             check(f"a Mega, {name}: refused", f"{code} C0" in found[name][1], found[name])

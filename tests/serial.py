@@ -936,7 +936,8 @@ def status_and_lines(words, board):
 
 def backups_that_fail():
     """A failed backup leaves no folder. A chip of another part, or a folder with faults, is not restored."""
-    loader = "a bootloader can't write fuses and the lock, or read the calibration: use a programmer"
+    loader = "a bootloader may refuse to write fuses and the lock, and to read the calibration: use a programmer. If "
+    loader += "this is one, use another; the chip is unchanged"
 
     def written(answer):
         check("no write", answer[5] not in (0x12, 0x13, 0x15, 0x17, 0x19))
@@ -1340,7 +1341,7 @@ def stays(words, case, found):
     if not any(has >> int(bit) & 1 for bit in found[1].split(",")):
         return valued(words, found[2])
     if "give it last" in found[3]:
-        return lock_last(words)
+        return [*lock_last(words), *["-e"] * ("(-e)" in found[3])]
     return [*words, "-e"] if "(-e)" in found[3] else None
 
 
@@ -1621,7 +1622,10 @@ FOLLOWED = [
     ),
     (r"bits ([\d, ]+) stay 1. If the part has none of them, give (\S+)\. If it has any of them, (.*)", stays),
     (r"only an erase \(-e\) removes (a|the) lock, and clears all of", lambda words, *_: [*words, "-e"]),
-    (r"^-U lock was given before: give it last", lock_last),
+    (
+        r"^-U lock was given before: give it last(\. Only an erase \(-e\) removes the lock, and clears all of flash)?",
+        lambda words, _, found: [*lock_last(words), *["-e"] * bool(found[1])],
+    ),
     (r"give one value$|two images overlap \(give one of them\)", lambda words, *_: words[:-2]),
     (
         r"For a programmer of STK500v2 leave out -c (\w+)\. ",
@@ -1638,6 +1642,7 @@ FOLLOWED = [
     (r"run the same command again$", lambda words, *_: words),
     (
         r"holds something else than [^;]*$|: use a programmer(, whose erase also clears the bootloader)?$"
+        r"|: use a programmer\. If this is one, use another; the chip (is unchanged|may be erased or partly written)$"
         r"|: power-cycle the board$|may be worn$|may be worn, or a lock|damaged$",
         lambda *_: None,
     ),

@@ -180,7 +180,7 @@ def one_command():
     check_equal("-q twice", (status, messages), (0, []))
     _, _, messages = run(["-p", "m328p", "-P", "emu:a.bin", "-P", "emu:b.bin", "-q", "-e", "-U", "lfuse:v:0:m"])
     rows = [line.split("  ")[-1] for line in messages if "  failed (" in line]
-    wanted = "failed (mismatch), chip erased or partly written: lfuse: address 00000000: 00 expected, FF found"
+    wanted = "failed (mismatch), chip may be erased or partly written: lfuse: address 00000000: 00 expected, FF found"
     check_equal("-q changes no row of the table", (rows, len(messages)), ([wanted] * 2, 6))
     for part in ["-p", "auto"], ["-p", "t85"]:
         with Doubles(["one", "two"]) as doubles:
@@ -321,6 +321,10 @@ def retried():
     boards.end()
     why = "--rows one.csv has 1 rows, and the next number is greater; the chip may be erased or partly written"
     check_equal("no number for a retry", (status, messages[-1]), (1, f"avrstk-serial: {why}"))
+    with Doubles(["first", "second"], {"second": ["--lose", "PROGRAM_EEPROM"]}) as doubles:
+        status, _, messages = run(["-p", "m328p", *doubles.ports(), *EACH, "--counter", "alone", "--from", "1"])
+    alone = [line for line in messages if line.endswith(": run the same command again for second alone (one -P)")]
+    check_equal("a board that is to be run alone", (status, len(alone)), (1, 1))
 
 
 # in place of avrstk: it appends its EEPROM image to a file

@@ -63,8 +63,8 @@ class Outcome:
     is_before: bool = False
 
 
-def state_of(run: Outcome) -> str:
-    """Describes the state of the chip after a run that stopped early."""
+def state_of(run: Outcome, is_worth_again: bool = True) -> str:
+    """Describes the state of the chip after a run that stopped early. Advises to run it again if that is worth it."""
     sent = run.earlier | run.commands
     if not sent:
         return f"nothing was sent: {UNCHANGED}"
@@ -72,14 +72,22 @@ def state_of(run: Outcome) -> str:
         return UNCHANGED
     if not CHANGING & sent:
         return f"{UNCHANGED}, and may be in programming mode: {POWER_CYCLE}" if run.is_held else UNCHANGED
-    return f"{MAYBE_CHANGED}{', and in programming mode' * run.is_held}: {again(run.words)}"
+    state = MAYBE_CHANGED + ", and in programming mode" * run.is_held
+    return f"{state}: {again(run.words)}" if is_worth_again else state
 
 
 def again(words: Words) -> str:
     """Advises to run the same command again, and to save first what that may take and the first run left."""
-    read = {file: f"copy {file}, which the next run overwrites" for file in overwritten(words) if os.path.isfile(file)}
+    files = overwritten(words)
+    read = {file: f"copy {file}, which the next run overwrites" for file in files if os.path.isfile(file)}
+    read.update({"-": "keep what standard output got, because the next run reads new bytes"} if "-" in files else {})
     eeprom = "read EEPROM into a file (-U eeprom:r:FILE:i), because the next run may erase it"
-    return ", and then ".join([*read.values(), *[eeprom] * may_erase_kept(words), SAME])
+    return ", and then ".join([*read.values(), *[eeprom] * may_erase_kept(words), same(words)])
+
+
+def same(words: Words) -> str:
+    """Advises to run the same command again. With several boards it would give those that are done another number."""
+    return SAME + f" for {words.device} alone (one -P)" * (words.is_station and bool(words.each_given))
 
 
 def overwritten(words: Words) -> list[str]:
@@ -114,18 +122,22 @@ def hint(run: Outcome, number: int | None) -> str:
         end = state if run.earlier else UNOPENED
         why = matched(REFUSALS, error, words)
         return f"{why}; {end}" if why else end
-    speed, resets = f"the speed (-b {words.baud})", "that the board resets when the port opens"
-    others = f"{resets} (else press reset right after starting). {other_kinds(words)}. USBasp needs avrdude"
+    speed, others = f"the speed (-b {words.baud})", f"{other_kinds(words)}. USBasp needs avrdude"
+    # (Arduino as ISP and other programmers need no reset)
+    needs_reset = words.is_bootloader or not words.is_version1
+    resets = "that the board resets when the port opens (else press reset right after starting)" * needs_reset
     if run.is_noisy:
         why = f"the device sends data, but no valid reply: its application is running, or {speed} is wrong"
-        return f"{why}. Check {others}"
+        return f"{why}. Check {resets}. {others}" if resets else f"{why}. {others}"
     if error == "no answer" and run.left_at_error and not run.is_before:
         if words.backup is not None:
-            return f"only the last command got no reply. {POWER_CYCLE.capitalize()}, and {SAME}"
+            return f"only the last command got no reply. {POWER_CYCLE.capitalize()}, and {same(words)}"
         return f"everything was done; only the last command got no reply. {POWER_CYCLE.capitalize()}"
     if error == "no answer" and run.commands <= {SIGN_ON, LEAVE}:
-        return f"no valid reply; {UNCHANGED}. Check: {speed}; that no serial monitor has the port open; {others}"
-    return matched(REPLIED, error, words, speed=speed, state=state, noisy=noisy(words, error)) or state
+        checks = "; ".join([speed, "that no serial monitor has the port open", *[resets] * needs_reset])
+        return f"no valid reply; {UNCHANGED}. Check: {checks}. {others}"
+    fields = {"speed": speed, "state": state, "left": state_of(run, False), "noisy": noisy(words, error)}
+    return matched(REPLIED, error, words, **fields) or state
 
 
 def other_kinds(words: Words) -> str:
@@ -250,8 +262,8 @@ def unopened(words: Words, found: Match[str]) -> str:
 
 
 def as_value(text: str) -> str:
-    """Returns a value as format m takes it; a placeholder if the text can be read in several ways."""
-    if re.fullmatch("0[xb][0-9A-Fa-f]+|[0-9]|[1-9][0-9]{2}", text):
+    """Returns a value as format m takes it; a placeholder if the text is none, or can be read in several ways."""
+    if re.fullmatch("0x[0-9A-Fa-f]+|0b[01]+|[0-9]|[1-9][0-9]{2}", text) and int(text, 0) < 256:
         return text
     return f"0x{text}" if re.fullmatch("[0-9A-Fa-f]{2}", text) and not text.isdigit() else "0xNN"
 
@@ -289,7 +301,7 @@ def differs(words: Words, found: Match[str]) -> str:
     if memory in FUSES:
         return unlike_fuse(words, memory, wanted, held)
     if is_after_lock(words, memory):
-        return "-U lock was given before: give it last"
+        return lock_last(words)
     is_erased = erases(words)
     if memory == "flash" and not is_erased and not held & ~wanted:
         return remains(words)
@@ -312,16 +324,24 @@ def erases(words: Words) -> bool:
 
 
 def is_after_lock(words: Words, memory: str) -> bool:
-    """Whether a memory is written after the lock."""
-    given = [update.memory for update in words.updates if update.operation == "w"]
-    return "lock" in given and given.index("lock") < given.index(memory)
+    """Whether a memory is written after a lock that may protect it."""
+    writes = [update for update in words.updates if update.operation == "w"]
+    first = next(at for at, update in enumerate(writes) if update.memory == memory)
+    values = [update.value() for update in writes[:first] if update.memory == "lock"]
+    return any(value is None or value & 3 != 3 for value in values)
+
+
+def lock_last(words: Words) -> str:
+    """Returns the hint after a memory that the lock protected, since it was written first."""
+    removes = f". Only an erase (-e) removes the lock, and clears all of {TAKES}"
+    return f"-U lock was given before: give it last{removes * (not erases(words))}"
 
 
 def unlike_fuse(words: Words, memory: str, wanted: int, held: int) -> str:
     """Returns the hint if a fuse or the lock holds another value than the one that was written."""
     cause = "the chip or the programmer is damaged" if erases(words) else LOCKED
     if is_after_lock(words, memory):
-        cause = "-U lock was given before: give it last"
+        cause = lock_last(words)
     if memory == "lock" and words.restore is None and not words.is_version1:
         cause = "a bootloader can't write the lock: use a programmer"
     # (a bit that a part doesn't have reads 1)
@@ -337,7 +357,7 @@ def unlike_fuse(words: Words, memory: str, wanted: int, held: int) -> str:
     if memory == "lock" and wanted & ~held and not erases(words):
         return f"only an erase (-e) removes a lock, and clears all of {TAKES}"
     if is_after_lock(words, memory):
-        return "-U lock was given before: give it last"
+        return lock_last(words)
     return f"{again(words)}; if it fails again, {cause}"
 
 
@@ -393,7 +413,8 @@ REPLIED: Table = {
     "command 12 ": unerased,
     r"command \w\w refused with status C1": "{noisy}: {state}; if it refuses again, use another programmer",
     "command 10 ": f"{NO_REACH}: check wires, power, clock and reset pin; {UNCHANGED}",
-    "command (17|19|1C) ": "a bootloader can't write fuses and the lock, or read the calibration: use a programmer",
+    "command (17|19|1C) ": "a bootloader may refuse to write fuses and the lock, and to read the calibration: use a "
+    "programmer. If this is one, use another; {left}",
     "no answer$": "no further valid reply: check the cable and the power; {state}",
     "no answer in|.*bad answer$": "something else sends data (the board's application), {speed} is wrong, or the "
     "programmer doesn't keep to STK500v2; {state}",

@@ -454,8 +454,10 @@ class Rows:
         if not failed and None not in self.results.values() and not self.words.is_version1:
             return "after a verified run with status 0 the chip holds the images (README has the conditions)"
         limit = " while the line changes no byte (version 1 has no checksums)" * self.words.is_version1
+        is_untried = self.results["damaged frame"] is None and not self.words.is_version1
+        limit += " if it obeys no damaged frame, which was not tried" * is_untried
         limit += f" (not {', '.join(unread)})" if unread else ""
-        return f"each image that a run compared after its last write is in the chip{limit}"
+        return f"after a run with status 0, each image that it compared after its last write is in the chip{limit}"
 
 
 def try_rows(words: Words, opens: Callable[[], Opened]) -> int:

@@ -13,7 +13,6 @@ from avrstk_rows import try_rows
 from avrstk_hints import CHANGING, ENTER, LEAVE, MAYBE_CHANGED, NO_CHIP, NO_SIGNATURES, ONE_IMAGE, OPEN_LOCK
 from avrstk_hints import (
     POWER_CYCLE,
-    SAME,
     SIGN_ON,
     UNCHANGED,
     Outcome,
@@ -21,6 +20,7 @@ from avrstk_hints import (
     hint,
     may_erase_kept,
     overwritten,
+    same,
     state_of,
 )
 from avrstk_station import made, station
@@ -564,8 +564,9 @@ def judge_options(words: Words) -> None:
     """Refuses options that are not avrstk-serial's, or have a value that they don't take."""
     name = words.programmer.lower()
     if name not in SPEAKING:
-        what = f" is {PROGRAMMERS[name]}" if name in PROGRAMMERS else ": this speaks STK500 in ISP mode only"
-        raise Fault(f"-c {words.programmer}{what}: use avrdude -c {words.programmer}")
+        unknown = "not known here: -c '?' lists the names. For another programmer use avrdude"
+        what = f"{PROGRAMMERS[name]}: use avrdude -c {words.programmer}" if name in PROGRAMMERS else unknown
+        raise Fault(f"-c {words.programmer} is {what}")
     for option in words.last:
         if option in REFUSED:
             raise Fault(REFUSED[option])
@@ -582,8 +583,7 @@ def check(words: Words) -> None:
     if words.part == "auto":
         return
     only, quiet = copy.copy(words), subprocess.DEVNULL
-    only.updates = [update for update in words.updates if not update.is_stream()]
-    only.given = [update.given for update in only.updates]
+    only.updates = [update.unwritten() if update.is_stream() else update for update in words.updates]
     try:
         program = session_program(quiet)
     except SystemExit:
@@ -842,7 +842,7 @@ def ask(
         messages.put(b"".join(lines))
         if outcome.left_at_error and outcome.error == "no answer" and not ended_by() and not words.has_port:
             why = "the session before the run got no reply to its last command; nothing was written"
-            raise Fault(f"{why}. {POWER_CYCLE.capitalize()}, and {SAME}")
+            raise Fault(f"{why}. {POWER_CYCLE.capitalize()}, and {same(words)}")
         if not words.has_port:
             outcome.is_before = True
             raise Fault(hint(outcome, ended_by()))

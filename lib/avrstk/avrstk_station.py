@@ -110,7 +110,9 @@ class Board:
         if not outcome.get("status"):
             return "done"
         error = f": {outcome['error']}" if outcome.get("error") else ""
-        return f"failed ({outcome.get('kind')}), chip {outcome.get('chip')}{error}"
+        # (a chip that may be changed counts as changed)
+        chip = f"{outcome.get('chip')}".replace("erased", "may be erased")
+        return f"failed ({outcome.get('kind')}), chip {chip}{error}"
 
 
 def outcome_of(words: Words, report: Report, status: int) -> tuple[dict[str, Any], dict[str, Any] | None]:

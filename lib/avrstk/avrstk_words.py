@@ -280,7 +280,11 @@ def judge_words(options: Sequence[tuple[str, str]], others: Sequence[str]) -> No
     if update and " " in Update(whole).file and os.path.isfile(Update(whole).file):
         raise Fault(f"a name with blanks needs quotes: give -U {shlex.quote(whole)}")
     if memory in MEMORIES and rest in ("", "r", "w", "v", "r:", "w:", "v:"):
-        raise Fault(f"an update is one word: give -U {shlex.quote(':'.join([update.rstrip(':'), *others[:3]]))}")
+        pieces = [word.strip(":") for word in [update, *others] if word.strip(":")]
+        joined = Update(":".join(pieces[:4]))
+        is_one = [option for option, _ in options].count("-U") == 1 and joined.operation in "rwv" and joined.file
+        cure = f"give -U {shlex.quote(joined.given)}" if is_one else "MEMORY:OP:FILE:FORMAT"
+        raise Fault(f"an update is one word: {cure}")
     if re.match("-.", other):
         raise Fault(f"{other} is after --, which ends the options: leave out --")
     if re.match(r"[a-z]+:[rwv]:", other):
@@ -459,6 +463,13 @@ class Update:
         """Whether a memory is read into a file that can only be written once."""
         is_other = self.file == "-" or os.path.exists(self.file) and not os.path.isfile(self.file)
         return self.operation == "r" and is_other
+
+    def unwritten(self) -> Update:
+        """Returns this update of a stream as it is judged, with a file that keeps nothing."""
+        other = copy.copy(self)
+        form = "" if self.format is None else f":{self.format}"
+        other.text = f"{self.memory}:{self.operation}:{os.devnull}{form}"
+        return other
 
     def kind(self) -> str | None:
         """Returns the letter of an image's format, which is detected if none is given; None of values."""
