@@ -1595,7 +1595,7 @@ FOLLOWED = [
         changed("^flash:.*", "flash:w:blink.hex:i"),
     ),
     (
-        r"there is no such file|it is a symbolic link to a missing file|you may not read it"
+        r"there is no such file|it is a symbolic link, and the file it leads to is missing|you may not read it"
         r"|the system refuses to open it",
         changed("^flash:.*", "flash:w:blink.hex:i"),
     ),
@@ -1638,7 +1638,7 @@ FOLLOWED = [
     (r"run the same command again$", lambda words, *_: words),
     (
         r"holds something else than [^;]*$|: use a programmer(, whose erase also clears the bootloader)?$"
-        r"|: power-cycle the board$|may be worn$|may be worn, or a lock|damaged$",
+        r"|: power-cycle the board$|may be worn$|may be worn, or a lock|the wires or the clock are bad$",
         lambda *_: None,
     ),
     (r"use another (one|programmer)$|which is not known here|is not supported: .* Use avrdude", lambda *_: None),

@@ -173,7 +173,7 @@ class Words:
         kind = next(
             (at for at, begin in enumerate((b"error: ", b"warning: ")) if line.startswith(b"avrstk: " + begin)), 2
         )
-        return not line.startswith(b"avrstk: ") or kind + self.flags.count("-q") <= 2
+        return not line.startswith(b"avrstk: ") or kind + min(self.flags.count("-q"), 2) <= 2
 
     def content(self, file: str) -> bytes | None:
         """Returns the bytes of an image, which are read once; None if it can't be opened, which avrstk reports."""
