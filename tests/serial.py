@@ -1602,7 +1602,7 @@ FOLLOWED = [
     (r"a format is one letter: give -U (\S+);", changed("^flash:.*", r"\1")),
     (r"a value is written as 0xE2", changed(":E2:", ":0xE2:")),
     (
-        r"has no option before it: to write it into flash give (-U) (\S+)$",
+        r"belongs to no option: to write it into flash give (-U) (\S+)$",
         lambda words, _, found: [*words[:-1], found[1], found[2]],
     ),
     (r"a value needs :m after it: give (\S+) if it is hexadecimal", changed("^lfuse.*", r"\1")),

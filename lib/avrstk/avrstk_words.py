@@ -281,11 +281,13 @@ def judge_words(options: Sequence[tuple[str, str]], others: Sequence[str]) -> No
         raise Fault(f"a name with blanks needs quotes: give -U {shlex.quote(whole)}")
     if memory in MEMORIES and rest in ("", "r", "w", "v", "r:", "w:", "v:"):
         raise Fault(f"an update is one word: give -U {shlex.quote(':'.join([update.rstrip(':'), *others[:3]]))}")
+    if other == "all" and dict(options).get("--try-rows") == "safe":
+        raise Fault("all belongs to no option: give --try-rows=all")
     if re.match("-.", other):
         raise Fault(f"{other} is after --, which ends the options: leave out --")
     if re.match(r"[a-z]+:[rwv]:", other):
-        raise Fault(f"{other} has no option before it: give -U {shlex.quote(other)}")
-    raise Fault(f"{other} has no option before it: to write it into flash give -U {shlex.quote(f'flash:w:{other}')}")
+        raise Fault(f"{other} belongs to no option: give -U {shlex.quote(other)}")
+    raise Fault(f"{other} belongs to no option: to write it into flash give -U {shlex.quote(f'flash:w:{other}')}")
 
 
 class Update:
