@@ -393,7 +393,7 @@ def ends_early():
         check_equal(f"{what} at {row}: the status", status, 1)
         plug.end()
         if what.startswith("Ctrl-C"):
-            check(f"{what}: nothing is to be restored", not any("is changed" in line for line in own), str(own))
+            check(f"{what}: nothing is to be restored", not any("changed" in line for line in own), str(own))
         else:
             command = serial.shlex.split(own[-1].partition("What restores it: ")[2])
             check(f"{what} at {row}: a command restores it", command[:1] == [str(serial.SCRIPT)], str(own))
@@ -402,6 +402,48 @@ def ends_early():
             check_equal(f"{what} at {row}: what that command does", serial.run(command[1:])[0], 0)
             again.end()
         check_equal(f"{what} at {row}: the chip", room.read("wrong.bin"), CHIP)
+
+
+def unreadable():
+    """If flash can't be read, nothing is erased, and a page of EEPROM can be restored. If the trial can't restore the
+    chip, or a first reading was wrong, the last line names the folder."""
+    for words in SAFE, ALL:
+        plug = Plug(Wrong(pretends(b"\x14", b"\x14\xc0")).call)
+        found, own = tried(f"no flash {words}", [*TINY, "-P", plug.device, *words], [], WRITING, COMPARED)
+        plug.end()
+        check_equal(f"no flash {words}: why", {found[row][1] for row in WRITING}, {"flash can't be read"})
+        check(f"no flash {words}: the chip is as before", not any("changed" in line for line in own), str(own))
+        check_equal(f"no flash {words}: the chip", room.read("wrong.bin"), CHIP)
+    plug = Plug(Wrong(once(b"\x18\4\x50\0", 1, 0x20)).call)
+    _, own = tried("a wrong first reading", [*TINY, "-P", plug.device, *SAFE], ["reads fuses", "SIGN_ON"], WRITING)
+    plug.end()
+    read = f"What was read at first is in {own[0].rpartition(' ')[2]}"
+    wanted = f"the chip now reads otherwise than at first, so it may be changed. {read}"
+    check_equal("a wrong first reading: the last line", own[-1], wanted)
+    for what, row, code in ("no flash", b"\x15", b"\x14"), ("no calibration", b"\x13", b"\x1c"):
+        done = []
+
+        def act(body, ask):
+            done.extend([True] * (body[:1] == row))
+            return None if done else code + b"\xc0" if body[:1] == code else ask(body)
+
+        plug = Plug(Wrong(act).call)
+        status, _, _, own = serial.run([*TINY, "-P", plug.device, *ALL])
+        plug.end()
+        check_equal(f"{what}, silent at {row}: the status", status, 1)
+        command = serial.shlex.split(own[-1].partition("What restores it: ")[2])
+        check_equal(
+            f"{what}, silent at {row}: the last words",
+            own[-1].split()[-1][-8:],
+            {"no flash": "page.hex:i"[-8:], "no calibration": own[0].split()[-1][-8:]}[what],
+        )
+        check_equal(f"{what}: a command", bool(command), what == "no flash")
+        if command:
+            again = Plug(Wrong(lambda body, ask: ask(body), chip=room.read("wrong.bin")).call)
+            command[command.index("-P") + 1] = again.device
+            check_equal(f"{what}: what that command does", serial.run(command[1:])[0], 0)
+            again.end()
+            check_equal(f"{what}: the chip", room.read("wrong.bin"), CHIP)
 
 
 def refused():
@@ -510,7 +552,7 @@ def version1():
 
 CASES = named(
     *(emulated, faults_of_the_line, faults_of_a_chip, wrong, unseen),
-    *(babbles, ends_early, refused, mega_2560, version1),
+    *(babbles, ends_early, unreadable, refused, mega_2560, version1),
 )
 
 

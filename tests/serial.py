@@ -1596,14 +1596,14 @@ FOLLOWED = [
         changed("^flash:.*", "flash:w:blink.hex:i"),
     ),
     (
-        r"there is no such file|it is a symbolic link to a missing file|you may not read it"
+        r"there is no such file|it is a symbolic link, and the file it leads to is missing|you may not read it"
         r"|the system refuses to open it",
         changed("^flash:.*", "flash:w:blink.hex:i"),
     ),
     (r"a format is one letter: give -U (\S+);", changed("^flash:.*", r"\1")),
     (r"a value is written as 0xE2", changed(":E2:", ":0xE2:")),
     (
-        r"has no option before it: to write it into flash give (-U) (\S+)$",
+        r"belongs to no option: to write it into flash give (-U) (\S+)$",
         lambda words, _, found: [*words[:-1], found[1], found[2]],
     ),
     (r"a value needs :m after it: give (\S+) if it is hexadecimal", changed("^lfuse.*", r"\1")),
@@ -1643,7 +1643,7 @@ FOLLOWED = [
     (
         r"holds something else than [^;]*$|: use a programmer(, whose erase also clears the bootloader)?$"
         r"|: use a programmer\. If this is one, use another; the chip (is unchanged|may be erased or partly written)$"
-        r"|: power-cycle the board$|may be worn$|may be worn, or a lock|damaged$",
+        r"|: power-cycle the board$|may be worn$|may be worn, or a lock|the wires or the clock are bad$",
         lambda *_: None,
     ),
     (r"use another (one|programmer)$|which is not known here|is not supported: .* Use avrdude", lambda *_: None),

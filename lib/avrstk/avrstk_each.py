@@ -90,7 +90,7 @@ class Counter:
             return self.least
         # (after the greatest number the file has one more)
         if not re.fullmatch("[0-9]{1,16}\n", text):
-            raise Fault(f"--counter {self.given} is not a number and a line end")
+            raise Fault(f"--counter {self.given} has to be one line with a number of at most 16 digits")
         return max(int(text), self.least or 0)
 
     def take(self, most: int, why: str) -> int:

@@ -252,13 +252,24 @@ def unopened(words: Words, found: Match[str]) -> str:
             return f"a value needs :m after it: give {base}"
         if os.path.isfile(front):
             return f"a format is one letter: give -U {shlex.quote(f'{update}:{front}')}"
-    if not os.path.lexists(file):
+    if is_missing(file):
         return "there is no such file"
-    if not os.path.exists(file):
-        return "it is a symbolic link to a missing file"
+    if os.path.islink(file) and not os.path.exists(file):
+        return "it is a symbolic link, and the file it leads to is missing or can't be reached"
     if not os.access(file, os.R_OK):
         return "you may not read it"
     return "the system refuses to open it"
+
+
+def is_missing(file: str) -> bool:
+    """Whether no file has this name; not if a folder on the way to it is closed."""
+    try:
+        os.lstat(file)
+    except PermissionError:
+        return False
+    except OSError:
+        return True
+    return False
 
 
 def as_value(text: str) -> str:
@@ -299,6 +310,12 @@ def differs(words: Words, found: Match[str]) -> str:
         is_hidden = memory in ("flash", "eeprom") and not words.is_bootloader and not erases(words)
         return f"{memory} holds something else than {compared}" + f", {HIDDEN}" * is_hidden
     if memory in FUSES:
+        known = [(update.operation, update.value()) for update in own]
+        mask = 0xFF if bits is None else bits
+        # (what is written is compared before a later comparison)
+        first = next((act for act, value in known if value is not None and not (value ^ wanted) & mask), "w")
+        if first == "v":
+            return f"{memory} holds something else than 0x{wanted:02X}"
         return unlike_fuse(words, memory, wanted, held)
     if is_after_lock(words, memory):
         return lock_last(words)
@@ -339,7 +356,7 @@ def lock_last(words: Words) -> str:
 
 def unlike_fuse(words: Words, memory: str, wanted: int, held: int) -> str:
     """Returns the hint if a fuse or the lock holds another value than the one that was written."""
-    cause = "the chip or the programmer is damaged" if erases(words) else LOCKED
+    cause = "the chip or the programmer is damaged, or the wires or the clock are bad" if erases(words) else LOCKED
     if is_after_lock(words, memory):
         cause = lock_last(words)
     if memory == "lock" and words.restore is None and not words.is_version1:

@@ -252,6 +252,8 @@ class Rows:
         if lock and lock[0] & 3 != 3:
             raise Ended(f"the chip is locked ({hexed(lock)}), so nothing is tried")
         self.chip = self.saved = self.whole()
+        # (flash that can't be read can't be restored)
+        self.is_all &= self.saved["flash"] is not None
         self.folder = tempfile.mkdtemp("", "try-rows-", ".")
         for memory, held in self.saved.items():
             self.save(f"{memory}.{FILES[memory][:3]}", held)
@@ -267,11 +269,14 @@ class Rows:
                 file.write(values if name.endswith("txt") else "".join(hex_rows([(begin, held[begin:])])))
 
     def begin_to_change(self) -> None:
-        """Notes the command that restores the chip from now on."""
+        """Notes the command that restores the chip from now on, or the folder if no command does."""
         page = ("-U", f"eeprom:w:{self.folder}/page.hex:i") if self.saved["eeprom"] else ()
-        front = ("-D", "-U", f"flash:w:{self.folder}/front.hex:i", *page)
-        all_of_it = front if self.words.is_bootloader else (f"--restore={self.folder}",)
-        self.undo = command_again(self.words, *(all_of_it if self.is_all else page))
+        words, is_whole = page, None not in self.saved.values()
+        if self.is_all:
+            front = ("-D", "-U", f"flash:w:{self.folder}/front.hex:i", *page)
+            words = front if self.words.is_bootloader else (f"--restore={self.folder}",) * is_whole
+        command = command_again(self.words, *words)
+        self.undo = f"What restores it: {command}" if words else f"What was read at first is in {self.folder}"
 
     def only(self, *memories: str) -> Chip:
         return {memory: self.chip[memory] for memory in memories}
@@ -375,8 +380,6 @@ class Rows:
 
     def changes(self) -> None:
         """Erases, and writes flash, fuses and the lock."""
-        if self.chip["flash"] is None:
-            return self.leave_out_all("flash can't be read")
         self.begin_to_change()
         is_erased = self.erase()
         one, other = os.urandom(self.part["flash_page"]), os.urandom(self.part["flash_page"])
@@ -432,7 +435,8 @@ class Rows:
         if self.is_all:
             self.changes()
         else:
-            self.leave_out_all("--try-rows=all tries it, at a chip to spare")
+            more = "--try-rows=all --yes tries it, at a chip that you can lose"
+            self.leave_out_all("flash can't be read" if self.chip["flash"] is None else more)
         self.programmer.ask(LEAVE)
 
     def put_back(self) -> None:
@@ -479,7 +483,8 @@ def try_rows(words: Words, opens: Callable[[], Opened]) -> int:
     print_line(f"{sum(tried)} of {len(tried)} rows are met, tried at some addresses; {again} commands repeated")
     print_line(f"promised of such a programmer: {'not known' if why else rows.left()}")
     if rows.undo:
-        print_line(f"the chip is changed. What restores it: {rows.undo}")
+        print_line(f"the chip is changed. {rows.undo}")
     elif rows.chip != rows.saved:
-        print_line(f"the chip is changed. What it held is in {rows.folder}")
+        seen = "the chip now reads otherwise than at first, so it may be changed"
+        print_line(f"{seen}. What was read at first is in {rows.folder}")
     return 0 if all(tried) and not why else 1

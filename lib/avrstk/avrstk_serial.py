@@ -664,7 +664,7 @@ def judge_bootloader(words: Words) -> None:
     name = f"-c {words.programmer}"
     is_for, programmer = f"{name} is for a bootloader", f"With a programmer leave out {name}"
     if words.is_version1:
-        programmer = f"With Arduino as ISP give -c arduino_as_isp, and with another programmer leave out {name}"
+        programmer = f"With Arduino as ISP give -c arduino_as_isp, and with a programmer of STK500v2 leave out {name}"
     cures = ["leave out -e"] if "-e" in words.flags else []
     cures += ["use -D"] if writes and "-D" not in words.flags else []
     if cures and not is_dry:

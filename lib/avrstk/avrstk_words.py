@@ -173,7 +173,7 @@ class Words:
         kind = next(
             (at for at, begin in enumerate((b"error: ", b"warning: ")) if line.startswith(b"avrstk: " + begin)), 2
         )
-        return not line.startswith(b"avrstk: ") or kind + self.flags.count("-q") <= 2
+        return not line.startswith(b"avrstk: ") or kind + min(self.flags.count("-q"), 2) <= 2
 
     def content(self, file: str) -> bytes | None:
         """Returns the bytes of an image, which are read once; None if it can't be opened, which avrstk reports."""
@@ -285,11 +285,13 @@ def judge_words(options: Sequence[tuple[str, str]], others: Sequence[str]) -> No
         is_one = [option for option, _ in options].count("-U") == 1 and joined.operation in "rwv" and joined.file
         cure = f"give -U {shlex.quote(joined.given)}" if is_one else "MEMORY:OP:FILE:FORMAT"
         raise Fault(f"an update is one word: {cure}")
+    if other == "all" and dict(options).get("--try-rows") == "safe":
+        raise Fault("all belongs to no option: give --try-rows=all")
     if re.match("-.", other):
         raise Fault(f"{other} is after --, which ends the options: leave out --")
     if re.match(r"[a-z]+:[rwv]:", other):
-        raise Fault(f"{other} has no option before it: give -U {shlex.quote(other)}")
-    raise Fault(f"{other} has no option before it: to write it into flash give -U {shlex.quote(f'flash:w:{other}')}")
+        raise Fault(f"{other} belongs to no option: give -U {shlex.quote(other)}")
+    raise Fault(f"{other} belongs to no option: to write it into flash give -U {shlex.quote(f'flash:w:{other}')}")
 
 
 class Update:
