@@ -207,9 +207,13 @@ def a_proved_program_is_not_marked():
     description = " ".join(field(found, "Description").split())
     check(
         "the unproved program in the proved one's place is marked",
-        UNKNOWN in description and PROGRAMS_PROVED not in description,
+        f"{UNKNOWN} Packaged at commit" in description and PROGRAMS_PROVED not in description,
         output,
     )
+    with tempfile.TemporaryDirectory() as folder:
+        subprocess.run(["dpkg-deb", "-x", found, folder], check=True)
+        stamp = Path(folder, "usr/lib/avrstk/avrstk.stamp").read_text()
+    check_equal("its stamp", stamp, "not known whether it is proved\n")
 
 
 def unpacked(name, folder):

@@ -792,7 +792,9 @@ def retries_that_are_refused():
         return status, own[0].partition("may not repair this one: ")[2]
 
     two = ["-U", "flash:w:blink.hex:i", "-U", "flash:w:late.hex:i"]
-    check_equal("--retry without avrstk_session", ran(*two), (1, "it may write a page of flash twice"))
+    check_equal(
+        "--retry without avrstk_session", ran(*two), (1, "it isn't known whether two images share a page of flash")
+    )
     # (what prints the pages of a plan is beside avrstk)
     (room.folder / "avrstk_session").symlink_to(SESSION)
     for words, why in table("retries"):

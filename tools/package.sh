@@ -140,17 +140,22 @@ kit=$(sed -n 's/^kit: //p' <<<"$stamp")
 kit=${kit:-an unknown kit}
 version=$release
 proof="$programs_proved $kit."
+made="Commit $commit."
+stated=$(printf '%s\ncommit: %s\nkit: %s' "${stamp%%$'\n'*}" "$commit" "$kit")
 mark=""
 if [[ $stamp != proved* ]]; then
     proof="UNPROVED: this build was compiled without its proofs, by $kit. Nothing of it was proved."
-    [[ $stamp == unproved* ]] || proof="UNPROVED: no stamp says that this build was proved, or from which sources."
+    if [[ $stamp != unproved* ]]; then
+        proof="UNPROVED: no stamp says that this build was proved, or from which sources."
+        made="Packaged at commit $commit." stated=$stamp
+    fi
     mark=" (unproved build)"
     # (dpkg takes a proved package of the same version as newer)
     version+="~unproved"
 fi
 mkdir "$all/DEBIAN"
 strip --remove-section=.comment --remove-section=.note "${programs[@]}"
-printf '%s\ncommit: %s\nkit: %s\n' "${stamp%%$'\n'*}" "$commit" "$kit" >"$all/usr/lib/avrstk/avrstk.stamp"
+printf '%s\n' "$stated" >"$all/usr/lib/avrstk/avrstk.stamp"
 gzip -9n "$all"/usr/share/man/man[17]/*
 document avrstk "$all" "$version" "$proof" "$kit"
 docs=$all/usr/share/doc/avrstk
@@ -210,5 +215,5 @@ Depends: $depends, python3 (>= 3.8)
 $(described "program AVR microcontrollers through an STK500v2 programmer$mark" \
     "It takes many options of AVRDUDE and speaks STK500v2 to a programmer or a bootloader. An emulated programmer and
 part are built in. avrstk-serial is for programmers and boards on a serial device, avrstk-serve is an emulated
-programmer on the network." "$proof" "Commit $commit.")
+programmer on the network." "$proof" "$made")
 END

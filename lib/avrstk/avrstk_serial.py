@@ -132,8 +132,12 @@ def unrepaired(words: Words) -> str | None:
         if update.operation == "w":
             if "lock" in written:
                 return "it writes after the lock"
-            if update.memory == "flash" and "flash" in written and overlaps(words.plan().pages):
-                return "it may write a page of flash twice"
+            if update.memory == "flash" and "flash" in written and "-n" not in words.flags:
+                pages = words.plan().pages
+                if not pages:
+                    return "it isn't known whether two images share a page of flash"
+                if overlaps(pages):
+                    return "it writes a page of flash twice"
             written.add(update.memory)
     lost = overwritten(words)
     if lost:
@@ -141,10 +145,8 @@ def unrepaired(words: Words) -> str | None:
     return "a second one may erase EEPROM that this one keeps" if may_erase_kept(words) else None
 
 
-def overlaps(pages: list[tuple[int, int]] | None) -> bool:
-    """Whether two of these pages overlap, each with its place and length; yes if the pages are not known."""
-    if not pages:
-        return True
+def overlaps(pages: list[tuple[int, int]]) -> bool:
+    """Whether two of these pages overlap, each with its place and length."""
     pages = sorted(pages)
     return any(at + count > later for (at, count), (later, _) in zip(pages, pages[1:]))
 
@@ -705,7 +707,7 @@ def joined(writes: list[Update], pages: list[tuple[int, int]]) -> str:
     fill = ["-fill", "0xFF", "0", f"0x{max(at + count for at, count in pages):X}"] if pages else []
     words = ["(", *words, ")"] if len(words) > 2 and fill else words
     # (srec_cat joins no images that have different bytes at an address)
-    over = ["-contradictory-bytes=ignore"] * (len(writes) > 1 and overlaps(pages))
+    over = ["-contradictory-bytes=ignore"] * (len(writes) > 1 and (not pages or overlaps(pages)))
     line = " ".join(map(shlex.quote, ["srec_cat", *over, *words, *fill, "-o", "joined.hex", "-Intel"]))
     notes = ["whose gaps are FF"] * bool(fill) + ["in which the last of overlapping images counts"] * bool(over)
     below = "; BELOW.hex has what is to stay below" * ("BELOW.hex" in words)

@@ -37,6 +37,8 @@ MOST, MOST_OF_ELF = 1 << 26, 1 << 20
 # a file of records begins so, by avrstk's rule, and a record with data so
 RECORD = re.compile(rb"(?:[ \t\r]*\n)*(?::[0-9A-Fa-f]{10}|S[0-9][0-9A-Fa-f]{8})")
 DATA = re.compile(rb"^(?::(?!00)..(?:....)00|S1(?!03)|S2(?!04)|S3(?!05))", re.M)
+# the beginning of a record after a blank, or after a line that ends in CR alone
+MARKED = re.compile(rb"[ \t\r](?::|S[123])")
 END = re.compile(rb"^(?::00....01|S[789])", re.M)
 
 # how files begin that are neither firmware nor text
@@ -385,7 +387,8 @@ class Update:
             return self.fault_of_elf(held)
         if is_elf and self.format == "r":
             return "is ELF, not the bytes of a memory: leave out :r"
-        if not held or begins and self.format != "r" and not DATA.search(held):
+        # (avrstk reports where records are that it can't read)
+        if not held or begins and self.format != "r" and not (DATA.search(held) or MARKED.search(held)):
             return "is empty (did its build fail?)"
         end = END.search(held) if begins and self.format != "r" else None
         if end and DATA.search(held, end.end()):
