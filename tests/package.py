@@ -207,8 +207,8 @@ def a_proved_program_is_not_marked():
     description = " ".join(field(found, "Description").split())
     check(
         "the unproved program in the proved one's place is marked",
-        f"{UNKNOWN} Packaged at commit" in description and PROGRAMS_PROVED not in description,
-        output,
+        all(text in description for text in [UNKNOWN, "Packaged at commit"]) and PROGRAMS_PROVED not in description,
+        description,
     )
     with tempfile.TemporaryDirectory() as folder:
         subprocess.run(["dpkg-deb", "-x", found, folder], check=True)
