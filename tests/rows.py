@@ -490,7 +490,7 @@ def mega_2560():
     words = ["--parts", "mega.toml", "-p", "m2560", "-c", "wiring"]
     with mega.Board(content) as board:
         plug = Plug(board.call)
-        wrong, promise = ["reads EEPROM", "writes flash", "writes lock"], f"{COMPARED}{UNTRIED} (not EEPROM)"
+        wrong, promise = ["reads EEPROM", "writes flash", "writes lock"], f"{COMPARED} (not EEPROM)"
         found, _ = tried("a Mega, all", [*words, "-P", plug.device, *ALL], wrong, ["writes EEPROM"], promise)
         for name, code in ("erases", "12"), ("writes fuses", "17"), ("reads calibration", "1C"):
             check(f"a Mega, {name}: refused", f"{code} C0" in found[name][1], found[name])
