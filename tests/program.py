@@ -98,10 +98,10 @@ class Room:
         return file.read_bytes() if file.is_file() else None
 
     def clear(self):
-        """Removes the files that runs have made."""
+        """Removes the files and folders that runs have made."""
         for file in self.folder.iterdir():
             if file.name not in self.given:
-                file.unlink()
+                shutil.rmtree(file) if file.is_dir() and not file.is_symlink() else file.unlink()
 
     def start(self, words, given=subprocess.DEVNULL, closed="", front=(), program=(PROGRAM,), **more):
         """Starts a run of the program with these options. `front` is a command that runs it, and `closed` has shell

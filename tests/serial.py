@@ -620,7 +620,7 @@ def what_is_missing():
 
         modules = "avrstk_serial is not there: its modules are in lib/avrstk, here or beside this folder"
         check_equal("no modules", ran(), (1, "", f"avrstk-serial: {modules}\n"))
-        shutil.copytree(SHARED, Path(folder, "lib"))
+        shutil.copytree(SHARED, Path(folder, "lib"), ignore=shutil.ignore_patterns("__pycache__"))
         Path(folder, "sitecustomize.py").write_text("import sys\nsys.modules['json'] = None\n")
         for script in ("avrstk-serial", "avrstk-serve"):
             command, environment = [sys.executable, str(TOP / script), "-p", "m328p"], own_environment(
