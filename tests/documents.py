@@ -79,6 +79,18 @@ def what_check_quotes():
     check("quotes something", len(quoted) > 8 and len(cells) > 20, (quoted, cells))
 
 
+def known_mistakes():
+    """Rows/Mistakes of avr_laws names a clause for each row, and the contract of the named function has it."""
+    rows = text("crates/avr_laws/proofs/Rows/Mistakes.antt")
+    named = re.findall(r"\((?:`(\w+)` of )?(\w+?)'s? `(\w+)`\)", rows)
+    check("each row is under a comment that names a clause", len(named) >= 15, len(named))
+    for clause, crate, function in named:
+        sources = "".join(path.read_text() for path in (TOP / f"crates/{crate}/src").glob("*.rt"))
+        heads = re.findall(rf"fn {function}\b.*?\n\s*\{{\n", sources, re.S)
+        found = any(re.search(rf"ensures {clause}\s*\{{", head) for head in heads)
+        check(f"{crate}'s {function} has {clause or 'one clause'}", found)
+
+
 def the_first_change():
     """CONTRIBUTING's first change can be made: the text is once in its file, and once in the test's table."""
     begun = re.search(r"replace `([^`]*)`\s+by", words(text("CONTRIBUTING.md")))[1]
@@ -215,6 +227,7 @@ def python():
 
 CASES = named(
     what_check_quotes,
+    known_mistakes,
     what_is_trusted,
     the_first_change,
     the_hint,

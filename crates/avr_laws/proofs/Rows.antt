@@ -17,4 +17,6 @@ pub mod OtherChips
 pub mod EachSecond
 pub mod PageCounter
 pub mod WrongRows
+pub mod Mistakes
+pub mod HostMistakes
 pub mod Bootloader
