@@ -36,7 +36,7 @@ use Rattle.avr_laws.specs.Worked.{worked_settings}
 
 -- ---- replies and attempts
 
--- a frame of another number is no reply (`played` of stk_host's `exchange`)
+-- a frame of another number is no reply (`yes` of stk_host's `is_reply`)
 pub other_number_is_no_reply : answer 2 (on_tape (frame 1 (0x01 ∷ 0x00 ∷ [])) ++ Silence ∷ []) ≡ Some (Silent, [])
 unfolding answer
 other_number_is_no_reply = refl
@@ -122,8 +122,18 @@ unheard = Ok in_code.Silence
 pub no_other_timeout : IfOk unheard (λ heard. heard ≡ in_code.Silence → ⊥) → ⊥
 no_other_timeout silent = silent refl
 
+-- while the writer still holds a byte, nothing counts as sent (`out` of stk_host's `put_bytes`)
+abbrev sent_one : Result ℕ LinkFault
+sent_one = Ok 1
+
+abbrev byte : List ℕ
+byte = 1 ∷ []
+
+pub held_is_not_sent : OnOk sent_one (byte ≡ []) → ⊥
+held_is_not_sent out = cc out
+
 -- what the writer took is in the transcript (`taken` of stk_host's `put_bytes`)
-pub taken_is_recorded : TakesKnownBytes (1 ∷ []) [] (Taken [] ∷ []) (Some []) (Some (1 ∷ [])) → ⊥
+pub taken_is_recorded : TakesKnownBytes byte [] (Taken [] ∷ []) (Some []) (Some byte) → ⊥
 taken_is_recorded taken = search rules
 
 -- ---- sessions
