@@ -48,10 +48,8 @@ CHECKED = (
 )
 # scripts that run no program of this project, or compile it themselves; the longest first
 SOURCES = (
-    "rattle tests",
+    "rattle tests examples refused",
     "build",
-    "rattle examples",
-    "rattle refused",
     "vendor",
     "rattle names",
     "documents",
