@@ -33,8 +33,10 @@ TYPE = re.compile(r"(?:pub(?:\(crate\))? )?(?:struct|enum|trait|type) (\w+)")
 DATA = re.compile(r"(?:pub (?:record|data)|abbrev pub(?= [A-Z]\w* : Type 0$)) ([A-Z]\w*)")
 TEST = re.compile(r"/src/(?:.*/)?(?:\w*tests?|examples)(?:/|\.rt)")
 
-# lines of proofs in the crates that no program needs: a new law pays for itself
+# lines of proofs in the crates that no program needs: a new law pays for itself. Rows of mistakes don't count, because
+# they are in place of mutants
 MOST_ABOVE = 9_300
+MISTAKES = "crates/avr_laws/proofs/Rows/*Mistakes.antt"
 
 LONG = 30
 WORDS_A_MINUTE = 220
@@ -158,9 +160,10 @@ def figures():
 def above_bound(page):
     """Yields what the page's sums show if the crates that no program needs have too many lines of proofs."""
     sums = dict(re.findall(r"^\| (the program|in all) (?:\| \d+ ){3}\| (\d+) ", page, re.M))
-    above = int(sums["in all"]) - int(sums["the program"])
+    mistakes = sum(is_text(line, path.name) for path in TOP.glob(MISTAKES) for line in path.read_text().splitlines())
+    above = int(sums["in all"]) - int(sums["the program"]) - mistakes
     if above > MOST_ABOVE:
-        yield f"the crates that no program needs have {above} lines of proofs; at most {MOST_ABOVE} are allowed"
+        yield f"the crates that no program needs have {above} lines of proofs that count, not {MOST_ABOVE} at most"
 
 
 def with_figures(page):
