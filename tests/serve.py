@@ -551,7 +551,8 @@ def signals_that_are_ignored():
 
 def link_addresses():
     """Returns an address of one link (IPv6), with its interface; none if this machine has none."""
-    rows = [row.split() for row in Path("/proc/net/if_inet6").read_text().splitlines()]
+    file = Path("/proc/net/if_inet6")
+    rows = [row.split() for row in file.read_text().splitlines()] if file.exists() else []
     found = [(socket.inet_ntop(socket.AF_INET6, bytes.fromhex(row[0])), row[5]) for row in rows if row[3] == "20"]
     return [f"{address}%{name}" for address, name in found[:1]]
 

@@ -22,7 +22,7 @@ import sys
 import tempfile
 import termios
 import time
-from fcntl import ioctl
+from fcntl import LOCK_EX, flock, ioctl
 from pathlib import Path
 
 import serial
@@ -198,10 +198,22 @@ def one_command():
         shutil.rmtree(room.folder / f"kept-emu-{name}.bin")
 
 
+def a_full_output():
+    """If what a board reads can't be printed, its run counts as failed, in the table and in the report."""
+    with open("/dev/full", "wb") as full:
+        words = ["-p", "m328p", "-P", "emu:a.bin", "-P", "emu:b.bin", "-U", "lfuse:r:-:h", "--json", "report.json"]
+        status, _, messages = run(words, stdout=full)
+    boards = [(board["status"], board["kind"]) for board in report()["runs"]]
+    check_equal("the report", (status, report()["status"], boards), (1, 1, [(1, "file")] * 2))
+    check_equal("the table", messages[-1], "avrstk-serial: 2 boards: 0 done, 2 failed")
+
+
 def refused():
     """A refused command opens no device and takes no number; its line comes once."""
     texts = {"counter": "7\n", "bad": "seven\n", "cut": "7", "full": f"{10**15}\n"}
     texts |= {"rows.csv": "serial,mac\nA1,0102\nA2,0304\n", "empty.csv": "serial\n", "odd.csv": "serial,mac\nA1\n"}
+    texts |= {"blank.csv": "\n\n"}
+    os.mkfifo(room.folder / "pipe")
     for name, text in texts.items():
         room.put(name, text.encode())
 
@@ -453,6 +465,30 @@ def signals():
     check_equal("its report", [board["chip"] for board in report()["runs"]], ["unchanged"] * 3)
 
 
+def waits_for_a_number():
+    """If a signal comes while another program has the counter, no number is taken, and the line says what the chip is."""
+    lock = room.folder / "counter.lock"
+    with lock.open("w") as held:
+        flock(held, LOCK_EX)
+        with forks:
+            words = [SCRIPT, "-p", "m328p", "-P", "emu:x.bin", *COUNTED]
+            station = subprocess.Popen(words, cwd=room.folder, **HOW)
+        wait_until(lambda: lock.resolve() in opened_by(station.pid))
+        station.send_signal(signal.SIGINT)
+        messages = station.communicate(timeout=PATIENCE)[1].decode().splitlines()
+    line = "avrstk-serial: ended before a number was taken; the chip is unchanged"
+    check_equal("its line", (station.returncode, messages, room.read("counter")), (1, [line], None))
+
+
+def opened_by(process):
+    """Returns the files that a process has open."""
+    found = []
+    for link in Path(f"/proc/{process}/fd").iterdir():
+        with contextlib.suppress(OSError):
+            found.append(link.resolve())
+    return found
+
+
 def busy(words, count, what=b"chip erased"):
     """Starts the script, and returns it once so many boards have printed this."""
     file = (room.folder / "messages").open("w+b")
@@ -520,15 +556,15 @@ def ordinary_user():
             if wanted:
                 check(
                     f"{file}: the error",
-                    b"number.lock: Permission denied: no number was taken" in ran.stderr,
+                    b"number.lock: Permission denied: no number was used" in ran.stderr,
                     ran.stderr,
                 )
         check_equal("its number", (folder / "his/number").read_text(), "5\n")
 
 
 CASES = named(
-    *(twenty_doubles, refused, into_images, numbers_given_once, one_command, all_devices),
-    *(retried, signals, progress, ordinary_user),
+    *(twenty_doubles, refused, into_images, numbers_given_once, one_command, a_full_output, all_devices),
+    *(retried, signals, waits_for_a_number, progress, ordinary_user),
 )
 
 # boards that reply for a time, so that a busy machine can end their runs

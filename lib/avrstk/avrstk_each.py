@@ -31,14 +31,14 @@ class Spec:
     def __init__(self, given: str, names: list[str]) -> None:
         found = SPEC.fullmatch(given)
         if not found:
-            raise Fault(f"--each {given}: give MEMORY@ADDRESS=TEXT, such as eeprom@0x3F0={{n:06}}")
+            raise Fault(f"--each {given}: give flash@ADDRESS=TEXT or eeprom@ADDRESS=TEXT, such as eeprom@0={{n:06}}")
         self.given, self.memory, self.text = given, found[1], found[3]
         self.address = int(found[2], 16 if found[2][:2].lower() == "0x" else 10)
         fields = {field[1] for field in FIELD.finditer(self.text)}
+        if re.search("[{}]", FIELD.sub("", self.text)):
+            raise Fault(f"--each {given}: fields are {{n}}, {{n:06}}, {{n:04X}}, and {{COLUMN}} of --rows")
         if not fields:
             raise Fault(f"--each {given}: without a field such as {{n}} all boards get the same")
-        if re.search("[{}]", FIELD.sub("", self.text)):
-            raise Fault(f"--each {given}: a field is {{n}}, {{n:06}} or {{COLUMN}}")
         unknown = sorted(fields - set(names))
         if unknown:
             raise Fault(f"--each {given}: no field {', '.join(unknown)}; there is {', '.join(names)}")
@@ -86,11 +86,12 @@ class Counter:
             if not os.path.isdir(folder):
                 raise Fault(f"--counter {self.given}: there is no folder {folder}")
             if self.least is None:
-                raise Fault(f"--counter {self.given} is not there: --from N makes it, which begins with N")
+                ask = "is its name right? If it is new, give its first number, --from N"
+                raise Fault(f"--counter {self.given} is not there: {ask}")
             return self.least
         # (after the greatest number the file has one more)
         if not re.fullmatch("[0-9]{1,16}\n", text):
-            raise Fault(f"--counter {self.given} has to be one line with a number of at most 16 digits")
+            raise Fault(f"--counter {self.given} has to have a number of at most 16 digits, a newline, and no more")
         return max(int(text), self.least or 0)
 
     def take(self, most: int, why: str) -> int:
@@ -117,7 +118,7 @@ class Counter:
                 if ended_by():
                     raise Fault("ended before a number was taken")
                 if time.monotonic() > until:
-                    raise Fault(f"another program has held {self.file}.lock for {PATIENCE} seconds")
+                    raise Fault(f"another program holds {self.file}.lock: gave up after {PATIENCE} seconds")
                 time.sleep(0.005)
 
     def replace(self, text: bytes) -> None:
@@ -147,7 +148,7 @@ class Each:
         least, rows, counter = (words.last.get(option) for option in ("--from", "--rows", "--counter"))
         if counter is None:
             raise Fault("--each counts the boards: name the file that has the next number, --counter FILE")
-        if least is not None and not re.fullmatch("[0-9]{1,15}", least):
+        if least is not None and not re.fullmatch("0*[0-9]{1,15}", least):
             raise Fault(f"--from {least}: not a number from 0 to {MOST}")
         if "-n" in words.flags:
             raise Fault("--each writes, and -n writes nothing: leave out one of them")
@@ -185,7 +186,8 @@ class Each:
         try:
             self.number = self.counter.take(*self.last())
         except OSError as fault:
-            raise Fault(f"--counter {fault.filename or self.counter.given}: {fault.strerror}: no number was taken")
+            # (if only the last sync failed, the file has the next number already)
+            raise Fault(f"--counter {fault.filename or self.counter.given}: {fault.strerror}: no number was used")
         self.put(words, self.number)
         filled = "; ".join(f"{spec.memory}@0x{spec.address:X}={text}" for spec, text in self.texts(self.number))
         words.note(f"number {self.number}: {filled}")
@@ -240,7 +242,7 @@ def table_of(file: str) -> tuple[list[str], list[list[str]]]:
     except (csv.Error, UnicodeDecodeError) as fault:
         raise Fault(f"--rows {file}: {fault}")
     if not names:
-        raise Fault(f"--rows {file} is empty: its first line has the names of the columns")
+        raise Fault(f"--rows {file}: the first line has to have the names of the columns")
     if len(set(names)) < len(names) or "n" in names:
         raise Fault(f"--rows {file}: each column needs a name of its own, other than n")
     if not rows:
@@ -264,7 +266,7 @@ def joined(update: Update, content: bytes | None, pieces: list[Run], end: str) -
     if update.is_image and content is None:
         raise Fault(f"{update.file}: cannot be opened: {end}")
     if not update.is_image or content is None:
-        why = f"--each needs a file in place of values, or no -U of {update.memory}"
+        why = f"--each needs a file in place of values, or no -U that writes {update.memory}"
         raise Fault(f"-U {update.given}: {why}: {end}")
     one, whole = copy.copy(update), bytes(content)
     begins = RECORD.match(whole[:1024])

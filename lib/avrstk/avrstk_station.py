@@ -38,6 +38,8 @@ class Board:
         self.state = "begins"
         self.outcome: dict[str, Any] | None = None
         self.report: dict[str, Any] | None = None
+        # why a line of its output could not be printed
+        self.fault: str | None = None
 
     def start(self, live: Callable[[Words], int], others: list[Board]) -> None:
         """Starts its process, which gets no signal before it heeds signals."""
@@ -74,13 +76,13 @@ class Board:
         messages.put(self.front(line) + b"\n")
 
     def print_output(self, line: bytes) -> None:
-        """Prints a line of standard output. If that fails, all go on, and the status is 1."""
+        """Prints a line of standard output. If that fails, all go on, and this board's run counts as failed."""
         messages.draw("")
         try:
             show(os.fsdecode(self.front(line)))
         except Fault as fault:
+            self.fault = str(fault)
             self.print_message(f"{NAME}: {fault}".encode())
-            messages.lost = True
 
     def note(self, line: bytes) -> None:
         """Takes its progress, or at its end what became of it."""
@@ -102,6 +104,9 @@ class Board:
             self.outcome, self.report = outcome_of(self.words, report, 1)
             for held in (self.outcome, self.report or {}) if changes else ():
                 held["chip"] = "erased or partly written"
+        if self.fault and self.outcome and not self.outcome["status"]:
+            for held in (self.outcome, self.report or {}):
+                held.update(status=1, kind="file", error=self.fault)
         self.state = self.result()
 
     def result(self) -> str:
@@ -238,7 +243,7 @@ def name_of(device: str) -> str:
 def judge_outputs(words: Words) -> None:
     """Refuses outputs that several boards would write into."""
     reads = [update for update in words.updates if update.operation == "r"]
-    names = [update.file for update in reads if not update.is_stream()] + [words.backup or MARK]
+    names = [update.file for update in reads if update.file not in ("-", os.devnull)] + [words.backup or MARK]
     for name in names:
         if MARK not in name:
             raise Fault(f"{name}: each board needs a name of its own: give {MARK} in it: {UNOPENED}")
