@@ -825,11 +825,12 @@ def reports():
         (session["commands"], len(session["faults"]), session["idle"], session["saved"]) for session in held["sessions"]
     ]
     check_equal("the sessions", sessions, [(3, 1, False, True), (1, 0, False, False)])
-    with Serving("--json", "report.json", "--lose", "SIGN_ON", "--idle", "1") as server:
+    with Serving("--json", "report.json", "--lose", "SIGN_ON", "--idle", "1", "--log-limit", "1") as server:
         with server.call() as client:
             client.sendall(FRAMES[0])
             check_equal("an idle one ends", received(client, 1), b"")
-        server.end()
+        expected = "avrstk-serve: no byte passed for 1 seconds: a client is disconnected\n"
+        check_equal("no log is given, so none lacks a line", server.end(), (0, expected))
     (session,) = report()["sessions"]
     check_equal("it is idle", (session["commands"], session["idle"], session["saved"]), (1, True, True))
     (room.folder / "gone").mkdir()

@@ -163,10 +163,12 @@ class Traffic:
             print_line(f"faults are drawn with --seed {self.seed}")
 
     def open(self, *files: str | None) -> None:
-        """Opens the log, which is none of these files."""
-        name, limit = self.last.get("--log", os.devnull), self.last.get("--log-limit", f"{1 << 62}")
+        """Opens the log, if there is one. It is none of these files."""
+        name, limit = self.last.get("--log"), self.last.get("--log-limit", f"{1 << 62}")
         if not re.fullmatch("[0-9]{1,19}", limit):
             raise Fault(f"--log-limit {limit}: not a number of bytes with at most 19 digits")
+        if name is None:
+            return
         if os.path.realpath(name) in [os.path.realpath(file) for file in files if file]:
             raise Fault(f"--log {name}: this is the chip file or the part file")
         self.log = Log(name, int(limit))
