@@ -725,6 +725,17 @@ def logs_that_take_no_more():
     check("the log within its limit", log.endswith(b": SIGN_ON 01\n") and len(log) <= 100, log)
 
 
+def a_log_of_two():
+    """What another program appends to the log counts for --log-limit, too."""
+    with Serving("--log", "log", "--log-limit", "200") as server, server.call() as client:
+        with (room.folder / "log").open("ab") as other:
+            other.write(b"x" * 99 + b"\n")
+        for _ in range(10):
+            check("a reply", begins(client))
+        server.end()
+    check("the log within its limit", 100 < len(room.read("log")) <= 200, room.read("log"))
+
+
 def state_of(memory, old):
     """Returns what a memory holds: the old bytes, none, the new image, or a mixture."""
     image = bytes(image_of(room.read("blink.hex")).values())
@@ -842,7 +853,7 @@ def reports():
         server.end()
     (session,) = report()["sessions"]
     check_equal("it was idle", (session["idle"], session["saved"]), (True, False))
-    words = ["--json", "report.json", "--seed", "007", "--drop", "2%"]
+    words = ["--json", "report.json", "--seed", "007", "--drop", "2%", "--lose", ".5%"]
     found, messages, _ = ran(["0", *M328P, *words, "--", "sh", "-c", "exit 7"])
     check_equal("a command's status", (found, report()["status"], report()["seed"]), (7, 7, 7))
     check("its seed, without zeros in front", "faults are drawn with --seed 7\n" in messages, messages)
@@ -895,7 +906,8 @@ CASES = named(
         devices,
         logged,
     ),
-    *(avrdudes_in_a_row, faults, of_an_old_chip, a_job_ends, at_a_terminal, logs_that_take_no_more, reports, mega),
+    *(avrdudes_in_a_row, faults, of_an_old_chip, a_job_ends, at_a_terminal, logs_that_take_no_more),
+    *(a_log_of_two, reports, mega),
 )
 
 # an idle time, or AVRDUDE's own timeouts

@@ -68,7 +68,7 @@ def seconds(option: str, given: str) -> float:
 
 def which(given: str, chance: Callable[[], float]) -> Meant:
     """Returns which commands are meant by WHICH, the value of a fault's option."""
-    share = re.fullmatch(r"([0-9]{1,2}(?:\.[0-9]+)?)%", given)
+    share = re.fullmatch(r"((?=\.?[0-9])0*[0-9]{0,2}(?:\.[0-9]*)?)%", given)
     if share:
         percent = float(share[1])
         return lambda names: chance() * 100 < percent
@@ -96,8 +96,8 @@ def spoiled(frame: bytes) -> bytes:
 
 
 class Log:
-    """The file of --log, with at most `limit` bytes. A line that it doesn't take at once is lost: no pipe stops the
-    server. A message reports the first one, and a line in the log how many."""
+    """The file of --log, with at most `limit` bytes (a pipe has no length). A line that it doesn't take at once is
+    lost: no pipe stops the server. A message reports the first one, and a line in the log how many."""
 
     def __init__(self, name: str, limit: int) -> None:
         try:
@@ -105,7 +105,7 @@ class Log:
         except OSError as fault:
             is_unread = fault.errno == errno.ENXIO and Path(name).is_fifo()
             raise Fault(f"{name}: {'nobody reads this pipe' if is_unread else fault.strerror}")
-        self.room, self.rest = limit - os.fstat(self.file).st_size, b""
+        self.limit, self.rest = limit, b""
         # how many lines were lost since the last one, and whether a message has reported one
         self.lost, self.is_reported = 0, False
 
@@ -115,8 +115,9 @@ class Log:
         try:
             if self.rest:
                 self.rest = self.rest[os.write(self.file, self.rest) :]
-            if len(held) <= self.room and not self.rest:
-                self.rest, self.room, self.lost = held[os.write(self.file, held) :], self.room - len(held), 0
+            # (another server may append to it, too)
+            if os.fstat(self.file).st_size + len(held) <= self.limit and not self.rest:
+                self.rest, self.lost = held[os.write(self.file, held) :], 0
                 return
             why = "its reader is too slow" if self.rest else "it would be longer than --log-limit allows"
         except OSError as fault:
