@@ -476,7 +476,7 @@ def waits_for_a_number():
         wait_until(lambda: lock.resolve() in opened_by(station.pid))
         station.send_signal(signal.SIGINT)
         messages = station.communicate(timeout=PATIENCE)[1].decode().splitlines()
-    line = "avrstk-serial: ended before a number was taken; the chip is unchanged"
+    line = "avrstk-serial: ended before the next number was taken; the chip is unchanged"
     check_equal("its line", (station.returncode, messages, room.read("counter")), (1, [line], None))
 
 
@@ -556,7 +556,7 @@ def ordinary_user():
             if wanted:
                 check(
                     f"{file}: the error",
-                    b"number.lock: Permission denied: no number was used" in ran.stderr,
+                    b"number.lock: Permission denied: the next number was not used" in ran.stderr,
                     ran.stderr,
                 )
         check_equal("its number", (folder / "his/number").read_text(), "5\n")

@@ -36,7 +36,7 @@ class Spec:
         self.address = int(found[2], 16 if found[2][:2].lower() == "0x" else 10)
         fields = {field[1] for field in FIELD.finditer(self.text)}
         if re.search("[{}]", FIELD.sub("", self.text)):
-            raise Fault(f"--each {given}: fields are {{n}}, {{n:06}}, {{n:04X}}, and {{COLUMN}} of --rows")
+            raise Fault(f"--each {given}: fields are like {{n}}, {{n:06}}, {{n:04X}}, or {{COLUMN}} of --rows")
         if not fields:
             raise Fault(f"--each {given}: without a field such as {{n}} all boards get the same")
         unknown = sorted(fields - set(names))
@@ -116,7 +116,7 @@ class Counter:
                 return fcntl.flock(lock, fcntl.LOCK_EX | fcntl.LOCK_NB)
             except BlockingIOError:
                 if ended_by():
-                    raise Fault("ended before a number was taken")
+                    raise Fault("ended before the next number was taken")
                 if time.monotonic() > until:
                     raise Fault(f"another program holds {self.file}.lock: gave up after {PATIENCE} seconds")
                 time.sleep(0.005)
@@ -187,7 +187,7 @@ class Each:
             self.number = self.counter.take(*self.last())
         except OSError as fault:
             # (if only the last sync failed, the file has the next number already)
-            raise Fault(f"--counter {fault.filename or self.counter.given}: {fault.strerror}: no number was used")
+            raise Fault(f"--counter {fault.filename or self.counter.given}: {fault.strerror}: the next number was not used")
         self.put(words, self.number)
         filled = "; ".join(f"{spec.memory}@0x{spec.address:X}={text}" for spec, text in self.texts(self.number))
         words.note(f"number {self.number}: {filled}")
