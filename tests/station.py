@@ -489,6 +489,25 @@ def opened_by(process):
     return found
 
 
+def numbers_without_room():
+    """A number or a row that can't be written is not taken: its board's line says why, and the chip is unchanged."""
+    boards = ["-p", "m328p", "-P", "emu:a.bin", "-P", "emu:b.bin", "--json", "report.json"]
+    room.put("counter", b"99\n")
+    room.put("rows.csv", b"mac\nA1\n \n0102\n")
+    rows = [
+        (["--each", "eeprom@0={n:02}", "--counter", "counter"], "100 is too long for {n:02}", b"100\n"),
+        (["--each", "eeprom@0=0x{mac}", "--rows", "rows.csv", "--counter", "row"], "0x  is not pairs", b"2\n"),
+    ]
+    room.put("row", b"1\n")
+    for words, why, left in rows:
+        status, _, messages = run([*boards, *words])
+        own = [line for line in messages if f"avrstk-serial: {words[0]} {words[1]}: {why}" in line]
+        check_equal(f"{words}: a line", (status, len(own)), (1, 1))
+        check_equal(f"{words}: the next number", room.read(words[-1]), left)
+        runs = sorted((board["status"], board["kind"] or "", board["chip"]) for board in report()["runs"])
+        check_equal(f"{words}: the report", runs, [(0, "", "done"), (1, "device", "unchanged")])
+
+
 def busy(words, count, what=b"chip erased"):
     """Starts the script, and returns it once so many boards have printed this."""
     file = (room.folder / "messages").open("w+b")
@@ -564,7 +583,8 @@ def ordinary_user():
 
 CASES = named(
     *(twenty_doubles, refused, into_images, numbers_given_once, one_command, a_full_output, all_devices),
-    *(retried, signals, waits_for_a_number, progress, ordinary_user),
+    *(retried, signals, waits_for_a_number, numbers_without_room),
+    *(progress, ordinary_user),
 )
 
 # boards that reply for a time, so that a busy machine can end their runs

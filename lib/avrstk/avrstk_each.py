@@ -13,7 +13,7 @@ import fcntl
 import os
 import re
 import time
-from typing import Iterator
+from typing import Callable, Iterator
 
 SPEC = re.compile(r"(flash|eeprom)@(0[xX][0-9A-Fa-f]{1,8}|[0-9]{1,9})=(.+)", re.S)
 FIELD = re.compile(r"\{([^{}:]+)(?::(0?)([0-9]{0,2})([dxX]?))?\}")
@@ -94,15 +94,16 @@ class Counter:
             raise Fault(f"--counter {self.given} has to have a number of at most 16 digits, a newline, and no more")
         return max(int(text), self.least or 0)
 
-    def take(self, most: int, why: str) -> int:
+    def take(self, most: int, why: str, judge: Callable[[int], object]) -> int:
         """Returns the next number, after which the file has a later one, also if the power fails. `why` is the error if
-        it is above `most`."""
+        it is above `most`, and `judge` refuses a number that can't be used."""
         lock = os.open(f"{self.file}.lock", os.O_RDONLY | os.O_CREAT | os.O_CLOEXEC | os.O_NOFOLLOW, 0o666)
         try:
             self.hold(lock)
             number = self.next()
             if number > most:
                 raise Fault(why)
+            judge(number)
             self.replace(f"{number + 1}\n".encode())
             return number
         finally:
@@ -184,7 +185,7 @@ class Each:
     def give(self, words: Words) -> None:
         """Takes the next number, and puts it into the images."""
         try:
-            self.number = self.counter.take(*self.last())
+            self.number = self.counter.take(*self.last(), lambda number: self.pieces(words, number))
         except OSError as fault:
             # (if only the last sync failed, the file has the next number already)
             raise Fault(f"--counter {fault.filename or self.counter.given}: {fault.strerror}: the next number was not used")
@@ -199,10 +200,8 @@ class Each:
     def put(self, words: Words, number: int) -> None:
         """Puts what is for a number into the images of the command; a memory that it doesn't write gets an image."""
         self.base = words.updates if self.base is None else self.base
-        updates, pieces = list(self.base), [(spec.memory, spec.piece(text)) for spec, text in self.texts(number)]
-        for memory in dict.fromkeys(memory for memory, _ in pieces):
-            own = sorted(piece for name, piece in pieces if name == memory)
-            self.judge_pieces(words, memory, own)
+        updates = list(self.base)
+        for memory, own in self.pieces(words, number).items():
             writes = [at for at, update in enumerate(updates) if update.writes(memory)]
             if writes:
                 last = updates[writes[-1]]
@@ -212,6 +211,14 @@ class Each:
                 locks = [at for at, update in enumerate(updates) if update.writes("lock")]
                 updates.insert(min(locks, default=len(updates)), image_of(memory, own, self.end))
         words.updates, words.given = updates, [update.given for update in updates]
+
+    def pieces(self, words: Words, number: int) -> dict[str, list[Run]]:
+        """Returns the bytes for a number, by their memories."""
+        held = [(spec.memory, spec.piece(text)) for spec, text in self.texts(number)]
+        found = {memory: sorted(piece for name, piece in held if name == memory) for memory, _ in held}
+        for memory, own in found.items():
+            self.judge_pieces(words, memory, own)
+        return found
 
     def judge_pieces(self, words: Words, memory: str, pieces: list[Run]) -> None:
         """Refuses bytes outside a memory, and two texts at one place."""
