@@ -239,7 +239,8 @@ def idle_clients():
             check_equal("and one that has sent nothing", silent.recv(1), b"")
         check("the chip is saved", len(room.read("chip.bin") or b"") == CHIP_FILE)
         check_equal("the next client", server.writes_fuse(0x60), 0)
-        check_equal("the messages", server.end(), (0, "avrstk-serve: no byte passed for 1.5 seconds: a client is disconnected\n"))
+        expected = "avrstk-serve: no byte passed for 1.5 seconds: a client is disconnected\n"
+        check_equal("the messages", server.end(), (0, expected))
     with Serving() as server, server.call() as client:
         check("a session", begins(client))
         time.sleep(1)

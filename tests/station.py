@@ -466,7 +466,7 @@ def signals():
 
 
 def waits_for_a_number():
-    """If a signal comes while another program has the counter, no number is taken, and the line says what the chip is."""
+    """If a signal comes while another program has the counter, no number is taken, and the line describes the chip."""
     lock = room.folder / "counter.lock"
     with lock.open("w") as held:
         flock(held, LOCK_EX)

@@ -187,8 +187,9 @@ class Each:
         try:
             self.number = self.counter.take(*self.last(), lambda number: self.pieces(words, number))
         except OSError as fault:
-            # (if only the last sync failed, the file has the next number already)
-            raise Fault(f"--counter {fault.filename or self.counter.given}: {fault.strerror}: the next number was not used")
+            # (if only the last sync failed, the file has a later number already)
+            why = f"{fault.filename or self.counter.given}: {fault.strerror}"
+            raise Fault(f"--counter {why}: the next number was not used")
         self.put(words, self.number)
         filled = "; ".join(f"{spec.memory}@0x{spec.address:X}={text}" for spec, text in self.texts(self.number))
         words.note(f"number {self.number}: {filled}")

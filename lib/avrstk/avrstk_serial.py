@@ -801,7 +801,7 @@ def ran(words: Words, put: Callable[[bytes], None] = messages.put, earlier: froz
 
 
 def give(words: Words, each: Each, earlier: frozenset[int]) -> None:
-    """Takes the number of a run. If that fails for a second run, or a signal came, the error describes the chip, too."""
+    """Takes the number of a run. If that fails for a second run, or by a signal, the error also describes the chip."""
     each.end = each.end if words.tries == 1 else "the command is not run again"
     try:
         each.give(words)
