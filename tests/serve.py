@@ -881,6 +881,14 @@ def mega():
     check_equal("a locked chip is written", (found, room.read("chip.bin") == wanted + eeprom + rest), (0, True))
     found, *_ = ran([*double, "--", *client, "-q", "-D", "-V", "-U", "lock:w:0x00:m"])
     check_equal("the lock", (found, room.read("chip.bin")[-1:].hex()), (0, "c0"))
+    page, address = frame(2, 0x13, 0, 4, *[0] * 7, *b"abcd"), frame(1, 6, 0x80, 0, 0, 0)
+    with Serving("--mega", chip=["-p", "m2560", "--chip", "long.bin"]) as server:
+        with server.call() as client:
+            client.sendall(address + page + address + frame(3, 0x14, 0xFF, 0xFF, 0x20))
+            head = received(client, 3 * 8 + 5)[-5:]
+            received(client, int.from_bytes(head[2:4], "big") + 1)
+        wait_until(lambda: room.read("long.bin") is not None)
+        check_equal("a read that is too long", (server.end(), room.read("long.bin")[:4]), ((0, ""), b"abcd"))
 
 
 def report():
