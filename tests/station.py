@@ -76,7 +76,7 @@ def run(words, **more):
         ran.kill()
         ran.communicate()
         raise
-    return ran.returncode, output.decode(), messages.decode().splitlines()
+    return ran.returncode, (output or b"").decode(), messages.decode().splitlines()
 
 
 def report():
