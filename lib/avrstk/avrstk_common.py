@@ -185,7 +185,7 @@ def text_of(fault: Exception) -> str:
     """Returns the text of the line that reports a fault."""
     if not isinstance(fault, OSError):
         return str(fault)
-    return str(fault.strerror) if fault.filename is None else f"{fault.filename}: {fault.strerror}"
+    return ("" if fault.filename is None else f"{fault.filename}: ") + (fault.strerror or str(fault))
 
 
 def set_up() -> None:
