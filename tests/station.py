@@ -460,7 +460,8 @@ def signals():
         boards = Path(f"/proc/{station.pid}/task/{station.pid}/children").read_text().split()
         os.kill(int(boards[1]), signal.SIGKILL)
         messages = station.communicate(timeout=PATIENCE)[1].decode().splitlines()
-    line = "two: avrstk-serial: its process was ended by SIGKILL: the chip is unchanged"
+    line = "two: avrstk-serial: its process was ended by SIGKILL: the chip is unchanged, and may be in programming mode"
+    line += ": power-cycle the board"
     check("a process that only reads is killed", line in messages, messages)
     check_equal("its report", [board["chip"] for board in report()["runs"]], ["unchanged"] * 3)
 

@@ -5,7 +5,7 @@ from __future__ import annotations
 
 from avrstk_common import ENDING, NAME, READ, WRITE, Fault, Source, came, ended_by, heed_signals, messages, ready
 from avrstk_common import print_line, readable, show, text_of, version
-from avrstk_hints import MAYBE_CHANGED, UNCHANGED
+from avrstk_hints import MAYBE_CHANGED, POWER_CYCLE, UNCHANGED
 from avrstk_report import Report, write
 from avrstk_words import UNOPENED, Update, Words, is_port
 
@@ -100,6 +100,7 @@ class Board:
             report.stage, report.fault = "interrupted", f"its process was ended{name}"
             changes = self.words.changes()
             state = MAYBE_CHANGED if changes else UNCHANGED
+            state += f", and may be in programming mode: {POWER_CYCLE}" * (not self.words.has_port)
             self.print_message(f"{NAME}: {report.fault}: {state}".encode())
             self.outcome, self.report = outcome_of(self.words, report, 1)
             for held in (self.outcome, self.report or {}) if changes else ():
