@@ -97,7 +97,7 @@ for fault in lose lose-reply corrupt corrupt-reply late drop
     complete -c avrstk-serve -l $fault -x -d 'fault of a frame: a command, number or share'
 end
 complete -c avrstk-serve -l seed -x -d 'repeat faults'
-complete -c avrstk-serve -l strict -d 'fail if a fault never struck'
+complete -c avrstk-serve -l strict -d 'fail if a fault selected no command'
 for flag in bootloader mega locked no-chip
     complete -c avrstk-serve -l $flag -d 'a programmer or chip that refuses'
 end

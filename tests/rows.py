@@ -222,7 +222,7 @@ def faults_of_the_line():
     for options in LINE:
         _, own, messages = served(SAFE, options.split(), left=WRITING, promise=COMPARED)
         check(f"{options}: a command was repeated", not any("; 0 commands" in line for line in own), str(own))
-        check(f"{options}: it struck", "never struck" not in messages, messages)
+        check(f"{options}: it struck", "selected no command" not in messages, messages)
 
 
 def faults_of_a_chip():

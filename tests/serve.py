@@ -210,9 +210,10 @@ def failed(how):
 
 
 def a_chip_in_use():
-    """If another run holds the chip, the client's connection is closed, and the next client is served."""
+    """If another run holds the chip, the client's connection is closed, and the next client is served. A fault that
+    selected no command is reported also then."""
     os.mkfifo(room.folder / "pipe")
-    with Serving() as server:
+    with Serving("--lose", "1000") as server:
         holder = room.start(["-p", "m328p", "-P", "emu:chip.bin", "-U", "eeprom:r:pipe:r"])
         holder.stderr.readline()
         with server.call() as client:
@@ -222,6 +223,7 @@ def a_chip_in_use():
         holder.communicate()
         check_equal("the next client", server.writes_fuse(0x65), 0)
         expected = lines("error: chip.bin: in use by another run").decode() + failed("status 1")
+        expected += "avrstk-serve: --lose 1000 selected no command\n"
         check_equal("the messages", server.end(), (1, expected))
 
 
@@ -237,7 +239,8 @@ def idle_clients():
             check_equal("and one that has sent nothing", silent.recv(1), b"")
         check("the chip is saved", len(room.read("chip.bin") or b"") == CHIP_FILE)
         check_equal("the next client", server.writes_fuse(0x60), 0)
-        check_equal("the messages", server.end(), (0, "avrstk-serve: a client sent nothing for 1.5 seconds: hung up\n"))
+        expected = "avrstk-serve: no byte passed for 1.5 seconds: a client is disconnected\n"
+        check_equal("the messages", server.end(), (0, expected))
     with Serving() as server, server.call() as client:
         check("a session", begins(client))
         time.sleep(1)
@@ -324,6 +327,11 @@ def refused():
             started.terminate()
         check_equal(f"{closed}: the status", started.wait(timeout=PATIENCE), status)
         started.stdout.close()
+    # (a module in place of one that it loads: an error that names no file)
+    room.put("getopt.py", b"class GetoptError(Exception): ...\ndef gnu_getopt(*_): raise OSError(24, 'Too many')\n")
+    unnamed = ran(["0", *M328P], PYTHONPATH=str(room.folder))
+    (room.folder / "getopt.py").unlink()
+    check_equal("an error without a file", unnamed, (1, "avrstk-serve: Too many\n", ""))
     status, messages, output = ran(["0", *M328P], AVRSTK="/nowhere/avrstk")
     check_equal("no program", (status, messages.count("\n"), output), (1, 1, ""))
 
@@ -405,7 +413,7 @@ def a_command():
             check_equal(f"{command}: its output", server.printed, b"begun\n")
             check_equal(f"{command}: SIG{name} ends it too", server.end(signal.Signals[f"SIG{name}"]), (status, ""))
             check_equal(f"{command}: and all that it started", runs(b"sleep"), [])
-    message = "avrstk-serve: sh is ended: it went on for 0.5 seconds (--timeout)\n"
+    message = "avrstk-serve: ending sh: it went on for 0.5 seconds (--timeout)\n"
     check_equal(
         "--timeout", ran(["0", *M328P, "--timeout", "0.5", "--", "sh", "-c", "sleep 600; true"]), (124, message, "")
     )
@@ -424,6 +432,7 @@ def a_job_ends():
     """If a session fails, or the server ends it, a command has ten seconds to end, or to begin a session that ends
     well. Then the command is ended with all that it has started."""
     begun, held = time.monotonic(), {}
+    why = "in 10 seconds after a failed or idle session none began that ended well"
     for options, before, after, status, message in table("jobs"):
         folder = Path(tempfile.mkdtemp(dir=room.folder))
         (folder / "sub").mkdir()
@@ -437,7 +446,7 @@ def a_job_ends():
             check_equal(f"{name}: the status", started.returncode, status)
             check(
                 f"{name}: its messages",
-                message in found and ("is ended: it went on for 10 seconds after that" in found) == status,
+                message in found and (f"ending bash: {why}\n" in found) == status,
                 found,
             )
         check("ten seconds", 10 <= time.monotonic() - begun, time.monotonic() - begun)
@@ -541,8 +550,20 @@ def signals_that_are_ignored():
         check_equal("another signal ends it", server.end(signal.SIGINT), (0, ""))
 
 
+def link_addresses():
+    """Returns an address of one link (IPv6), with its interface; none if this machine has none."""
+    file = Path("/proc/net/if_inet6")
+    rows = [row.split() for row in file.read_text().splitlines()] if file.exists() else []
+    found = [(socket.inet_ntop(socket.AF_INET6, bytes.fromhex(row[0])), row[5]) for row in rows if row[3] == "20"]
+    return [f"{address}%{name}" for address, name in found[:1]]
+
+
 def other_addresses():
     """With --listen the server serves at the given address of this machine: at 127.0.0.2, not at 127.0.0.1."""
+    for address in link_addresses():
+        with Serving("--listen", address) as server:
+            check_equal(f"{address}: its line", server.printed, f"serving at [{address}]:{server.port}\n".encode())
+            check_equal(f"{address}: it ends", server.end(), (0, ""))
     for address, shown in [("127.0.0.2", "127.0.0.2"), ("0.0.0.0", "0.0.0.0"), ("::1", "[::1]"), ("localhost", None)]:
         room.clear()
         with Serving("--listen", address) as server:
@@ -576,7 +597,7 @@ def devices():
         os.write(idle, FRAMES[0])
         check_equal("an idle client is hung up on after its reply", read_whole(idle), REPLIES[: ENDS[0]])
         os.close(idle)
-        expected = "avrstk-serve: a client sent nothing for 3 seconds: hung up\n"
+        expected = "avrstk-serve: no byte passed for 3 seconds: a client is disconnected\n"
         check_equal("it ends", server.end(), (0, expected))
         check("its link is removed", not link.is_symlink())
     with Serving("--pty", "device", port=None) as server:
@@ -677,6 +698,8 @@ def logs_that_take_no_more():
     os.mkfifo(pipe)
     expected = "avrstk-serve: pipe: nobody reads this pipe\n"
     check_equal("nobody reads it", ran(["0", *M328P, "--log", "pipe"]), (1, expected, ""))
+    expected = "avrstk-serve: /dev/tty: No such device or address\n"
+    check_equal("no terminal", ran(["0", *M328P, "--log", "/dev/tty"], before=os.setsid), (1, expected, ""))
     reader = os.open(pipe, os.O_RDONLY | os.O_NONBLOCK)
     with Serving("--log", "pipe") as server, server.call() as client:
         client.settimeout(PATIENCE)
@@ -701,6 +724,17 @@ def logs_that_take_no_more():
             check_equal(f"{name}: it ends", server.end(), (0, f"avrstk-serve: --log: lines are missing: {why}\n"))
     log = room.read("log")
     check("the log within its limit", log.endswith(b": SIGN_ON 01\n") and len(log) <= 100, log)
+
+
+def a_log_of_two():
+    """What another program appends to the log counts for --log-limit, too."""
+    with Serving("--log", "log", "--log-limit", "200") as server, server.call() as client:
+        with (room.folder / "log").open("ab") as other:
+            other.write(b"x" * 99 + b"\n")
+        for _ in range(10):
+            check("a reply", begins(client))
+        server.end()
+    check("the log within its limit", 100 < len(room.read("log")) <= 200, room.read("log"))
 
 
 def state_of(memory, old):
@@ -740,7 +774,7 @@ def faults():
             check(f"{options}: {client[0]}: the log", any(mark in row for row in marks()), marks())
             check(
                 f"{options}: the seed is printed",
-                ("--seed 7 makes the same faults again" in messages) == ("%" in options),
+                ("faults are drawn with --seed 7\n" in messages) == ("%" in options),
                 messages,
             )
     for words, command, status, count in [
@@ -753,8 +787,8 @@ def faults():
         (["--strict"], "true", 0, 0),
     ]:
         found, messages, _ = ran(["0", *M328P, "--log", "log", *words, "--", "sh", "-c", command])
-        expected = status, f"avrstk-serve: {' '.join(words[:2])} never struck\n" * count
-        check_equal(f"{words} {command}: it never struck", (found, messages), expected)
+        expected = status, f"avrstk-serve: {' '.join(words[:2])} selected no command\n" * count
+        check_equal(f"{words} {command}: it selected no command", (found, messages), expected)
     if not clients[1]:
         leave_out("faults with AVRDUDE", "AVRDUDE 7.1 is not installed")
 
@@ -803,11 +837,12 @@ def reports():
         (session["commands"], len(session["faults"]), session["idle"], session["saved"]) for session in held["sessions"]
     ]
     check_equal("the sessions", sessions, [(3, 1, False, True), (1, 0, False, False)])
-    with Serving("--json", "report.json", "--lose", "SIGN_ON", "--idle", "1") as server:
+    with Serving("--json", "report.json", "--lose", "SIGN_ON", "--idle", "1", "--log-limit", "1") as server:
         with server.call() as client:
             client.sendall(FRAMES[0])
             check_equal("an idle one ends", received(client, 1), b"")
-        server.end()
+        expected = "avrstk-serve: no byte passed for 1 seconds: a client is disconnected\n"
+        check_equal("no log is given, so none lacks a line", server.end(), (0, expected))
     (session,) = report()["sessions"]
     check_equal("it is idle", (session["commands"], session["idle"], session["saved"]), (1, True, True))
     (room.folder / "gone").mkdir()
@@ -819,8 +854,10 @@ def reports():
         server.end()
     (session,) = report()["sessions"]
     check_equal("it was idle", (session["idle"], session["saved"]), (True, False))
-    found, *_ = ran(["0", *M328P, "--json", "report.json", "--seed", "7", "--drop", "2%", "--", "sh", "-c", "exit 7"])
+    words = ["--json", "report.json", "--seed", "007", "--drop", "2%", "--lose", ".5%"]
+    found, messages, _ = ran(["0", *M328P, *words, "--", "sh", "-c", "exit 7"])
     check_equal("a command's status", (found, report()["status"], report()["seed"]), (7, 7, 7))
+    check("its seed, without zeros in front", "faults are drawn with --seed 7\n" in messages, messages)
     found, messages, _ = ran(["0", "-p", "m328p", "--json", "report.json"])
     check_equal("refused", (found, report()["error"]), (1, messages[len("avrstk-serve: ") : -1]))
     room.put("chip.bin", b"no chip")
@@ -844,6 +881,14 @@ def mega():
     check_equal("a locked chip is written", (found, room.read("chip.bin") == wanted + eeprom + rest), (0, True))
     found, *_ = ran([*double, "--", *client, "-q", "-D", "-V", "-U", "lock:w:0x00:m"])
     check_equal("the lock", (found, room.read("chip.bin")[-1:].hex()), (0, "c0"))
+    page, address = frame(2, 0x13, 0, 4, *[0] * 7, *b"abcd"), frame(1, 6, 0x80, 0, 0, 0)
+    with Serving("--mega", chip=["-p", "m2560", "--chip", "long.bin"]) as server:
+        with server.call() as client:
+            client.sendall(address + page + address + frame(3, 0x14, 0xFF, 0xFF, 0x20))
+            head = received(client, 3 * 8 + 5)[-5:]
+            received(client, int.from_bytes(head[2:4], "big") + 1)
+        wait_until(lambda: room.read("long.bin") is not None)
+        check_equal("a read that is too long", (server.end(), room.read("long.bin")[:4]), ((0, ""), b"abcd"))
 
 
 def report():
@@ -870,7 +915,8 @@ CASES = named(
         devices,
         logged,
     ),
-    *(avrdudes_in_a_row, faults, of_an_old_chip, a_job_ends, at_a_terminal, logs_that_take_no_more, reports, mega),
+    *(avrdudes_in_a_row, faults, of_an_old_chip, a_job_ends, at_a_terminal, logs_that_take_no_more),
+    *(a_log_of_two, reports, mega),
 )
 
 # an idle time, or AVRDUDE's own timeouts

@@ -22,7 +22,7 @@ import sys
 import tempfile
 import termios
 import time
-from fcntl import ioctl
+from fcntl import LOCK_EX, flock, ioctl
 from pathlib import Path
 
 import serial
@@ -76,7 +76,7 @@ def run(words, **more):
         ran.kill()
         ran.communicate()
         raise
-    return ran.returncode, output.decode(), messages.decode().splitlines()
+    return ran.returncode, (output or b"").decode(), messages.decode().splitlines()
 
 
 def report():
@@ -198,10 +198,22 @@ def one_command():
         shutil.rmtree(room.folder / f"kept-emu-{name}.bin")
 
 
+def a_full_output():
+    """If what a board reads can't be printed, its run counts as failed, in the table and in the report."""
+    with open("/dev/full", "wb") as full:
+        words = ["-p", "m328p", "-P", "emu:a.bin", "-P", "emu:b.bin", "-U", "lfuse:r:-:h", "--json", "report.json"]
+        status, _, messages = run(words, stdout=full)
+    boards = [(board["status"], board["kind"]) for board in report()["runs"]]
+    check_equal("the report", (status, report()["status"], boards), (1, 1, [(1, "file")] * 2))
+    check_equal("the table", messages[-1], "avrstk-serial: 2 boards: 0 done, 2 failed")
+
+
 def refused():
     """A refused command opens no device and takes no number; its line comes once."""
     texts = {"counter": "7\n", "bad": "seven\n", "cut": "7", "full": f"{10**15}\n"}
     texts |= {"rows.csv": "serial,mac\nA1,0102\nA2,0304\n", "empty.csv": "serial\n", "odd.csv": "serial,mac\nA1\n"}
+    texts |= {"blank.csv": "\n\n"}
+    os.mkfifo(room.folder / "pipe")
     for name, text in texts.items():
         room.put(name, text.encode())
 
@@ -448,9 +460,53 @@ def signals():
         boards = Path(f"/proc/{station.pid}/task/{station.pid}/children").read_text().split()
         os.kill(int(boards[1]), signal.SIGKILL)
         messages = station.communicate(timeout=PATIENCE)[1].decode().splitlines()
-    line = "two: avrstk-serial: its process was ended by SIGKILL: the chip is unchanged"
+    line = "two: avrstk-serial: its process was ended by SIGKILL: the chip is unchanged, and may be in programming mode"
+    line += ": power-cycle the board"
     check("a process that only reads is killed", line in messages, messages)
     check_equal("its report", [board["chip"] for board in report()["runs"]], ["unchanged"] * 3)
+
+
+def waits_for_a_number():
+    """If a signal comes while another program has the counter, no number is taken, and the line describes the chip."""
+    lock = room.folder / "counter.lock"
+    with lock.open("w") as held:
+        flock(held, LOCK_EX)
+        with forks:
+            words = [SCRIPT, "-p", "m328p", "-P", "emu:x.bin", *COUNTED]
+            station = subprocess.Popen(words, cwd=room.folder, **HOW)
+        wait_until(lambda: lock.resolve() in opened_by(station.pid))
+        station.send_signal(signal.SIGINT)
+        messages = station.communicate(timeout=PATIENCE)[1].decode().splitlines()
+    line = "avrstk-serial: ended before the next number was taken; the chip is unchanged"
+    check_equal("its line", (station.returncode, messages, room.read("counter")), (1, [line], None))
+
+
+def opened_by(process):
+    """Returns the files that a process has open."""
+    found = []
+    for link in Path(f"/proc/{process}/fd").iterdir():
+        with contextlib.suppress(OSError):
+            found.append(link.resolve())
+    return found
+
+
+def numbers_without_room():
+    """A number or a row that can't be written is not taken: its board's line says why, and the chip is unchanged."""
+    boards = ["-p", "m328p", "-P", "emu:a.bin", "-P", "emu:b.bin", "--json", "report.json"]
+    room.put("counter", b"99\n")
+    room.put("rows.csv", b"mac\nA1\n \n0102\n")
+    rows = [
+        (["--each", "eeprom@0={n:02}", "--counter", "counter"], "100 is too long for {n:02}", b"100\n"),
+        (["--each", "eeprom@0=0x{mac}", "--rows", "rows.csv", "--counter", "row"], "0x  is not pairs", b"2\n"),
+    ]
+    room.put("row", b"1\n")
+    for words, why, left in rows:
+        status, _, messages = run([*boards, *words])
+        own = [line for line in messages if f"avrstk-serial: {words[0]} {words[1]}: {why}" in line]
+        check_equal(f"{words}: a line", (status, len(own)), (1, 1))
+        check_equal(f"{words}: the next number", room.read(words[-1]), left)
+        runs = sorted((board["status"], board["kind"] or "", board["chip"]) for board in report()["runs"])
+        check_equal(f"{words}: the report", runs, [(0, "", "done"), (1, "device", "unchanged")])
 
 
 def busy(words, count, what=b"chip erased"):
@@ -520,15 +576,16 @@ def ordinary_user():
             if wanted:
                 check(
                     f"{file}: the error",
-                    b"number.lock: Permission denied: no number was taken" in ran.stderr,
+                    b"number.lock: Permission denied: the next number was not used" in ran.stderr,
                     ran.stderr,
                 )
         check_equal("its number", (folder / "his/number").read_text(), "5\n")
 
 
 CASES = named(
-    *(twenty_doubles, refused, into_images, numbers_given_once, one_command, all_devices),
-    *(retried, signals, progress, ordinary_user),
+    *(twenty_doubles, refused, into_images, numbers_given_once, one_command, a_full_output, all_devices),
+    *(retried, signals, waits_for_a_number, numbers_without_room),
+    *(progress, ordinary_user),
 )
 
 # boards that reply for a time, so that a busy machine can end their runs

@@ -183,7 +183,9 @@ def brief(help_text: str) -> str:
 
 def text_of(fault: Exception) -> str:
     """Returns the text of the line that reports a fault."""
-    return f"{fault.filename}: {fault.strerror}" if isinstance(fault, OSError) else str(fault)
+    if not isinstance(fault, OSError):
+        return str(fault)
+    return ("" if fault.filename is None else f"{fault.filename}: ") + (fault.strerror or str(fault))
 
 
 def set_up() -> None:

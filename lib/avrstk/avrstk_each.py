@@ -13,7 +13,7 @@ import fcntl
 import os
 import re
 import time
-from typing import Iterator
+from typing import Callable, Iterator
 
 SPEC = re.compile(r"(flash|eeprom)@(0[xX][0-9A-Fa-f]{1,8}|[0-9]{1,9})=(.+)", re.S)
 FIELD = re.compile(r"\{([^{}:]+)(?::(0?)([0-9]{0,2})([dxX]?))?\}")
@@ -31,14 +31,14 @@ class Spec:
     def __init__(self, given: str, names: list[str]) -> None:
         found = SPEC.fullmatch(given)
         if not found:
-            raise Fault(f"--each {given}: give MEMORY@ADDRESS=TEXT, such as eeprom@0x3F0={{n:06}}")
+            raise Fault(f"--each {given}: give flash@ADDRESS=TEXT or eeprom@ADDRESS=TEXT, such as eeprom@0={{n:06}}")
         self.given, self.memory, self.text = given, found[1], found[3]
         self.address = int(found[2], 16 if found[2][:2].lower() == "0x" else 10)
         fields = {field[1] for field in FIELD.finditer(self.text)}
+        if re.search("[{}]", FIELD.sub("", self.text)):
+            raise Fault(f"--each {given}: fields are like {{n}}, {{n:06}}, {{n:04X}}, or {{COLUMN}} of --rows")
         if not fields:
             raise Fault(f"--each {given}: without a field such as {{n}} all boards get the same")
-        if re.search("[{}]", FIELD.sub("", self.text)):
-            raise Fault(f"--each {given}: a field is {{n}}, {{n:06}} or {{COLUMN}}")
         unknown = sorted(fields - set(names))
         if unknown:
             raise Fault(f"--each {given}: no field {', '.join(unknown)}; there is {', '.join(names)}")
@@ -86,22 +86,24 @@ class Counter:
             if not os.path.isdir(folder):
                 raise Fault(f"--counter {self.given}: there is no folder {folder}")
             if self.least is None:
-                raise Fault(f"--counter {self.given} is not there: --from N makes it, which begins with N")
+                ask = "is its name right? If it is new, give its first number, --from N"
+                raise Fault(f"--counter {self.given} is not there: {ask}")
             return self.least
         # (after the greatest number the file has one more)
         if not re.fullmatch("[0-9]{1,16}\n", text):
-            raise Fault(f"--counter {self.given} has to be one line with a number of at most 16 digits")
+            raise Fault(f"--counter {self.given} has to have a number of at most 16 digits, a newline, and no more")
         return max(int(text), self.least or 0)
 
-    def take(self, most: int, why: str) -> int:
+    def take(self, most: int, why: str, judge: Callable[[int], object]) -> int:
         """Returns the next number, after which the file has a later one, also if the power fails. `why` is the error if
-        it is above `most`."""
+        it is above `most`, and `judge` refuses a number that can't be used."""
         lock = os.open(f"{self.file}.lock", os.O_RDONLY | os.O_CREAT | os.O_CLOEXEC | os.O_NOFOLLOW, 0o666)
         try:
             self.hold(lock)
             number = self.next()
             if number > most:
                 raise Fault(why)
+            judge(number)
             self.replace(f"{number + 1}\n".encode())
             return number
         finally:
@@ -115,9 +117,9 @@ class Counter:
                 return fcntl.flock(lock, fcntl.LOCK_EX | fcntl.LOCK_NB)
             except BlockingIOError:
                 if ended_by():
-                    raise Fault("ended before a number was taken")
+                    raise Fault("ended before the next number was taken")
                 if time.monotonic() > until:
-                    raise Fault(f"another program has held {self.file}.lock for {PATIENCE} seconds")
+                    raise Fault(f"another program holds {self.file}.lock: gave up after {PATIENCE} seconds")
                 time.sleep(0.005)
 
     def replace(self, text: bytes) -> None:
@@ -147,7 +149,7 @@ class Each:
         least, rows, counter = (words.last.get(option) for option in ("--from", "--rows", "--counter"))
         if counter is None:
             raise Fault("--each counts the boards: name the file that has the next number, --counter FILE")
-        if least is not None and not re.fullmatch("[0-9]{1,15}", least):
+        if least is not None and not re.fullmatch("0*[0-9]{1,15}", least):
             raise Fault(f"--from {least}: not a number from 0 to {MOST}")
         if "-n" in words.flags:
             raise Fault("--each writes, and -n writes nothing: leave out one of them")
@@ -183,9 +185,11 @@ class Each:
     def give(self, words: Words) -> None:
         """Takes the next number, and puts it into the images."""
         try:
-            self.number = self.counter.take(*self.last())
+            self.number = self.counter.take(*self.last(), lambda number: self.pieces(words, number))
         except OSError as fault:
-            raise Fault(f"--counter {fault.filename or self.counter.given}: {fault.strerror}: no number was taken")
+            # (if only the last sync failed, the file has a later number already)
+            why = f"{fault.filename or self.counter.given}: {fault.strerror}"
+            raise Fault(f"--counter {why}: the next number was not used")
         self.put(words, self.number)
         filled = "; ".join(f"{spec.memory}@0x{spec.address:X}={text}" for spec, text in self.texts(self.number))
         words.note(f"number {self.number}: {filled}")
@@ -197,10 +201,8 @@ class Each:
     def put(self, words: Words, number: int) -> None:
         """Puts what is for a number into the images of the command; a memory that it doesn't write gets an image."""
         self.base = words.updates if self.base is None else self.base
-        updates, pieces = list(self.base), [(spec.memory, spec.piece(text)) for spec, text in self.texts(number)]
-        for memory in dict.fromkeys(memory for memory, _ in pieces):
-            own = sorted(piece for name, piece in pieces if name == memory)
-            self.judge_pieces(words, memory, own)
+        updates = list(self.base)
+        for memory, own in self.pieces(words, number).items():
             writes = [at for at, update in enumerate(updates) if update.writes(memory)]
             if writes:
                 last = updates[writes[-1]]
@@ -210,6 +212,14 @@ class Each:
                 locks = [at for at, update in enumerate(updates) if update.writes("lock")]
                 updates.insert(min(locks, default=len(updates)), image_of(memory, own, self.end))
         words.updates, words.given = updates, [update.given for update in updates]
+
+    def pieces(self, words: Words, number: int) -> dict[str, list[Run]]:
+        """Returns the bytes for a number, by their memories."""
+        held = [(spec.memory, spec.piece(text)) for spec, text in self.texts(number)]
+        found = {memory: sorted(piece for name, piece in held if name == memory) for memory, _ in held}
+        for memory, own in found.items():
+            self.judge_pieces(words, memory, own)
+        return found
 
     def judge_pieces(self, words: Words, memory: str, pieces: list[Run]) -> None:
         """Refuses bytes outside a memory, and two texts at one place."""
@@ -240,7 +250,7 @@ def table_of(file: str) -> tuple[list[str], list[list[str]]]:
     except (csv.Error, UnicodeDecodeError) as fault:
         raise Fault(f"--rows {file}: {fault}")
     if not names:
-        raise Fault(f"--rows {file} is empty: its first line has the names of the columns")
+        raise Fault(f"--rows {file}: the first line has to have the names of the columns")
     if len(set(names)) < len(names) or "n" in names:
         raise Fault(f"--rows {file}: each column needs a name of its own, other than n")
     if not rows:
@@ -264,7 +274,7 @@ def joined(update: Update, content: bytes | None, pieces: list[Run], end: str) -
     if update.is_image and content is None:
         raise Fault(f"{update.file}: cannot be opened: {end}")
     if not update.is_image or content is None:
-        why = f"--each needs a file in place of values, or no -U of {update.memory}"
+        why = f"--each needs a file in place of values, or no -U that writes {update.memory}"
         raise Fault(f"-U {update.given}: {why}: {end}")
     one, whole = copy.copy(update), bytes(content)
     begins = RECORD.match(whole[:1024])

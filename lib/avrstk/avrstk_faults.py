@@ -12,6 +12,7 @@ import os
 import random
 import re
 import time
+from pathlib import Path
 from typing import Callable, NamedTuple, Sequence
 
 # the names of the commands in a log; all others are UNKNOWN
@@ -67,7 +68,7 @@ def seconds(option: str, given: str) -> float:
 
 def which(given: str, chance: Callable[[], float]) -> Meant:
     """Returns which commands are meant by WHICH, the value of a fault's option."""
-    share = re.fullmatch(r"([0-9]{1,2}(?:\.[0-9]+)?)%", given)
+    share = re.fullmatch(r"((?=\.?[0-9])0*[0-9]{0,2}(?:\.[0-9]*)?)%", given)
     if share:
         percent = float(share[1])
         return lambda names: chance() * 100 < percent
@@ -95,15 +96,16 @@ def spoiled(frame: bytes) -> bytes:
 
 
 class Log:
-    """The file of --log, with at most `limit` bytes. A line that it doesn't take at once is lost: no pipe stops the
-    server. A message reports the first one, and a line in the log how many."""
+    """The file of --log, with at most `limit` bytes (a pipe has no length). A line that it doesn't take at once is
+    lost: no pipe stops the server. A message reports the first one, and a line in the log how many."""
 
     def __init__(self, name: str, limit: int) -> None:
         try:
             self.file = os.open(name, os.O_WRONLY | os.O_APPEND | os.O_CREAT | os.O_NONBLOCK | os.O_NOCTTY, 0o666)
         except OSError as fault:
-            raise Fault(f"{name}: {'nobody reads this pipe' if fault.errno == errno.ENXIO else fault.strerror}")
-        self.room, self.rest = limit - os.fstat(self.file).st_size, b""
+            is_unread = fault.errno == errno.ENXIO and Path(name).is_fifo()
+            raise Fault(f"{name}: {'nobody reads this pipe' if is_unread else fault.strerror}")
+        self.limit, self.rest = limit, b""
         # how many lines were lost since the last one, and whether a message has reported one
         self.lost, self.is_reported = 0, False
 
@@ -113,8 +115,9 @@ class Log:
         try:
             if self.rest:
                 self.rest = self.rest[os.write(self.file, self.rest) :]
-            if len(held) <= self.room and not self.rest:
-                self.rest, self.room, self.lost = held[os.write(self.file, held) :], self.room - len(held), 0
+            # (another server may append to it, too)
+            if os.fstat(self.file).st_size + len(held) <= self.limit and not self.rest:
+                self.rest, self.lost = held[os.write(self.file, held) :], 0
                 return
             why = "its reader is too slow" if self.rest else "it would be longer than --log-limit allows"
         except OSError as fault:
@@ -136,7 +139,7 @@ class Traffic:
         self.refused = {code for option, codes in REFUSED.items() if option in last for code in codes}
         self.client = self.count = 0
         self.log: Log | None = None
-        # how many commands of each name there were, and how many commands the fault of each option has struck
+        # how many commands of each name there were, and how many commands the fault of each option has selected
         self.names: collections.Counter[str] = collections.Counter()
         self.struck: collections.Counter[str] = collections.Counter()
         # of this client: whether its session has erased the chip, and the commands without a reply so far
@@ -146,7 +149,8 @@ class Traffic:
         seed = last.get("--seed", str(random.randrange(1_000_000)))
         if not re.fullmatch("[0-9]{1,18}", seed):
             raise Fault(f"--seed {seed}: not a number of at most 18 digits")
-        chance = random.Random(seed).random
+        # (by its digits, so without zeros in front)
+        chance = random.Random(str(int(seed))).random
         given = [(option, value) for option, value in options if option in FAULTS]
         self.given = [f"{option} {value}" for option, value in given]
         self.faults: list[Planned] = []
@@ -157,13 +161,15 @@ class Traffic:
         # (a report has it if it was used)
         self.seed = int(seed) if any("%" in value for _, value in given) else None
         if self.seed is not None:
-            print_line(f"--seed {seed} makes the same faults again")
+            print_line(f"faults are drawn with --seed {self.seed}")
 
     def open(self, *files: str | None) -> None:
-        """Opens the log, which is none of these files."""
-        name, limit = self.last.get("--log", os.devnull), self.last.get("--log-limit", f"{1 << 62}")
+        """Opens the log, if there is one. It is none of these files."""
+        name, limit = self.last.get("--log"), self.last.get("--log-limit", f"{1 << 62}")
         if not re.fullmatch("[0-9]{1,19}", limit):
-            raise Fault(f"--log-limit {limit}: not a number of bytes")
+            raise Fault(f"--log-limit {limit}: not a number of bytes with at most 19 digits")
+        if name is None:
+            return
         if os.path.realpath(name) in [os.path.realpath(file) for file in files if file]:
             raise Fault(f"--log {name}: this is the chip file or the part file")
         self.log = Log(name, int(limit))
@@ -180,7 +186,7 @@ class Traffic:
         return changed(self.command), changed(self.reply)
 
     def unstruck(self) -> list[str]:
-        """Returns the options whose faults never struck."""
+        """Returns the options whose faults selected no command."""
         return [option for option in self.given if option not in self.struck]
 
     def end(self) -> None:

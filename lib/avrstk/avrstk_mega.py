@@ -137,6 +137,9 @@ class Mega:
 
     def memory(self, code: int, count: int, data: bytes) -> bytes:
         """Reads or writes flash or EEPROM from the address on, which then grows."""
+        if code in (READ_FLASH, READ_EEPROM):
+            # (a reply has less than 64 kB)
+            count = min(count, 0xF000)
         at, flash, eeprom = self.address, self.copies[READ_FLASH], self.copies[READ_EEPROM]
         if code == READ_EEPROM:
             # (it takes the address of a word as that of a byte)

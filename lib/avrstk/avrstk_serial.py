@@ -801,12 +801,12 @@ def ran(words: Words, put: Callable[[bytes], None] = messages.put, earlier: froz
 
 
 def give(words: Words, each: Each, earlier: frozenset[int]) -> None:
-    """Takes the number of a run. If that fails for a second run, the error also describes the chip after the first."""
+    """Takes the number of a run. If that fails for a second run, or by a signal, the error also describes the chip."""
     each.end = each.end if words.tries == 1 else "the command is not run again"
     try:
         each.give(words)
     except (Fault, OSError) as fault:
-        if words.tries == 1:
+        if words.tries == 1 and not ended_by():
             raise
         state = MAYBE_CHANGED if CHANGING & earlier else UNCHANGED
         raise Fault(f"{text_of(fault)}; {state}")

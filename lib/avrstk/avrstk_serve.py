@@ -78,7 +78,8 @@ class Port:
             # (Python adds the address in brackets)
             raise Fault(f"{name}: {str(fault.strerror).partition(' (')[0]}")
         self.door.setblocking(False)
-        address, port = self.door.getsockname()[:2]
+        # (an address of one link has its interface's name after it)
+        address, port = socket.getnameinfo(self.door.getsockname(), socket.NI_NUMERICHOST | socket.NI_NUMERICSERV)
         return f"[{address}]:{port}" if ":" in address else f"{address}:{port}"
 
     def next_client(self, until: float | None) -> Client | None:
@@ -244,15 +245,16 @@ class Server:
         if not command:
             show(f"serving at {readable(where)}")
             self.serve_clients(None)
-            return int(self.has_failed or self.lacks_faults())
+            return int(self.lacks_faults() or self.has_failed)
         job, ended = Job(command, where, limit), None
         try:
             self.serve_clients(GRACE)
             ended = ended_by()
             if ended is None:
-                print_line(f"{command[0]} is ended: it went on for {GRACE} seconds after that")
+                why = f"in {GRACE} seconds after a failed or idle session none began that ended well"
+                print_line(f"ending {command[0]}: {why}")
             if ended == signal.SIGALRM:
-                print_line(f"{command[0]} is ended: it went on for {limit or 0:g} seconds (--timeout)")
+                print_line(f"ending {command[0]}: it went on for {limit or 0:.12g} seconds (--timeout)")
         finally:
             if ended != signal.SIGCHLD:
                 job.end()
@@ -262,12 +264,12 @@ class Server:
         return status or int(lacks or self.has_failed)
 
     def lacks_faults(self) -> bool:
-        """Reports the faults that never struck, and returns whether the status depends on them."""
+        """Reports the faults that selected no command, and returns whether the status depends on them."""
         if not self.traffic:
             return False
         lacking = self.traffic.unstruck()
         for fault in lacking:
-            print_line(f"{fault} never struck")
+            print_line(f"{fault} selected no command")
         return bool(lacking) and self.traffic.is_strict
 
     def serve_clients(self, grace: int | None) -> None:
@@ -353,7 +355,7 @@ class Server:
             if came in found:
                 break
             if not found:
-                print_line(f"a client sent nothing for {self.idle:g} seconds: hung up")
+                print_line(f"no byte passed for {self.idle:.12g} seconds: a client is disconnected")
                 return False
             try:
                 if any([way.go_on(found) for way in ways]):
@@ -423,8 +425,10 @@ def is_past(until: float | None) -> bool:
 
 def stray(words: list[str]) -> str | None:
     """Returns the first word that is no option or its value, but names a program; None if there is none."""
-    takes_value = {"-p", *(f"--{option[:-1]}" for option in LONG if option.endswith("="))}
-    others = (word for before, word in zip(["", *words], words) if before not in takes_value and word[:1] != "-")
+    takes_value = ["-p", *(f"--{option[:-1]}" for option in LONG if option.endswith("="))]
+    # (a long option may be cut short)
+    values = [before[:1] == "-" and any(name.startswith(before) for name in takes_value) for before in ["", *words]]
+    others = (word for is_value, word in zip(values, words) if not is_value and word[:1] != "-")
     return next(filter(shutil.which, others), None)
 
 
@@ -476,8 +480,7 @@ def judge(options: Mapping[str, str], client: list[str]) -> str:
     if re.search(r"[\udc80-\udcff]", chip):
         raise Fault(f"--chip {chip}: the name is not UTF-8")
     if parts is not None and not os.path.isfile(parts):
-        why = "not a file that each client can read" if os.path.lexists(parts) else "there is no such file"
-        raise Fault(f"--parts {parts}: {why}")
+        raise Fault(f"--parts {parts}: not a file that each client can read")
     if "--timeout" in options and not client:
         raise Fault("--timeout: no command after --")
     others = [option for option in REFUSED if option in options]
@@ -486,7 +489,7 @@ def judge(options: Mapping[str, str], client: list[str]) -> str:
     if "--mega" in options and parts is not None:
         raise Fault("--mega is the bootloader of the built-in ATmega2560: leave out --parts")
     if "--mega" in options and others:
-        raise Fault(f"--mega and {' and '.join(others)}: give one of them")
+        raise Fault(f"--mega can't be given with {' or '.join(others)}")
     return chip
 
 

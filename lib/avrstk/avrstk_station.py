@@ -5,7 +5,7 @@ from __future__ import annotations
 
 from avrstk_common import ENDING, NAME, READ, WRITE, Fault, Source, came, ended_by, heed_signals, messages, ready
 from avrstk_common import print_line, readable, show, text_of, version
-from avrstk_hints import MAYBE_CHANGED, UNCHANGED
+from avrstk_hints import MAYBE_CHANGED, POWER_CYCLE, UNCHANGED
 from avrstk_report import Report, write
 from avrstk_words import UNOPENED, Update, Words, is_port
 
@@ -38,6 +38,8 @@ class Board:
         self.state = "begins"
         self.outcome: dict[str, Any] | None = None
         self.report: dict[str, Any] | None = None
+        # why a line of its output could not be printed
+        self.fault: str | None = None
 
     def start(self, live: Callable[[Words], int], others: list[Board]) -> None:
         """Starts its process, which gets no signal before it heeds signals."""
@@ -74,13 +76,13 @@ class Board:
         messages.put(self.front(line) + b"\n")
 
     def print_output(self, line: bytes) -> None:
-        """Prints a line of standard output. If that fails, all go on, and the status is 1."""
+        """Prints a line of standard output. If that fails, all go on, and this board's run counts as failed."""
         messages.draw("")
         try:
             show(os.fsdecode(self.front(line)))
         except Fault as fault:
+            self.fault = str(fault)
             self.print_message(f"{NAME}: {fault}".encode())
-            messages.lost = True
 
     def note(self, line: bytes) -> None:
         """Takes its progress, or at its end what became of it."""
@@ -98,10 +100,14 @@ class Board:
             report.stage, report.fault = "interrupted", f"its process was ended{name}"
             changes = self.words.changes()
             state = MAYBE_CHANGED if changes else UNCHANGED
+            state += f", and may be in programming mode: {POWER_CYCLE}" * (not self.words.has_port)
             self.print_message(f"{NAME}: {report.fault}: {state}".encode())
             self.outcome, self.report = outcome_of(self.words, report, 1)
             for held in (self.outcome, self.report or {}) if changes else ():
                 held["chip"] = "erased or partly written"
+        if self.fault and self.outcome and not self.outcome["status"]:
+            for held in (self.outcome, self.report or {}):
+                held.update(status=1, kind="file", error=self.fault)
         self.state = self.result()
 
     def result(self) -> str:
@@ -238,7 +244,7 @@ def name_of(device: str) -> str:
 def judge_outputs(words: Words) -> None:
     """Refuses outputs that several boards would write into."""
     reads = [update for update in words.updates if update.operation == "r"]
-    names = [update.file for update in reads if not update.is_stream()] + [words.backup or MARK]
+    names = [update.file for update in reads if update.file not in ("-", os.devnull)] + [words.backup or MARK]
     for name in names:
         if MARK not in name:
             raise Fault(f"{name}: each board needs a name of its own: give {MARK} in it: {UNOPENED}")
