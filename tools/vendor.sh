@@ -69,7 +69,7 @@ is_same() {
 # everything is checked before anything is changed
 for name in "${crates[@]}"; do
     [ ! -e "$folder/crates/$name" ] || is_same "$name" ||
-        refuse "$folder/crates/$name differs: remove it to copy it again"
+        refuse "$folder/crates/$name differs: move it away to copy it again"
     there=$(line_of "$name" "$folder/crates.txt")
     [ -z "$there" ] || [ "$there" = "$(line_of "$name" "$top/crates.txt")" ] ||
         refuse "the line of $name in $folder/crates.txt differs: $there"
