@@ -2120,7 +2120,7 @@ def unread_command_lines():
         (["-p", "m8", "-z", "--json", "unread.json"], ("option -z not recognized", "m8", None)),
         (
             ["--json=unread.json", "-P", "x", "--backup", "y", "-e"],
-            ("--backup reads all memories: leave out -e", None, "x"),
+            ("--backup reads all memories of the part: leave out -e", None, "x"),
         ),
         (["--json", "unread.json", "-Pa", "-Pb", "--wait"], ("option --wait requires argument", None, None)),
     ]:
