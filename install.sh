@@ -95,7 +95,7 @@ check() {
             folder=$(dirname "$folder")
         done
         [ -d "$folder" ] || fail "$folder is not a folder"
-        [ -w "$folder" ] || fail "$folder cannot be written: run this as a user who may, or give a folder of your own as PREFIX"
+        [ -w "$folder" ] || fail "$folder cannot be written: run this as a user who may, or install into another folder"
         [ -n "$destination" ] || [ "$file" = "$manifest" ] || [[ ! -e $file && ! -L $file ]] ||
             [[ $known == *$'\n'"${file#"${prefix%/}/"}"$'\n'* ]] ||
             fail "$file is there, and $manifest doesn't name it: nothing is installed"
