@@ -52,7 +52,7 @@ reach() {
     crates+=("$1")
 }
 for name in "${@:1:$#-1}"; do
-    [ -n "$(line_of "$name" "$top/crates.txt")" ] || refuse "no crate is named $name"
+    [ -n "$(line_of "$name" "$top/crates.txt")" ] || refuse "no crate of this repository is named $name"
     [ -e "$top/crates/$name/src/lib.rt" ] || refuse "$name is a program, which no crate can name"
     reach "$name"
 done
