@@ -2,15 +2,15 @@
 # Installs the built program, avrstk-serial, avrstk-serve, the part file, the man pages and the completions, or removes
 # them again. The program is the proved one, or else the one without proofs, and then a line reports that. The documents
 # are installed as a site, if Sphinx, MyST, furo, sphinx-copybutton and mandoc are there to make it. With --with-c the
-# library for C is installed too: archive, shared library, header, pkg-config's file.
+# library for C is installed too: archive, header, pkg-config's file, and the shared library if there is a C compiler.
 #
-#     ./install.sh [--with-c] [PREFIX]      PREFIX is /usr/local by default, which needs root; ~/.local doesn't
+#     ./install.sh [--with-c] [PREFIX]      PREFIX is /usr/local by default, which mostly needs root; ~/.local doesn't
 #     ./install.sh --remove [PREFIX]        removes what any version of this script installed there, and the folders that
-#                                           it made, by the manifest share/avrstk/manifest
+#                                           it made if they are empty, by the manifest share/avrstk/manifest
 #     ./install.sh --help                   prints this text
 #
-# A file that is there and that no version installed is never replaced or removed, and nothing outside PREFIX is installed
-# or removed: links that lead out of it are refused. The environment variable AVRSTK names another program to install.
+# A file that the manifest doesn't name is never replaced or removed, and nothing outside PREFIX is installed or removed:
+# links that lead out of it are refused. The environment variable AVRSTK names another program to install.
 # With DESTDIR, for packages, all files go under $DESTDIR/PREFIX, without the manifest, and replace those there.
 set -euo pipefail
 
@@ -95,10 +95,10 @@ check() {
             folder=$(dirname "$folder")
         done
         [ -d "$folder" ] || fail "$folder is not a folder"
-        [ -w "$folder" ] || fail "$folder cannot be written: run it by sudo, or give a folder of your own: $0${with_c:+ --with-c} ~/.local"
+        [ -w "$folder" ] || fail "$folder cannot be written: run this as a user who may, or install into another folder"
         [ -n "$destination" ] || [ "$file" = "$manifest" ] || [[ ! -e $file && ! -L $file ]] ||
             [[ $known == *$'\n'"${file#"${prefix%/}/"}"$'\n'* ]] ||
-            fail "$file is there, but not by this script: nothing is installed"
+            fail "$file is there, and $manifest doesn't name it: nothing is installed"
     done
     if [ -L "$manifest" ] || { [ -e "$manifest" ] && [ ! -f "$manifest" ]; }; then
         fail "$manifest is no manifest of this script"
@@ -154,7 +154,8 @@ put() {
 remove() {
     local name status=0 names=()
     if [ ! -f "$manifest" ] || [ -L "$manifest" ]; then
-        [ ! -e "$prefix/bin/avrstk" ] || fail "$prefix/bin/avrstk is there, but not by this script: nothing is removed"
+        [ ! -e "$prefix/bin/avrstk" ] || fail "$prefix/bin/avrstk is there, but no file $manifest: nothing is removed"
+        echo "there is no file $manifest: nothing is removed"
         return 0
     fi
     mapfile -t names <"$manifest"
@@ -213,7 +214,7 @@ built=${AVRSTK:-$("$top/avrstk" --which)}
 [ -f "$built" ] || fail "$built is not a file"
 session=$(session_of "$built")
 if [ -z "$session" ] && [ -d "$top/crates/avrstk_session" ]; then
-    echo "avrstk_session, which avrstk-serve needs, is not beside $built"
+    echo "avrstk_session, which avrstk-serve and some commands of avrstk-serial need, is not beside $built"
 fi
 front=$(mktemp) stamp=$(mktemp)
 "$top/avrstk" --stamp-of "$built" ${session:+"$session"} >"$stamp" || true
@@ -282,7 +283,7 @@ if [ -e "$top/out/c/$shared" ]; then
     add_link "$shared" "${library[3]}"
     add 644 "$top/out/c/$shared" "${library[4]}"
 else
-    echo "no shared library was made, because there is no C compiler"
+    echo "no shared library was made, because ${CC:-cc} is no command"
 fi
 [ -n "$destination" ] || note
 put

@@ -83,7 +83,8 @@ _avrstk_value() {
         -U) _avrstk_update ;;
         -b) [ "$script" = avrstk ] || _avrstk_behind "" "9600 19200 38400 57600 115200 250000" ;;
         --parts | --chip | --backup | --restore | --json | --counter | --rows | -l | -C) _avrstk_behind "" ;;
-        --lose | --lose-reply | --corrupt | --corrupt-reply | --late | --drop)
+        --late) _avrstk_behind "" "CHIP_ERASE: PROGRAM_FLASH: READ_FLASH: LOAD_ADDRESS: ENTER_PROGMODE: SIGN_ON: 1: 2%:" ;;
+        --lose | --lose-reply | --corrupt | --corrupt-reply | --drop)
             _avrstk_behind "" "CHIP_ERASE PROGRAM_FLASH READ_FLASH LOAD_ADDRESS ENTER_PROGMODE SIGN_ON 1 2%" ;;
     esac
 }
@@ -98,6 +99,9 @@ _avrstk() {
         avrstk-serve) options="-p --chip --parts --idle --timeout --listen --pty --log --log-limit --json --lose --lose-reply --corrupt --corrupt-reply --late --drop --seed --strict --bootloader --mega --locked --no-chip --version -h --help" ;;
         *) script=avrstk ;;
     esac
+    # (what comes after -- is a command of its own)
+    COMPREPLY=()
+    [[ $line != *[[:blank:]]--[[:blank:]]* ]] || { compopt -o default 2>/dev/null; return 0; }
     typed=${line##*[[:blank:]]}
     before=${line%"$typed"}
     before=${before%"${before##*[![:blank:]]}"}
@@ -122,7 +126,6 @@ _avrstk() {
             *) found=$(_avrstk_behind "" "$options") ;;
         esac ;;
     esac
-    COMPREPLY=()
     [ -n "$found" ] || return 0
     mapfile -t COMPREPLY <<<"$found"
     [[ $found != *[:/] ]] || compopt -o nospace 2>/dev/null

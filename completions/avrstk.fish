@@ -58,12 +58,13 @@ for command in avrstk avrstk-serial avrstk-serve
 end
 for command in avrstk avrstk-serial
     complete -c $command -s U -x -a '(__avrstk_updates)' -d update
-    complete -c $command -s b -x -a '9600 19200 38400 57600 115200 250000' -d speed
-    for flag in e:'erase the chip' D:"don't erase it before flash is written" V:"don't read back" n:'write nothing' \
+    for flag in e:'erase the chip' D:'erase it only with -e' V:"don't read back" n:"don't change the chip" \
             F:'ignore the signature' A:'keep trailing FF' q:quiet v:'no effect'
         complete -c $command -s (string split -f 1 : -- $flag) -d (string split -f 2 : -- $flag)
     end
 end
+complete -c avrstk -s b -x -d 'no effect'
+complete -c avrstk-serial -s b -x -a '9600 19200 38400 57600 115200 250000' -d speed
 complete -c avrstk -s c -x -a stk500v2 -d programmer
 complete -c avrstk -s P -x -a '(__avrstk_ports)' -d port
 complete -c avrstk -l serve -x -d 'serve at a port'
@@ -93,12 +94,14 @@ complete -c avrstk-serve -l pty -r -F -d 'link to a terminal'
 complete -c avrstk-serve -l log -r -F -d 'file of commands'
 complete -c avrstk-serve -l json -r -F -d 'file of a report'
 complete -c avrstk-serve -l log-limit -x -d 'limit of the log'
-for fault in lose lose-reply corrupt corrupt-reply late drop
+for fault in lose lose-reply corrupt corrupt-reply drop
     complete -c avrstk-serve -l $fault -x -d 'fault of a frame: a command, number or share'
 end
+complete -c avrstk-serve -l late -x -d 'late reply: a command, number or share, then :SECONDS'
 complete -c avrstk-serve -l seed -x -d 'repeat faults'
 complete -c avrstk-serve -l strict -d 'fail if a fault selected no command'
-for flag in bootloader mega locked no-chip
-    complete -c avrstk-serve -l $flag -d 'a programmer or chip that refuses'
-end
+complete -c avrstk-serve -l bootloader -d 'refuse as a bootloader'
+complete -c avrstk-serve -l mega -d 'be a Mega bootloader'
+complete -c avrstk-serve -l locked -d 'lock the chip first'
+complete -c avrstk-serve -l no-chip -d 'refuse to begin'
 complete -c avrstk-serve -l version -d 'print the version'

@@ -618,7 +618,8 @@ def what_is_missing():
             finished = subprocess.run(command, capture_output=True, text=True, env=own_environment(), timeout=PATIENCE)
             return finished.returncode, finished.stdout, finished.stderr
 
-        modules = "avrstk_serial is not there: its modules are in lib/avrstk, here or beside this folder"
+        where = "in lib/avrstk, in the folder of this script or beside that folder"
+        modules = f"avrstk_serial can't be loaded: it belongs {where}"
         check_equal("no modules", ran(), (1, "", f"avrstk-serial: {modules}\n"))
         shutil.copytree(SHARED, Path(folder, "lib"), ignore=shutil.ignore_patterns("__pycache__"))
         Path(folder, "sitecustomize.py").write_text("import sys\nsys.modules['json'] = None\n")
@@ -2119,7 +2120,7 @@ def unread_command_lines():
         (["-p", "m8", "-z", "--json", "unread.json"], ("option -z not recognized", "m8", None)),
         (
             ["--json=unread.json", "-P", "x", "--backup", "y", "-e"],
-            ("--backup reads all memories: leave out -e", None, "x"),
+            ("--backup reads all memories of the part: leave out -e", None, "x"),
         ),
         (["--json", "unread.json", "-Pa", "-Pb", "--wait"], ("option --wait requires argument", None, None)),
     ]:

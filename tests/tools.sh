@@ -22,7 +22,7 @@ echo "not installed: ${names[*]}"
 [ "${1:-}" != --lacking ] || exit 0
 if [ "$(id -u)" != 0 ] || ! command -v apt-get >/dev/null; then
     echo "nothing was installed: that needs root and apt-get"
-    exit 0
+    exit 1
 fi
 export DEBIAN_FRONTEND=noninteractive
 get_sketch() {

@@ -153,9 +153,9 @@ def refusals():
         changed.write_text(changed.read_text() + "// changed\n")
         before = files(top)
         refused = [
-            (("avr_records", top), f"{top}/crates/avr_image differs: remove it to copy it again"),
+            (("avr_records", top), f"{top}/crates/avr_image differs: move it away to copy it again"),
             (("avrstk", top), "avrstk is a program, which no crate can name"),
-            (("avr_nothing", top), "no crate is named avr_nothing"),
+            (("avr_nothing", top), "no crate of this repository is named avr_nothing"),
             (("avr_image", top / "nowhere"), f"{top}/nowhere is not a folder"),
             (("avr_image", TOP), f"{TOP} is this repository"),
             (("avr_image",), "usage: tools/vendor.sh CRATE.. FOLDER"),

@@ -52,7 +52,7 @@ reach() {
     crates+=("$1")
 }
 for name in "${@:1:$#-1}"; do
-    [ -n "$(line_of "$name" "$top/crates.txt")" ] || refuse "no crate is named $name"
+    [ -n "$(line_of "$name" "$top/crates.txt")" ] || refuse "no crate of this repository is named $name"
     [ -e "$top/crates/$name/src/lib.rt" ] || refuse "$name is a program, which no crate can name"
     reach "$name"
 done
@@ -69,7 +69,7 @@ is_same() {
 # everything is checked before anything is changed
 for name in "${crates[@]}"; do
     [ ! -e "$folder/crates/$name" ] || is_same "$name" ||
-        refuse "$folder/crates/$name differs: remove it to copy it again"
+        refuse "$folder/crates/$name differs: move it away to copy it again"
     there=$(line_of "$name" "$folder/crates.txt")
     [ -z "$there" ] || [ "$there" = "$(line_of "$name" "$top/crates.txt")" ] ||
         refuse "the line of $name in $folder/crates.txt differs: $there"

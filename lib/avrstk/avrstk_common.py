@@ -277,6 +277,23 @@ def session_program(messages_to: int | None = None) -> str:
     return found
 
 
+def reported_session() -> str:
+    """Returns the path of avrstk_session. ./avrstk prints its messages only if no program is built."""
+    try:
+        return session_program(subprocess.DEVNULL)
+    except SystemExit:
+        return session_program()
+
+
+def build_unproved() -> None:
+    """Lets a clone's ./avrstk compile the program without proofs, if no program is built that a run could ask."""
+    try:
+        built(subprocess.DEVNULL)
+    except SystemExit:
+        if subprocess.run([program(), "--unproved"]).returncode:
+            raise
+
+
 def stamp_of(file: str) -> str:
     """Returns the stamp of a built program; an empty text if there is none that can be read."""
     if IS_CLONE:

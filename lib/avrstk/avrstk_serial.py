@@ -3,8 +3,8 @@
 from __future__ import annotations
 
 from avrstk_common import BUILT_IN, READ, WRITE, Fault, Frames, Source, Way, brief, came, data_file, ended_by
-from avrstk_common import heed_signals, is_frame, messages, parts, print_line, ready, session_program, show, text_of
-from avrstk_common import version, wait
+from avrstk_common import build_unproved, heed_signals, is_frame, messages, parts, print_line, ready, reported_session
+from avrstk_common import show, text_of, version, wait
 from avrstk_backup import asking, back_up, restored
 from avrstk_each import Each
 from avrstk_faults import xor
@@ -586,12 +586,7 @@ def check(words: Words) -> None:
         return
     only, quiet = copy.copy(words), subprocess.DEVNULL
     only.updates = [update.unwritten() if update.is_stream() else update for update in words.updates]
-    try:
-        program = session_program(quiet)
-    except SystemExit:
-        # (nothing is built: this reports it)
-        program = session_program()
-    command = [program, "--outline", *only.options("stdio:")]
+    command = [reported_session(), "--outline", *only.options("stdio:")]
     ran = subprocess.run(command, stdin=quiet, stdout=quiet, stderr=subprocess.PIPE, close_fds=False)
     if ran.returncode:
         shown = [words.shown(line) for line in ran.stderr.splitlines()]
@@ -733,7 +728,7 @@ def judge_part(words: Words, end: str) -> None:
         words.note(f"warning: {why}")
     writes = words.is_bootloader and any(update.writes_flash() for update in words.updates)
     # (without that program it isn't known which pages are written)
-    if writes and session_program(subprocess.DEVNULL):
+    if writes and reported_session():
         judge_pieces(words, end)
 
 
@@ -1013,6 +1008,8 @@ def main(help_text: str) -> int:
     elif words.programmer == "?":
         show("\n".join(SPEAKING))
     else:
+        if words.unproved:
+            build_unproved()
         # (a refused command has a report, too, but not in place of its own files)
         judge_files(words, "--json ")
         fault = fault_of(words.last.get("--json", "-"))

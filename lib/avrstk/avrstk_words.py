@@ -140,7 +140,7 @@ class Words:
         self.given = [value for name, value in options if name == "-U"]
         self.updates = [Update(update) for update in self.given]
         excluded_by = [
-            ("--backup", "reads all memories", "-U -e --each --restore"),
+            ("--backup", "reads all memories of the part", "-U -e -F --each --restore"),
             ("--restore", "is for all memories, and verifies", "-U -e -D -V -n -F"),
         ]
         for name, what, excluded in excluded_by:
