@@ -912,6 +912,7 @@ def reported(words: Words) -> int:
         words.report.fault = text_of(fault)
         raise
     finally:
+        messages.finish()
         if messages.lost and not status:
             status, words.report.stage, words.report.fault = 1, "file", "a message can't be written"
         if "--json" in words.last and not write(words.last["--json"], words.report.made(words, status, ended_by())):
