@@ -398,9 +398,10 @@ class Rows:
             fault = fault or (wrong and f"before ENTER {wrong}") or again
             self.is_put_back()
         self.enter()
-        changed, refused = self.difference(self.chip), found.count(None)
+        changed, unread = self.difference(self.chip), found.count(None)
         fault, self.chip = fault or changed, self.whole() if changed else self.chip
-        self.row("restart", fault, f"before ENTER {refused} readings are refused, {len(found) - refused} are true")
+        seen = f"before ENTER {unread} of {len(found)} readings had no good reply, the others are true"
+        self.row("restart", fault, seen)
 
     def erase(self) -> bool:
         """Returns whether the chip was erased."""
