@@ -334,7 +334,7 @@ def wrong():
         left = ["damaged frame", "writes EEPROM"] if row == "reads EEPROM" else []
         plug = Plug(Wrong(act).call)
         words = [*TINY, "-P", plug.device, *(ALL if row in WRITING else SAFE)]
-        unread = UNTRIED * bool(left) + (f" (not {row[6:]})" if row in READING else "")
+        unread = (f" (not {row[6:]})" if row in READING else "") + UNTRIED * bool(left)
         promise = "none" if set(rows) & set(KEPT) else COMPARED + unread
         found, _ = tried(what, words, rows, left + WRITING * (row not in WRITING), promise)
         check(f"{what}: the frames are shown", " was answered " in found[rows[0]][1], found[rows[0]])

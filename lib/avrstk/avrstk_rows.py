@@ -497,10 +497,10 @@ class Rows:
             return "none"
         if not failed and None not in self.results.values() and not self.words.is_version1:
             return "under README's conditions, after a verified run with status 0 the chip holds the images"
-        limit = " while the line changes no byte (version 1 has no checksums)" * self.words.is_version1
+        limit = f" (not {', '.join(unread)})" if unread else ""
+        limit += " while the line changes no byte (version 1 has no checksums)" * self.words.is_version1
         is_untried = self.results["damaged frame"] is None and not self.words.is_version1
         limit += " if it obeys no damaged frame, which was not tried" * is_untried
-        limit += f" (not {', '.join(unread)})" if unread else ""
         images = "each image that it compared after its last write is in the chip"
         return f"under README's conditions, after a run with status 0, {images}{limit}"
 
