@@ -11,6 +11,7 @@ simulated boards are a Mega 2560 with its bootloader, and boards of version 1.
 """
 
 import contextlib
+import itertools
 import os
 import random
 import re
@@ -39,8 +40,9 @@ READING = [f"reads {memory}" for memory in ("signature", "calibration", "fuses",
 WRITING = ["erases", "writes flash", "writes fuses", "writes lock"]
 SAFE, ALL = ["--try-rows"], ["--try-rows=all", "--yes"]
 BY_A_GOOD_LINE = " while the line changes no byte (version 1 has no checksums)"
-FIRMWARE = "after a verified run with status 0 the chip holds the images (README has the conditions)"
-COMPARED = "after a run with status 0, each image that it compared after its last write is in the chip"
+FIRMWARE = "under README's conditions, after a verified run with status 0 the chip holds the images"
+COMPARED = "under README's conditions, after a run with status 0, each image that it compared after its last write is "
+COMPARED += "in the chip"
 UNTRIED = " if it obeys no damaged frame, which was not tried"
 TINY, FLASH, EEPROM = ["--parts", "tiny.toml", "-p", "tiny"], 2_048, 64
 room.keep("tiny.toml", boards.TINY.encode())
@@ -221,7 +223,7 @@ def faults_of_the_line():
     """With each fault of a frame all rows are met, and commands were repeated."""
     for options in LINE:
         _, own, messages = served(SAFE, options.split(), left=WRITING, promise=COMPARED)
-        check(f"{options}: a command was repeated", not any("; 0 commands" in line for line in own), str(own))
+        check(f"{options}: a command was repeated", not any("repeated: 0" in line for line in own), str(own))
         check(f"{options}: it struck", "selected no command" not in messages, messages)
 
 
@@ -332,7 +334,7 @@ def wrong():
         left = ["damaged frame", "writes EEPROM"] if row == "reads EEPROM" else []
         plug = Plug(Wrong(act).call)
         words = [*TINY, "-P", plug.device, *(ALL if row in WRITING else SAFE)]
-        unread = UNTRIED * bool(left) + (f" (not {row[6:]})" if row in READING else "")
+        unread = (f" (not {row[6:]})" if row in READING else "") + UNTRIED * bool(left)
         promise = "none" if set(rows) & set(KEPT) else COMPARED + unread
         found, _ = tried(what, words, rows, left + WRITING * (row not in WRITING), promise)
         check(f"{what}: the frames are shown", " was answered " in found[rows[0]][1], found[rows[0]])
@@ -356,7 +358,7 @@ def babbles():
     status, output, _, own = serial.run([*TINY, "-P", plug.device, *SAFE])
     plug.end()
     check_equal("a board that prints without end: status and rows", (status, output), (1, b""))
-    check("a board that prints without end: why", any("no answer to 01" in line for line in own), str(own))
+    check("a board that prints without end: why", any("no valid reply to 01" in line for line in own), str(own))
 
 
 def ends_early():
@@ -395,7 +397,7 @@ def ends_early():
         if what.startswith("Ctrl-C"):
             check(f"{what}: nothing is to be restored", not any("changed" in line for line in own), str(own))
         else:
-            command = serial.shlex.split(own[-1].partition("What restores it: ")[2])
+            command = serial.shlex.split(own[-1].partition("To restore it, try: ")[2])
             check(f"{what} at {row}: a command restores it", command[:1] == [str(serial.SCRIPT)], str(own))
             again = Plug(Wrong(lambda body, ask: ask(body), chip=room.read("wrong.bin")).call)
             command[command.index("-P") + 1] = again.device
@@ -407,18 +409,19 @@ def ends_early():
 def unreadable():
     """If flash can't be read, nothing is erased, and a page of EEPROM can be restored. If the trial can't restore the
     chip, or a first reading was wrong, the last line names the folder."""
-    for words in SAFE, ALL:
-        plug = Plug(Wrong(pretends(b"\x14", b"\x14\xc0")).call)
-        found, own = tried(f"no flash {words}", [*TINY, "-P", plug.device, *words], [], WRITING, COMPARED)
+    unwritten = ["damaged frame", "writes EEPROM"]
+    hidden = [("flash", b"\x14", [], COMPARED), ("eeprom", b"\x16", unwritten, COMPARED + UNTRIED)]
+    for words, (memory, code, left, promise) in itertools.product([SAFE, ALL], hidden):
+        plug, what = Plug(Wrong(pretends(code, code + b"\xc0")).call), f"no {memory} {words}"
+        found, own = tried(what, [*TINY, "-P", plug.device, *words], [], WRITING + left, promise)
         plug.end()
-        check_equal(f"no flash {words}: why", {found[row][1] for row in WRITING}, {"flash can't be read"})
-        check(f"no flash {words}: the chip is as before", not any("changed" in line for line in own), str(own))
-        check_equal(f"no flash {words}: the chip", room.read("wrong.bin"), CHIP)
+        check_equal(f"{what}: why", {found[row][1] for row in WRITING}, {f"{memory} can't be read"})
+        check(f"{what}: the chip is as before", not any("changed" in line for line in own), str(own))
+        check_equal(f"{what}: the chip", room.read("wrong.bin"), CHIP)
     plug = Plug(Wrong(once(b"\x18\4\x50\0", 1, 0x20)).call)
     _, own = tried("a wrong first reading", [*TINY, "-P", plug.device, *SAFE], ["reads fuses", "SIGN_ON"], WRITING)
     plug.end()
-    read = f"What was read at first is in {own[0].rpartition(' ')[2]}"
-    wanted = f"the chip now reads otherwise than at first, so it may be changed. {read}"
+    wanted = f"the chip may be changed. What was read at first is in {own[0].rpartition(' ')[2]}"
     check_equal("a wrong first reading: the last line", own[-1], wanted)
     for what, row, code in ("no flash", b"\x15", b"\x14"), ("no calibration", b"\x13", b"\x1c"):
         done = []
@@ -431,11 +434,11 @@ def unreadable():
         status, _, _, own = serial.run([*TINY, "-P", plug.device, *ALL])
         plug.end()
         check_equal(f"{what}, silent at {row}: the status", status, 1)
-        command = serial.shlex.split(own[-1].partition("What restores it: ")[2])
+        command = serial.shlex.split(own[-1].partition("To restore it, try: ")[2])
         check_equal(
             f"{what}, silent at {row}: the last words",
             own[-1].split()[-1][-8:],
-            {"no flash": "page.hex:i"[-8:], "no calibration": own[0].split()[-1][-8:]}[what],
+            {"no flash": "om.hex:i", "no calibration": own[0].split()[-1][-8:]}[what],
         )
         check_equal(f"{what}: a command", bool(command), what == "no flash")
         if command:
@@ -446,9 +449,79 @@ def unreadable():
             check_equal(f"{what}: the chip", room.read("wrong.bin"), CHIP)
 
 
+def trying(what, act, words, status=1, **more):
+    """Tries the rows over a wrong programmer. Checks the status, and returns the rows and the script's own lines."""
+    plug = Plug(Wrong(act).call)
+    found_status, output, _, own = serial.run([*TINY, "-P", plug.device, *words], **more)
+    plug.end()
+    check_equal(f"{what}: the status", found_status, status)
+    return rows_of(output), own
+
+
+def no_trial():
+    """Nothing is tried without a chip, after corrupt frames, or if the memories can't be saved. The line says why."""
+    small = {"preexec_fn": lambda: serial.resource.setrlimit(serial.resource.RLIMIT_FSIZE, (0, 0))}
+    cases = [
+        ("the programmer finds no chip: check the wires and the power", pretends(b"\x1b", b"\x1b\0\xff\0"), {}),
+        ("1A 04 58 00 00 00 was answered B0 C1", pretends(b"\x1a", b"\xb0\xc1"), {}),
+        ("the memories can't be saved in this folder: File too large", lambda body, ask: ask(body), small),
+    ]
+    for why, act, more in cases:
+        found, own = trying(why, act, SAFE, **more)
+        check_equal(why, (found, own[0]), ({}, f"no further row is tried: {why}"))
+        check(f"{why}: nothing is changed", not any("changed" in line for line in own), str(own))
+
+
+def not_put_back():
+    """If the page of EEPROM isn't put back, a line says so, and the status is 1, even if each row is met, or the
+    programmer only replies OK."""
+    for what, reply, number in ("refused", b"\x15\xc0", None), ("pretended", b"\x15\0", serial.signal.SIGINT):
+        pids, writes = [], []
+
+        def act(body, ask):
+            writes.extend([body] * (body[:1] == b"\x15"))
+            if body[:1] == b"\x15" and len(writes) > 1:
+                return reply
+            if writes and body[:1] == b"\x15" and number:
+                os.kill(pids[0], number)
+            return ask(body)
+
+        found, own = trying(what, act, SAFE, begun=lambda started: pids.append(started.pid))
+        check(f"{what}: no row fails", not any(how == "FAILS" for how, _ in found.values()), str(found))
+        check(f"{what}: the last line", own[-1].startswith("the chip may be changed. What was read at first "), own)
+        check(f"{what}: the chip", room.read("wrong.bin") != CHIP)
+
+
+def unreadable_later():
+    """If a memory can no longer be read, no further row is tried. If a fuse can't be read, no fuse is written."""
+    reads = []
+
+    def once_unread(body, ask):
+        if body[:1] == b"\x15":
+            reads.append(0)
+            return ask(body[:-1] + bytes([body[-1] ^ 1]))
+        reads[-1:] = [count + (body[:1] == b"\x16") for count in reads[-1:]]
+        return b"\x16\xc0" if body[:1] == b"\x16" and reads[-1:] == [2] else ask(body)
+
+    _, own = trying("unreadable later", once_unread, SAFE)
+    why = "no further row is tried: eeprom could be read before: 06 00 00 00 00, 16 00 40 A0 was answered 16 C0"
+    check("unreadable later: why", why in own, str(own))
+    written = []
+
+    def no_efuse(body, ask):
+        written.extend([body] * (body[:1] == b"\x17"))
+        return b"\x18\xc0" if body[:4] == b"\x18\4\x50\x08" else ask(body)
+
+    found, _ = trying("no efuse", no_efuse, ALL, 0)
+    check_equal("no efuse: the row", found["writes fuses"], ("not tried", "what is written can't be read"))
+    check_equal("no efuse: what is read", found["reads fuses"][1], "62, D9, 18 04 50 08 00 00 was answered 18 C0")
+    check_equal("no efuse: no fuse is written", (written, room.read("wrong.bin")), ([], CHIP))
+
+
 def refused():
     """What --try-rows doesn't take is refused before the device is opened."""
     at = "-P /dev/null -p m328p"
+    lacks = "--try-rows finds no flash_size, flash_page, eeprom_size, eeprom_page, eesave_bit of "
     cases = {
         f"{at} --try-rows=all": "--try-rows=all erases and writes the chip, and clears a bit of its lock: at a chip ",
         f"{at} --try-rows=some": "--try-rows=some: there is --try-rows, and --try-rows=all",
@@ -459,9 +532,13 @@ def refused():
         "-P emu:chip.bin -p m328p --try-rows": "--try-rows is for a serial device, not -P emu:chip.bin",
         "-P /dev/null -p nosuch --try-rows": "no part nosuch: -p '?' lists the parts; others with ISP need a part file",
         "-P /dev/null --try-rows": "no part given (-p): -p '?' lists the parts, and -p auto takes whichever is there;",
-        "-P /dev/null --parts one.toml -p c-chip --try-rows": "--try-rows finds no sizes of c-chip in one.toml: give "
-        "it a table of its own there, [parts.c-chip]: nothing was sent",
+        "-P /dev/null --parts one.toml -p c-chip --try-rows": f"{lacks}c-chip in one.toml: give a file with these in a "
+        "table [parts.c-chip]: nothing was sent",
+        "-P /dev/null --parts nosuch.toml -p m328p --try-rows": f"{lacks}m328p in nosuch.toml: give a file with these ",
+        "-P /dev/null --parts tiny.toml --try-rows": "no part given (-p): with --parts, -p takes a part as that file ",
+        "-P /dev/null --parts less.toml -p tiny --try-rows": "--try-rows finds no eesave_bit of tiny in less.toml: ",
     }
+    room.put("less.toml", boards.TINY.replace("eesave_bit", "bit").encode())
     fields = "signature = '1E950F', flash_size = 0x8000, flash_page = 0x80, eeprom_size = 1_024, eeprom_page = 4"
     room.put("one.toml", f"parts = {{ c-chip = {{ {fields}, eesave_bit = 3 }} }}\n".encode())
     for words, why in cases.items():
@@ -552,7 +629,7 @@ def version1():
 
 CASES = named(
     *(emulated, faults_of_the_line, faults_of_a_chip, wrong, unseen),
-    *(babbles, ends_early, unreadable, refused, mega_2560, version1),
+    *(babbles, ends_early, unreadable, no_trial, not_put_back, unreadable_later, refused, mega_2560, version1),
 )
 
 

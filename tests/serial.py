@@ -2080,12 +2080,56 @@ def report_over_a_port():
         ([known, silent], "-U lfuse:r:-:h", ("line", unchanged)),
         ([silent], "-e", ("silent", unchanged)),
         ([other, unlike], "-e", ("other part", unchanged)),
+        ([], "-e", ("interrupted", unchanged)),
+        ([known, "avrstk: error: out of memory"], "-e", ("interrupted", changed)),
+        (["avrstk: error: link to.hex: cannot be opened"], "-e", ("file", unchanged)),
+        (["avrstk: error: a.hex: longer than 4194304 bytes"], "-e", ("file", unchanged)),
     ]:
         text = "".join(f"{line}\n" for line in printed)
         words = ["-p", "m328p", "-P", "net:127.0.0.1:1", *words.split(), "--json", "port.json"]
         run(words, env=stand_in(f"sys.stderr.write({text!r})\nsys.exit(1)\n"))
         found = report_of("port.json")
         check_equal(f"{words}, {printed}", (found["kind"], found["chip"]), wanted)
+
+
+def report_of_last_run():
+    """A report has the counts and the error of the last run. A run without an error was ended by something else."""
+    board, lines_of = Board(), ["device signature = 1E 95 0F", "eeprom: 4 bytes written", "eeprom: 4 bytes verified"]
+    first, signature = [*lines_of, "error: no answer"], "signature is FF FF FF, m328p has 1E 95 0F"
+    whole = [*lines_of, "eeprom: 3 bytes written", "eeprom: 3 bytes verified", "done"]
+    room.put("four.bin", b"four")
+    room.put("three.bin", b"tri")
+    words = ["-p", "m328p", "-P", board.device, "--retry", "1", "--json", "report.json"]
+    words += ["-U", "eeprom:w:four.bin:r", "-U", "eeprom:w:three.bin:r"]
+    for last, error, kind, counts in [
+        (whole, None, None, [4, 3]),
+        ([lines_of[0].replace("1E 95 0F", "FF FF FF"), f"error: {signature}"], signature, "no chip", [None, None]),
+    ]:
+        runs = [("".join(f"avrstk: {row}\n" for row in rows), int("done" not in rows)) for rows in (first, last)]
+        (room.folder / "again").unlink(missing_ok=True)
+        text = f"runs, again = {runs!r}, os.path.exists('again')\nopen('again', 'w')\n"
+        run(words, env=stand_in(f"{text}sys.stderr.write(runs[again][0])\nsys.exit(runs[again][1])\n"))
+        found = report_of("report.json")
+        check_equal(f"{last}: the error", (found["error"], found["kind"], found["retries"]), (error, kind, 1))
+        check_equal(f"{last}: the counts", [update["written"] for update in found["updates"]], counts)
+    run([*words[:4], *words[6:]], env=stand_in("sys.stderr.flush()\nos.kill(os.getpid(), 9)\n"))
+    check_equal("avrstk was ended", report_of("report.json")["kind"], "interrupted")
+    board.end()
+
+
+def report_of_lost_lines():
+    """The status of a report is that of the script: 1 if a message can't be printed, though all was done."""
+    words = ["-p", "m328p", "-P", "emu:lost.bin", "-e", "--json", "report.json"]
+    for what, options, closed in ("closed", [], "2>&-"), ("full", ["-l", "/dev/full"], ""):
+        status = run([*words, *options], closed=closed)[0]
+        found = report_of("report.json")
+        check_equal(f"{what}: kind", (status, found["status"], found["kind"], found["chip"]), (1, 1, "file", "done"))
+    room.put("-", b"a file of this name")
+    given = ["-V", "-U", "lfuse:w:0xE2:m", "-U", "lfuse:v:0xE2:m", "-U", "lfuse:r:-:h"]
+    run(["-p", "m328p", "-P", "emu:lost.bin", *given, "--json", "report.json"])
+    updates = report_of("report.json")["updates"]
+    check_equal("-V compares no write", [update["verified"] for update in updates], [None, 1, None])
+    check_equal("standard output is no file", [update["bytes"] for update in updates], [None, None, None])
 
 
 def reports():
@@ -2111,6 +2155,8 @@ def reports():
     report_of_updates()
     report_over_a_port()
     report_after_a_signal()
+    report_of_last_run()
+    report_of_lost_lines()
     unread_command_lines()
 
 
@@ -2138,7 +2184,7 @@ def unread_command_lines():
 def places_of_reports():
     """A report goes to a file, also by a link, or into a pipe. If it can't be written, the run's own error is still
     reported, and the status is 1; if that is known before, nothing is sent."""
-    absent = f"cannot be created, since {room.folder}/no is no folder"
+    absent = f"cannot be created: no folder {room.folder}/no can be reached"
     for name, why in [("no/report.json", absent), (".", "is a folder")]:
         found = run([*FLASH, "-P", "emu:c.bin", "--json", name])
         check_equal(f"--json {name}", found, (1, b"", b"", [f"--json {name} {why}: {UNOPENED}"]))

@@ -36,11 +36,12 @@ def bytes_of(folder: str, memory: str) -> list[int]:
 def back_up(words: Words, folder: str, runs: Callable[[], int]) -> int:
     """Makes the folder, reads the chip by this run, and prints the command that restores it. If the chip can't be read
     whole, the folder is removed."""
-    is_whole = False
+    is_whole, words.report.stage = False, "file"
     try:
         os.mkdir(folder)
     except OSError as fault:
         raise Fault(f"--backup {folder}: {fault.strerror}: {UNOPENED}")
+    words.report.stage = "arguments"
     try:
         words.updates = [Update(f"{memory}:r:{folder}/{memory}.{end}") for memory, end in FILES.items()]
         try:
@@ -48,6 +49,7 @@ def back_up(words: Words, folder: str, runs: Callable[[], int]) -> int:
         except Fault as fault:
             raise Fault(f"{fault}; no backup is kept")
         if not status and not bytes_of(folder, "lock")[0] & 2:
+            words.report.stage = "refused"
             raise Fault(f"the chip is {LOCKED}: no backup is kept")
         is_whole = not status
     finally:

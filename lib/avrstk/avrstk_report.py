@@ -16,15 +16,18 @@ import time
 
 OPERATIONS = {"w": "write", "v": "verify", "r": "read"}
 
-# kinds of failures by the beginning of avrstk's error; the first that fits counts. All others are of the arguments
+# kinds of failures by avrstk's error; the first that fits counts. All others are of the arguments. (A file may have the
+# name of an error's beginning)
 KINDS = {
-    r"signature is (00 00 00|FF FF FF)": "no chip",
-    r"signature is ": "other part",
-    r"command 10 refused": "no chip",
-    r"command \w\w refused": "refused",
+    r"signature is (00 00 00|FF FF FF), \S+ has( \w\w){3}$": "no chip",
+    r"signature is( \w\w){3}, \S+ has( \w\w){3}$": "other part",
+    r"command 10 refused with status (80|C0)$": "no chip",
+    r"command \w\w refused with status \w\w$": "refused",
     r"\w+: address \w+: \w+ expected, \w+ found$": "mismatch",
-    r"no answer|link |command \w\w: bad answer$": "line",
-    r".*: (cannot be |in use by |not a regular |line \d+: |\d+ bytes, )": "file",
+    r"no answer( in 4096 bytes)?$|link (ended|cannot be \w+)$|command \w\w: bad answer$": "line",
+    r"port .*[^:] cannot be opened$": "device",
+    r"out of memory$": "interrupted",
+    r".*: (cannot be |in use by |not a regular |longer than |line \d+: |\d+ bytes, )": "file",
     r".*: (bad |line too long|no record mark|address )": "file",
 }
 
@@ -37,6 +40,8 @@ class Report:
         self.begun = time.monotonic()
         self.lines: list[str] = []
         self.runs: list[Outcome] = []
+        # how many lines there were before the last run
+        self.before = 0
         self.stage = "arguments"
         self.fault: str | None = None
 
@@ -44,23 +49,28 @@ class Report:
         """Notes a line of avrstk, without the program's name."""
         self.lines.append(line)
 
+    def begin(self, outcome: Outcome) -> None:
+        """Notes that a run of avrstk begins."""
+        self.runs.append(outcome)
+        self.before = len(self.lines)
+
     def error(self) -> str | None:
-        """Returns the first error of avrstk, or what the script reported."""
-        return next((line[7:] for line in self.lines if line.startswith("error: ")), self.fault)
+        """Returns the first error of avrstk's last run, or what the script reported."""
+        return next((line[7:] for line in self.lines[self.before :] if line.startswith("error: ")), self.fault)
 
     def sent(self) -> set[int]:
         return {command for run in self.runs for command in run.commands}
 
     def kind(self) -> str:
-        error = self.error() or ""
+        error = self.error()
+        if error is None:
+            # (another program ended avrstk)
+            return "interrupted"
         if error == self.fault:
             return self.stage
         is_known = any(line.startswith("device signature = ") for line in self.lines)
         if error == "no answer" and self.sent() <= {SIGN_ON, LEAVE} and not is_known:
             return "silent"
-        if not error and is_known:
-            # (another program ended avrstk)
-            return "interrupted"
         return next((kind for begin, kind in KINDS.items() if re.match(begin, error)), "arguments")
 
     def chip(self, words: Words, status: int) -> str:
@@ -73,22 +83,24 @@ class Report:
             changes |= bool(is_open) and any(run.may_change for run in self.runs)
         if not changes:
             return "unchanged"
-        # (if only the last command got no reply, all else was done)
-        is_done = status == 0 or any(run.left_at_error and run.error == "no answer" for run in self.runs[-1:])
+        # (if only the last command got no reply, or what came after the run failed, all was done)
+        is_done = any(run.status == 0 or run.left_at_error and run.error == "no answer" for run in self.runs[-1:])
         return "done" if is_done else "erased or partly written"
 
     def count(self, words: Words, update: Update, what: str) -> int | None:
-        """Returns the bytes in avrstk's line about an update, or None. Lines come in the order of the updates."""
-        makes = {"written": "w", "verified": "wv", "read": "r"}[what]
+        """Returns the bytes in the last run's line about an update, or None. Lines come in the order of the updates."""
+        compared = "v" if {"-V", "-n"} & set(words.flags) else "wv"
+        makes = {"written": "w", "verified": compared, "read": "r"}[what]
         own = [other for other in words.updates if other.memory == update.memory and other.operation in makes]
-        found = (re.fullmatch(rf"{update.memory}: (\d+) bytes {what}", line) for line in self.lines)
+        lines = self.lines[self.before :]
+        found = (re.fullmatch(rf"{update.memory}: (\d+) bytes {what}", line) for line in lines)
         counts = [int(line[1]) for line in found if line]
         return next((count for other, count in zip(own, counts) if other is update), None)
 
     def update(self, words: Words, update: Update) -> dict[str, object]:
         """Returns what became of one -U. The digest is that of the image as it was read, or of the file read into."""
         held = words.contents.get(update.file) if update.is_image else None
-        if update.operation == "r" and os.path.isfile(update.file):
+        if update.operation == "r" and update.file != "-" and os.path.isfile(update.file):
             with contextlib.suppress(OSError), open(update.file, "rb") as file:
                 held = file.read()
         return {
@@ -119,7 +131,7 @@ class Report:
         signature = next((line[19:] for line in self.lines if line.startswith("device signature = ")), None)
         return {
             **built,
-            "proved": built["proved"] and not words.is_version1,
+            "proved": built["proved"] and not words.is_version1 and not words.unproved,
             "device": words.device,
             "programmer": words.programmer,
             "part": words.part,
@@ -152,8 +164,8 @@ def fault_of(place: str) -> str | None:
     if os.path.isdir(place):
         return "is a folder"
     if not os.path.isdir(folder):
-        return f"cannot be created, since {folder} is no folder"
-    return None if os.access(folder if is_file else place, os.W_OK) else "cannot be written, you have no right to"
+        return f"cannot be created: no folder {folder} can be reached"
+    return None if os.access(folder if is_file else place, os.W_OK) else "cannot be written"
 
 
 def write(place: str, report: dict[str, object]) -> bool:

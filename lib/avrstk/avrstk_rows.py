@@ -3,11 +3,11 @@
 A row is met if its command was done, or not done at all. If its reply is good, it was done, and the data in the reply
 are the chip's. Each row is tried at some addresses: that is a test, and proves nothing."""
 
-from avrstk_common import READ, Fault, Frames, came, is_frame, print_line, ready, show
+from avrstk_common import READ, Fault, Frames, came, is_frame, parts, print_line, ready, show
 from avrstk_backup import FILES, command_again
 from avrstk_elf import hex_rows
 from avrstk_faults import framed, spoiled, xor
-from avrstk_hints import Outcome, hint, no_part
+from avrstk_hints import NO_CHIP, NO_SIGNATURES, Outcome, hint, no_part
 from avrstk_words import UNOPENED, Words
 
 import contextlib
@@ -45,6 +45,7 @@ MEMORIES.update({"flash": ("flash",), "EEPROM": ("eeprom",)})
 KEPT = ("SIGN_ON", "ENTER", "LEAVE", "damaged frame", "restart")
 READING = list(MEMORIES)
 WRITING = ("erases", "writes flash", "writes fuses", "writes lock")
+UNREAD = "EEPROM isn't read truly"
 
 
 class Opened(Protocol):
@@ -63,6 +64,11 @@ class Ended(Exception):
 
 def hexed(*bodies: bytes) -> str:
     return ", ".join(body[:16].hex(" ").upper() + " .." * (len(body) > 16) for body in bodies)
+
+
+def shown(held: Optional[bytes]) -> str:
+    """Returns what a row shows of a memory."""
+    return hexed(held) if held and len(held) < 4 else f"{len(held or b''):,} bytes"
 
 
 class Programmer:
@@ -100,28 +106,33 @@ class Programmer:
 
     def ask(self, *step: bytes) -> bytes:
         """Sends a step at most four times, as avrstk does. Returns the last reply, or an earlier bad one."""
+        reply: Optional[bytes] = None
         for attempt in range(4):
-            reply, self.repeated = None, self.repeated + (attempt > 0)
+            self.repeated += attempt > 0
             for body in step:
                 reply = self.send(body)
                 if reply is None or reply[1:2] != b"\0":
                     break
             if reply is not None and reply != CORRUPT:
                 return reply
-        raise Ended(f"no answer to {hexed(*step)}")
+        raise Ended(f"{hexed(*step)} was answered {hexed(reply)}" if reply else f"no valid reply to {hexed(*step)}")
 
 
 def sizes_of(words: Words) -> Dict[str, int]:
     """Returns the sizes of the part, and the bit of EESAVE."""
     names = ("flash_size", "flash_page", "eeprom_size", "eeprom_page", "eesave_bit")
     found = {name: words.of_part(name) or "" for name in names}
-    if all(NUMBER.fullmatch(value) for value in found.values()):
+    is_there = words.parts_file is None or os.path.isfile(words.parts_file)
+    lacking = [name for name, value in found.items() if not is_there or not NUMBER.fullmatch(value)]
+    if not lacking:
         return {name: int(value, 0) for name, value in found.items()}
-    if words.parts_file is None:
+    if words.parts_file is None and not parts():
+        raise Fault(f"--try-rows finds no sizes, because classic.toml is not there: {UNOPENED}")
+    if words.parts_file is None or not words.part:
         what = f"no part {words.part}" if words.part else "no part given (-p)"
         raise Fault(f"{what}: {no_part(words, None)}: {UNOPENED}")
-    cure = f"give it a table of its own there, [parts.{words.part}]"
-    raise Fault(f"--try-rows finds no sizes of {words.part} in {words.parts_file}: {cure}: {UNOPENED}")
+    what = f"--try-rows finds no {', '.join(lacking)} of {words.part} in {words.parts_file}"
+    raise Fault(f"{what}: give a file with these in a table [parts.{words.part}]: {UNOPENED}")
 
 
 class Rows:
@@ -140,7 +151,10 @@ class Rows:
         self.results: Dict[str, Optional[bool]] = {}
         self.chip: Chip = {}
         self.saved: Chip = {}
-        self.folder = self.undo = self.asked = ""
+        # the commands and replies by which memories can't be read
+        self.refusals: Dict[str, str] = {}
+        # where the copy of the memories is, how to restore what may be changed, and the last reading
+        self.folder = self.kept = self.undo = self.asked = ""
         self.programmer = Programmer(opens)
 
     def row(self, name: str, fault: Optional[str], seen: str = "") -> None:
@@ -200,11 +214,18 @@ class Rows:
             for block in self.blocks(memory):
                 piece = self.read(memory, *block)
                 if piece is None:
+                    self.judge_readable(memory)
                     break
                 pieces.append(piece)
             else:
                 chip[memory] = b"".join(pieces)
         return {memory: chip.get(memory) for memory in self.sizes}
+
+    def judge_readable(self, memory: str) -> None:
+        """Notes why a memory can't be read. Ends if it could be read before."""
+        self.refusals[memory] = self.asked
+        if self.saved.get(memory) is not None:
+            raise Ended(f"{memory} could be read before: {self.asked}")
 
     def difference(self, wanted: Chip, shift: int = 0) -> Optional[str]:
         """Reads all memories, or a sample, and returns where one differs."""
@@ -227,9 +248,9 @@ class Rows:
         if enters:
             self.enter()
         is_good = reply == code + bytes(2 if code in b"\x17\x19" else 1)
-        fault, seen = self.difference(done), "done" if is_good else "refused" + ", and done" * (done != self.chip)
+        fault, seen = self.difference(done), "done" if done != self.chip else "as before"
         if fault and not is_good and not self.difference(self.chip):
-            fault, done, seen = None, self.chip, "refused"
+            fault, done, seen = None, self.chip, "not done"
         self.chip = self.whole() if fault else done
         return fault and f"{hexed(*step)} was answered {hexed(reply)}; {fault}", f"{hexed(reply)}: {seen}"
 
@@ -245,21 +266,38 @@ class Rows:
         """Signs on, enters programming mode and saves all memories. Ends if the chip is another one, or locked."""
         self.programmer.ask(SIGN_ON)
         self.enter()
-        signature, lock = [self.read("signature", at, 1) or b"" for at in range(3)], self.read("lock", 0, 1)
-        found = b"".join(signature)
-        if found and found.hex() != (self.words.of_part("signature") or "").lower():
+        found, lock = b"".join(self.read("signature", at, 1) or b"" for at in range(3)), self.read("lock", 0, 1)
+        if hexed(found) in NO_SIGNATURES:
+            raise Ended(NO_CHIP)
+        if len(found) == 3 and found.hex() != (self.words.of_part("signature") or "").lower():
             raise Ended(f"the chip's signature is {hexed(found)}: is -p right?")
         if lock and lock[0] & 3 != 3:
             raise Ended(f"the chip is locked ({hexed(lock)}), so nothing is tried")
         self.chip = self.saved = self.whole()
-        # (flash that can't be read can't be restored)
-        self.is_all &= self.saved["flash"] is not None
+        self.is_all &= not self.obstacles()
+        try:
+            self.save_all()
+        except OSError as fault:
+            raise Ended(f"the memories can't be saved in this folder: {fault.strerror}")
+        print_line(f"all memories that can be read are saved in {self.folder}")
+
+    def lost_by_erase(self) -> List[str]:
+        """Returns the memories that can't be restored after an erase, because they can't be read."""
+        return [memory for memory in ("flash", "eeprom", "hfuse") if self.saved[memory] is None]
+
+    def obstacles(self) -> List[str]:
+        """Returns the memories because of which only EEPROM is written. (A bootloader restores flash without an
+        erase.)"""
+        return [memory for memory in self.lost_by_erase() if memory == "flash" or not self.words.is_bootloader]
+
+    def save_all(self) -> None:
+        """Saves all memories, and the pages that are written, in a new folder."""
         self.folder = tempfile.mkdtemp("", "try-rows-", ".")
+        self.kept = f"What was read at first is in {self.folder}"
         for memory, held in self.saved.items():
             self.save(f"{memory}.{FILES[memory][:3]}", held)
         self.save("page.hex", (self.saved["eeprom"] or b"")[: self.cell + self.part["eeprom_page"]], self.cell)
         self.save("front.hex", (self.saved["flash"] or b"")[: self.page + self.part["flash_page"]])
-        print_line(f"all memories that can be read are saved in {self.folder}")
 
     def save(self, name: str, held: Optional[bytes], begin: int = 0) -> None:
         """Writes a file of the form that --backup gives it."""
@@ -269,14 +307,14 @@ class Rows:
                 file.write(values if name.endswith("txt") else "".join(hex_rows([(begin, held[begin:])])))
 
     def begin_to_change(self) -> None:
-        """Notes the command that restores the chip from now on, or the folder if no command does."""
-        page = ("-U", f"eeprom:w:{self.folder}/page.hex:i") if self.saved["eeprom"] else ()
-        words, is_whole = page, None not in self.saved.values()
+        """Notes how to restore what is changed from now on. (With -c wiring a command takes no whole EEPROM.)"""
+        name = "page" if self.words.is_wiring else "eeprom"
+        eeprom = ("-U", f"eeprom:w:{self.folder}/{name}.hex:i") if self.saved["eeprom"] else ()
+        words, is_whole = eeprom, None not in self.saved.values()
         if self.is_all:
-            front = ("-D", "-U", f"flash:w:{self.folder}/front.hex:i", *page)
+            front = ("-D", "-U", f"flash:w:{self.folder}/front.hex:i", *eeprom)
             words = front if self.words.is_bootloader else (f"--restore={self.folder}",) * is_whole
-        command = command_again(self.words, *words)
-        self.undo = f"What restores it: {command}" if words else f"What was read at first is in {self.folder}"
+        self.undo = self.kept + f". To restore it, try: {command_again(self.words, *words)}" * bool(words)
 
     def only(self, *memories: str) -> Chip:
         return {memory: self.chip[memory] for memory in memories}
@@ -286,11 +324,9 @@ class Rows:
         for name in READING:
             here = {memory: held for memory, held in self.only(*MEMORIES[name]).items() if held is not None}
             fault = self.difference({**here}, BLOCK // 2)
-            seen = ", ".join(hexed(held) if len(held) < 4 else f"{len(held):,} bytes" for held in here.values())
-            if not here:
-                self.read(MEMORIES[name][0], 0, 1)
+            seen = ", ".join(self.refusals.get(memory) or shown(self.chip[memory]) for memory in MEMORIES[name])
             if fault or not here or name != "EEPROM":
-                self.row(f"reads {name}", fault and f"{self.asked}; {fault}", seen or f"refused: {self.asked}")
+                self.row(f"reads {name}", fault and f"{self.asked}; {fault}", seen)
 
     def keeps(self) -> None:
         """Nothing is changed by SIGN_ON, ENTER and LEAVE."""
@@ -312,8 +348,9 @@ class Rows:
         self.programmer.ask(*self.addressed("eeprom", self.cell))
         bodies = [write, *[ERASE] * self.is_all]
         replies = [self.programmer.send(body, True) for body in bodies]
-        obeyed = [hexed(body) for body, reply in zip(bodies, replies) if reply and reply[1:2] == b"\0"]
-        fault = f"{' and '.join(obeyed)} was obeyed" if obeyed else self.difference(self.chip)
+        taken = [(body, reply) for body, reply in zip(bodies, replies) if reply and reply[1:2] == b"\0"]
+        wrong = [f"{hexed(body)}, damaged, was answered {hexed(reply)}" for body, reply in taken]
+        fault = ", and ".join(wrong) or self.difference(self.chip)
         self.row("damaged frame", fault, " and ".join(hexed(reply) if reply else "no reply" for reply in replies))
         self.chip = self.whole() if fault else self.chip
 
@@ -321,8 +358,8 @@ class Rows:
         """Inverts bits of all but one byte of a page, and puts them back twice. Both ways of reading see the same."""
         held, fault, seen, unlike = self.chip["eeprom"], None, "", None
         if held is None or "reads EEPROM" in self.results:
-            self.leave_out("damaged frame", "EEPROM can't be read")
-            return self.leave_out("writes EEPROM", "EEPROM can't be read")
+            self.leave_out("damaged frame", UNREAD)
+            return self.leave_out("writes EEPROM", UNREAD)
         old = held[self.cell : self.cell + self.part["eeprom_page"]]
         self.begin_to_change()
         self.damaged(self.writing("eeprom", self.cell, bytes(byte ^ 0x5A for byte in old))[-1])
@@ -335,7 +372,7 @@ class Rows:
         self.is_put_back()
         self.row("reads EEPROM", unlike, f"{len(held):,} bytes")
         if unlike:
-            return self.leave_out("writes EEPROM", "what is written can't be read")
+            return self.leave_out("writes EEPROM", UNREAD)
         self.row("writes EEPROM", fault, seen)
 
     def is_put_back(self) -> None:
@@ -361,15 +398,16 @@ class Rows:
             fault = fault or (wrong and f"before ENTER {wrong}") or again
             self.is_put_back()
         self.enter()
-        changed, refused = self.difference(self.chip), found.count(None)
+        changed, unread = self.difference(self.chip), found.count(None)
         fault, self.chip = fault or changed, self.whole() if changed else self.chip
-        self.row("restart", fault, f"before ENTER {refused} readings are refused, {len(found) - refused} are true")
+        seen = f"before ENTER {unread} of {len(found)} readings had no good reply, the others are true"
+        self.row("restart", fault, seen)
 
     def erase(self) -> bool:
         """Returns whether the chip was erased."""
         flash, eeprom, hfuse = self.chip["flash"], self.chip["eeprom"], self.chip["hfuse"]
         if flash is None or eeprom is None or hfuse is None:
-            self.leave_out("erases", "not all memories can be restored")
+            self.leave_out("erases", f"{' and '.join(self.lost_by_erase())} can't be read")
             return False
         takes = hfuse[0] >> self.part["eesave_bit"] & 1
         done: Chip = {**self.chip, "flash": b"\xff" * len(flash), "lock": b"\xff"}
@@ -389,20 +427,18 @@ class Rows:
         self.writes("writes fuses", [(fuse, self.chip[fuse]) for fuse in fuses], "each with its own byte")
         # (a bit of the lock is cleared only if an erase has set it, or a bootloader can't clear it)
         values = [b"\xff", b"\xfe"] if is_erased or self.words.is_bootloader else [b"\xff"]
-        lock = [("lock", value if self.chip["lock"] else None) for value in values]
-        self.writes("writes lock", lock, f"with {hexed(*values)}")
+        self.writes("writes lock", [("lock", value) for value in values], f"with {hexed(*values)}")
         self.restore(is_erased)
 
     def writes(self, name: str, given: Sequence[Tuple[str, Optional[bytes]]], what: str) -> None:
         """Writes these bytes, one after another, up to the first fault."""
+        if any(self.chip[memory] is None for memory, _ in given):
+            return self.leave_out(name, "what is written can't be read")
         fault, seen = None, ""
         for memory, data in given:
-            if data is None:
-                return self.leave_out(name, "what is written can't be read")
             if not fault:
-                fault, result = self.write(memory, self.page if memory == "flash" else 0, data)
-                seen = seen or f"{result}; {what}"
-        self.row(name, fault, seen)
+                fault, seen = self.write(memory, self.page if memory == "flash" else 0, data or b"")
+        self.row(name, fault, f"{seen}; {what}")
 
     def restore(self, is_erased: bool) -> None:
         """Writes what was saved, in two rounds if needed."""
@@ -410,7 +446,8 @@ class Rows:
             self.programmer.restart()
             self.programmer.ask(SIGN_ON)
             self.enter()
-            self.programmer.ask(ERASE)
+            if not self.lost_by_erase():
+                self.programmer.ask(ERASE)
             self.chip = self.whole()
             for memory in "flash", "eeprom", "lock":
                 page, saved = self.part.get(f"{memory}_page", 1), self.saved[memory] or b""
@@ -423,7 +460,7 @@ class Rows:
             self.chip = self.whole()
             if self.chip == self.saved:
                 self.undo = ""
-                print_line("the chip is as it was before")
+                print_line("all memories that can be read are as before")
                 break
 
     def try_all(self) -> None:
@@ -435,8 +472,9 @@ class Rows:
         if self.is_all:
             self.changes()
         else:
-            more = "--try-rows=all --yes tries it, at a chip that you can lose"
-            self.leave_out_all("flash can't be read" if self.chip["flash"] is None else more)
+            hidden = " and ".join(self.obstacles())
+            needs = "this needs --try-rows=all --yes, and a chip to spare"
+            self.leave_out_all(f"{hidden} can't be read" if hidden else needs)
         self.programmer.ask(LEAVE)
 
     def put_back(self) -> None:
@@ -444,9 +482,11 @@ class Rows:
         self.programmer.heeds = False
         old = self.saved.get("eeprom")
         if self.undo and old and not self.is_all:
-            place = self.cell, old[self.cell : self.cell + self.part["eeprom_page"]]
-            if self.programmer.ask(*self.writing("eeprom", *place))[1:2] == b"\0":
-                self.undo, self.chip = "", {**self.chip, "eeprom": old}
+            page = old[self.cell : self.cell + self.part["eeprom_page"]]
+            self.programmer.ask(ENTER)
+            self.programmer.ask(*self.writing("eeprom", self.cell, page))
+            if self.read("eeprom", self.cell, len(page)) == page:
+                self.undo, self.chip = "", self.written("eeprom", self.cell, page)
         self.programmer.ask(LEAVE)
 
     def left(self) -> str:
@@ -456,21 +496,24 @@ class Rows:
         if not self.chip or any(name in failed for name in KEPT) or len(unread) == len(READING):
             return "none"
         if not failed and None not in self.results.values() and not self.words.is_version1:
-            return "after a verified run with status 0 the chip holds the images (README has the conditions)"
-        limit = " while the line changes no byte (version 1 has no checksums)" * self.words.is_version1
+            return "under README's conditions, after a verified run with status 0 the chip holds the images"
+        limit = f" (not {', '.join(unread)})" if unread else ""
+        limit += " while the line changes no byte (version 1 has no checksums)" * self.words.is_version1
         is_untried = self.results["damaged frame"] is None and not self.words.is_version1
         limit += " if it obeys no damaged frame, which was not tried" * is_untried
-        limit += f" (not {', '.join(unread)})" if unread else ""
-        return f"after a run with status 0, each image that it compared after its last write is in the chip{limit}"
+        images = "each image that it compared after its last write is in the chip"
+        return f"under README's conditions, after a run with status 0, {images}{limit}"
 
 
 def try_rows(words: Words, opens: Callable[[], Opened]) -> int:
-    """Tries the rows, and returns the status: 0 if all that were tried are met."""
+    """Tries the rows, and returns the status: 0 if all that were tried are met, and the chip reads as before."""
     rows, why = Rows(words, opens), None
     try:
         rows.try_all()
     except (Ended, Fault, OSError) as fault:
-        why = (fault.strerror if isinstance(fault, OSError) else None) or str(fault)
+        why = str(fault)
+        if isinstance(fault, OSError):
+            why = f"{fault.filename or words.device}: {fault.strerror}"
         with contextlib.suppress(Ended, OSError):
             rows.put_back()
     finally:
@@ -478,13 +521,11 @@ def try_rows(words: Words, opens: Callable[[], Opened]) -> int:
     tried, again = [is_met for is_met in rows.results.values() if is_met is not None], rows.programmer.repeated
     if why:
         print_line(f"no further row is tried: {why}")
-    if why == "no answer to 01" and not rows.results:
+    if why == "no valid reply to 01" and not rows.results:
         print_line(hint(Outcome(words, commands={SIGN_ON[0]}, was_opened=True, error="no answer"), None))
-    print_line(f"{sum(tried)} of {len(tried)} rows are met, tried at some addresses; {again} commands repeated")
+    print_line(f"{sum(tried)} of {len(tried)} rows are met, tried at some addresses; steps repeated: {again}")
     print_line(f"promised of such a programmer: {'not known' if why else rows.left()}")
-    if rows.undo:
-        print_line(f"the chip is changed. {rows.undo}")
-    elif rows.chip != rows.saved:
-        seen = "the chip now reads otherwise than at first, so it may be changed"
-        print_line(f"{seen}. What was read at first is in {rows.folder}")
-    return 0 if all(tried) and not why else 1
+    is_as_before = not rows.undo and rows.chip == rows.saved
+    if not is_as_before:
+        print_line(f"the chip may be changed. {rows.undo or rows.kept}")
+    return 0 if all(tried) and not why and is_as_before else 1

@@ -536,6 +536,7 @@ def judge(words: Words) -> None:
     if words.each:
         words.each.judge(words)
         check(words)
+    words.report.stage = "arguments"
     far = why_far(words) if words.is_wiring else None
     if far:
         raise Fault(f"{far}: {UNOPENED}")
@@ -773,11 +774,13 @@ def ran(words: Words, put: Callable[[bytes], None] = messages.put, earlier: froz
     count, outcome = int(words.retry), Outcome(words)
     while True:
         words.tries += 1
+        words.report.stage = "file"
         if words.each:
             give(words, words.each, earlier)
         outcome = Outcome(words, earlier, is_held=outcome.is_held)
+        words.report.stage = "device"
         run = Run(words, outcome, put)
-        words.report.runs.append(outcome)
+        words.report.begin(outcome)
         try:
             run.bridge()
         except BaseException:
@@ -787,6 +790,8 @@ def ran(words: Words, put: Callable[[bytes], None] = messages.put, earlier: froz
             raise
         finally:
             run.end()
+        # (if avrstk reported no error, it was ended; after a run only a file or stream can fail)
+        words.report.stage = "interrupted" if outcome.status else "file"
         earlier |= outcome.commands
         repairs = re.match(r"no answer$|link |\w+: address \w+: \w+ expected, \w+ found$", outcome.error)
         if words.tries > count or ended_by() or not outcome.status or not repairs:
@@ -825,9 +830,9 @@ def ask(
     session, report = copy.copy(words), words.report
     session.flags, session.updates, session.part, session.each = flags, updates, part or words.part, None
     lines: list[bytes] = []
-    before, stage, report.stage = len(report.lines), report.stage, "device"
+    before = len(report.lines)
     outcome = ran(session, lines.append)
-    outcome.may_change, words.speeds, report.stage = False, session.speeds, stage
+    outcome.may_change, words.speeds = False, session.speeds
     is_loader = risk is not None and outcome.error.startswith("command 1C refused")
     if is_loader or not outcome.status:
         # (what the session before the run read or compared is no update of the run)
@@ -853,6 +858,7 @@ def detect(words: Words) -> set[int]:
     outcome, lines = ask(words, ["-F", "-n"], [], "m328p")
     (signature,) = re.findall(r"^avrstk: device signature = ((?:\w\w ?){3})$", lines, re.M)
     names = parts_of(signature)
+    words.report.stage = "no chip" if signature in NO_SIGNATURES else "arguments" if names else "other part"
     has = f"-p auto: the chip has the signature {signature}, which"
     if signature in NO_SIGNATURES:
         raise Fault(f"-p auto: {NO_CHIP}; nothing was written")
@@ -870,19 +876,21 @@ def prepare(words: Words) -> None:
     lone = [option for option in ("--from", "--rows", "--counter") if option in words.last and not words.each_given]
     if lone:
         raise Fault(f"{' and '.join(lone)}: for what --each writes, which is not given")
+    words.report.stage = "file"
     if words.restore is not None:
         try:
             words.updates, words.flags = restored(words, words.restore), [*words.flags, "-e"]
         except (Fault, OSError) as fault:
             raise Fault(f"{text_of(fault)}: {UNOPENED}")
-    words.report.stage = "file"
     words.each = Each(words) if words.each_given else None
     judge_files(words)
     words.report.stage = "arguments"
     judge_rows(words)
     judge(words)
     if "-l" in words.last:
+        words.report.stage = "file"
         messages.log = open(words.last["-l"], "wb", 0)
+    words.report.stage = "arguments"
     if words.left_out:
         words.note(f"ignored: {', '.join(words.left_out)}")
     for update in words.updates if "-q" not in words.flags else []:
@@ -899,6 +907,9 @@ def reported(words: Words) -> int:
         words.report.fault = text_of(fault)
         raise
     finally:
+        messages.finish()
+        if messages.lost and not status:
+            status, words.report.stage, words.report.fault = 1, "file", "a message can't be written"
         if "--json" in words.last and not write(words.last["--json"], words.report.made(words, status, ended_by())):
             status = 1
     return status
@@ -930,6 +941,7 @@ def live(words: Words) -> int:
     words.report.stage = "device"
     if not words.has_port:
         judge_device(words.device)
+    words.report.stage = "file"
     if words.each:
         # (what is judged later has a number's text)
         words.each.judge(words)
@@ -944,7 +956,7 @@ def execute(words: Words) -> int:
         judge_part(words, "nothing was written")
         if words.each:
             # (only now the size of a memory is known, and no number is taken yet)
-            words.each.end = "nothing was written"
+            words.report.stage, words.each.end = "file", "nothing was written"
             words.each.judge(words)
     risk = risk_of_loader(words)
     if risk and not sent:
@@ -963,7 +975,6 @@ def execute(words: Words) -> int:
         if lacks:
             print_line(f"{update.memory} of {words.part} has {lacks}")
     warn(words)
-    words.report.stage = "device"
     outcome = ran(words, earlier=frozenset(sent))
     if outcome.status and not words.has_port:
         raise Fault(hint(outcome, ended_by()))
