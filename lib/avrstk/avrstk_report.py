@@ -152,8 +152,8 @@ def fault_of(place: str) -> str | None:
     if os.path.isdir(place):
         return "is a folder"
     if not os.path.isdir(folder):
-        return f"cannot be created, since {folder} is no folder"
-    return None if os.access(folder if is_file else place, os.W_OK) else "cannot be written, you have no right to"
+        return f"cannot be created, since no folder {folder} can be reached"
+    return None if os.access(folder if is_file else place, os.W_OK) else "cannot be written"
 
 
 def write(place: str, report: dict[str, object]) -> bool:
