@@ -1630,7 +1630,7 @@ FOLLOWED = [
     (r"a format is one letter: give -U (\S+);", changed("^flash:.*", r"\1")),
     (r"a value is written as 0xE2", changed(":E2:", ":0xE2:")),
     (
-        r"belongs to no option: is (-U) or -P missing before it",
+        r"belongs to no option: is one, such as (-U), missing before it",
         lambda words, _, found: [*words[:-1], found[1], words[-1]],
     ),
     (r"a value needs :m after it: give (\S+) if it is hexadecimal", changed("^lfuse.*", r"\1")),

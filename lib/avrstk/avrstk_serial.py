@@ -771,11 +771,14 @@ def warn(words: Words) -> None:
     name = words.chip()
     writes = [update for update in words.updates if update.operation == "w" and update.memory in FUSES]
     values = [(update, update.value()) for update in writes]
-    for what, memory, mask, risky in [risk for names, risk in RISKS if name and re.match(names, name)]:
-        own = [(update.given, value) for update, value in values if update.memory == memory]
-        found = [given for given, value in own if value is not None and value & mask == risky]
-        if found:
-            print_line(f"warning: {' and '.join(found)} {what}")
+    found = [
+        f"warning: {update.given} {what}"
+        for names, (what, memory, mask, risky) in RISKS
+        for update, value in values
+        if name and re.match(names, name) and update.memory == memory and value is not None and value & mask == risky
+    ]
+    for line in found:
+        print_line(line)
 
 
 def ran(words: Words, put: Callable[[bytes], None] = messages.put, earlier: frozenset[int] = frozenset()) -> Outcome:

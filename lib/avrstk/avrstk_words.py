@@ -297,7 +297,8 @@ def judge_words(options: Sequence[tuple[str, str]], others: Sequence[str]) -> No
         raise Fault("all belongs to no option: give --try-rows=all")
     if re.match("-.", other):
         raise Fault(f"{other.partition('=')[0]} is after --, which ends the options")
-    raise Fault(f"{other} belongs to no option: is -U or -P missing before it, or quotes around a name with blanks?")
+    cure = "is one, such as -U, missing before it, or quotes around a name with blanks?"
+    raise Fault(f"{other} belongs to no option: {cure}")
 
 
 class Update:
