@@ -451,6 +451,7 @@ def refused():
     room.put("big.hex", hex_of([(32_768, b"x")]))
     room.put("257.hex", hex_of([(250, b"1234567")]))
     room.put("257.bin", bytes(257))
+    room.put("colon.bin", b":\1\2\3")
     room.put("lfuse.txt", b"0xe2\n")
     room.put("long x.elf", b"\x7fELF" + b"x" * 600 + b"\n")
     (room.folder / "gone.hex").symlink_to("nowhere")

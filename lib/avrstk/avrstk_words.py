@@ -484,8 +484,7 @@ class Update:
 
     def kind(self) -> str | None:
         """Returns the letter of an image's format, which is detected if none is given; None of values."""
-        detected = {b":": "i", b"S": "s"}.get(self.front.lstrip()[:1], "r")
-        return detected if self.format in (None, "a") else self.format
+        return form_of(self.front) or "r" if self.format in (None, "a") else self.format
 
     def writes(self, memory: str) -> bool:
         return self.operation == "w" and self.memory == memory
