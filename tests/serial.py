@@ -979,7 +979,8 @@ def backups_that_fail():
         ),
     ]
     sizes = "flash_size = 8192, flash_page = 64, eeprom_size = 512, eeprom_page = 4, eesave_bit = 3"
-    room.put("odd.toml", f"[parts]\n'odd' = {{ signature = \"1E930B\", {sizes} }}\n".encode())
+    # (the script doesn't read a part in one line with its table)
+    room.put("odd.toml", f'parts = {{ odd = {{ signature = "1E930B", {sizes} }} }}\n'.encode())
     odd = ["--parts", "odd.toml", "-p", "odd", "--restore", "a backup"]
     fails.append(({"part": "t85", "answer": written}, odd, "signature holds something else than 0x1E,0x95,0x0F"))
     room.put("locked.bin", b"\xff" * 33_795 + b"\xfc")
@@ -1913,7 +1914,8 @@ def hints_over_each_memory():
 def put_files_of_walks(good):
     """Puts the files into the room that the walks name. `good` is the firmware as Intel HEX."""
     fields = "flash_size = 32768, flash_page = 128, eeprom_size = 1024, eeprom_page = 4, eesave_bit = 3"
-    mine = "".join(f'{name} = {{ signature = "1E950F", {fields} }}\n' for name in ["m328p", "'c-chip'"])
+    # (the script doesn't read a name with an escape)
+    mine = "".join(f'{name} = {{ signature = "1E950F", {fields} }}\n' for name in ["m328p", r'"\u0063-chip"'])
     files = {
         "mine.toml": f"[parts]\n{mine}".encode(),
         "other.toml": f"[parts]\n{mine.replace('950F', '9514')}".encode(),
