@@ -42,8 +42,8 @@ HEAD = """\
 
 HEAD_OF_BITS = """\
 # The bits that the fuses and the lock of the parts in classic.toml have: lfuse, hfuse, efuse, lock. Made by
-# tests/parts.py --write of the write instructions in the configuration of AVRDUDE 7.1. A part reads its other bits
-# as 1. A dash stands for a memory whose other bits are read as 0.
+# tests/parts.py --write: a bit is here if the write instructions in the configuration of AVRDUDE 7.1 have it, or the
+# headers of avr-libc 2.0. A part reads its other bits as 1. A dash stands for a memory whose other bits are read as 0.
 """
 HEAD_OF_UNSUPPORTED = """\
 # Parts that classic.toml doesn't have, with the reason. Made by tests/parts.py --write of docs/PARTS.
@@ -127,17 +127,18 @@ def header_rows(name, seen):
             yield row
 
 
-def eesave_fuse(name):
-    """Returns the fuse under whose heading a header defines EESAVE: lfuse, hfuse, efuse or None."""
-    fuse = None
+def fuse_bits(name):
+    """Returns what a header defines under the headings of fuses: by each name, its fuse (or None) and its bit."""
+    fuse, found = None, {}
     for row in header_rows(name, set()):
         low = row.lower()
         if "/*" in low and "fuse" in low and not low.lstrip().startswith("#"):
             marks = [("efuse", ("extended", "efuse")), ("hfuse", ("high", "hfuse")), ("lfuse", ("low", "lfuse"))]
             fuse = next((found for found, words in marks if any(word in low for word in words)), fuse)
-        if re.match(r"#\s*define\s+FUSE_EESAVE\b", row):
-            return fuse
-    return None
+        defined = re.match(r"#\s*define\s+FUSE_(\w+)\s.*_BV\((\d)\)", row)
+        if defined:
+            found.setdefault(defined[1], (fuse, int(defined[2])))
+    return found
 
 
 def by_headers(name):
@@ -161,7 +162,9 @@ def by_headers(name):
         found = dict(zip(FIELDS, [signature, *sizes, int(bit[1])]))
     except (KeyError, TypeError, ValueError):
         return None
-    return found if device and eesave_fuse(device) == "hfuse" and value("FUSE_MEMORY_SIZE") == 3 else None
+    fuses = fuse_bits(device) if device else {}
+    found["fuses"] = {(fuse, bit) for fuse, bit in fuses.values() if fuse}
+    return found if fuses.get("EESAVE", "")[:1] == ("hfuse",) and value("FUSE_MEMORY_SIZE") == 3 else None
 
 
 @functools.cache
@@ -198,17 +201,19 @@ def made(parts):
     return HEAD + "".join(row(*pair) for pair in names)
 
 
-def mask(memory):
-    """Returns the bits of a fuse or lock that a write gives, in hexadecimal digits; a dash if another is read as 0."""
-    given, read = (bits(memory[operation])[24:] for operation in ("write", "read"))
-    return "-" if "0" in read else f"{sum(1 << (7 - at) for at, letter in enumerate(given) if letter == 'i'):02X}"
+def mask(name, part, fuses):
+    """Returns the bits of a fuse or lock that a write gives, or that a header defines, in hexadecimal digits; a dash if
+    another is read as 0."""
+    given, read = (bits(part[name][operation])[24:] for operation in ("write", "read"))
+    found = {7 - at for at, letter in enumerate(given) if letter == "i"} | {bit for fuse, bit in fuses if fuse == name}
+    return "-" if "0" in read else f"{sum(1 << bit for bit in found):02X}"
 
 
 def made_bits(parts):
     """Returns the text of bits.txt."""
     rows = {}
-    for long, _, part in sorted(parts.values(), key=lambda entry: entry[0]):
-        masks = " ".join(mask(part[memory]) for memory in ("lfuse", "hfuse", "efuse", "lock"))
+    for long, fields, part in sorted(parts.values(), key=lambda entry: entry[0]):
+        masks = " ".join(mask(memory, part, fields["fuses"]) for memory in ("lfuse", "hfuse", "efuse", "lock"))
         rows.setdefault(masks, []).append(long)
     return HEAD_OF_BITS + "".join(f"{' '.join(names)}: {masks}\n" for masks, names in sorted(rows.items()))
 

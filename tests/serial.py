@@ -384,6 +384,8 @@ def parts():
 
 
 UNOPENED = "nothing was sent, and the device was not opened"
+LIKE_TEXT = "looks like text, and doesn't begin with a record: give it as raw bytes (:r) only if its characters are "
+LIKE_TEXT += "meant"
 
 # texts that are no firmware, and updates of images without a byte
 TEXTS = {
@@ -418,6 +420,12 @@ PACKED = {
     "main.hex.gz": (gzip.compress(b"firmware"), "a gzip file"),
     "main.hex.xz": (lzma.compress(b"firmware"), "an xz file"),
     "main.hex.bz2": (bz2.compress(b"firmware"), "a bzip2 file"),
+    "none.zip": (b"PK\5\6" + bytes(18), "a zip archive"),
+    "main.7z": (b"7z\xbc\xaf\x27\x1c\0\4" + bytes(24), "a 7z archive"),
+    "main.rar": (b"Rar!\x1a\7\1\0" + bytes(20), "a rar archive"),
+    "new.cpio": (b"070701" + b"0000000A" * 13 + b"main.hex\0\0", "a cpio archive"),
+    "old.cpio": (struct.pack("<13H", 0o70707, 1, 2, 0o100644, *bytes(6), 9, 0, 2) + b"main.hex\0\0", "a cpio archive"),
+    "main.hex.lz4": (b"\x04\x22\x4d\x18\x64\x40\xa7" + bytes(9), "an lz4 file"),
     "404": (b"<html>404 Not Found</html>\n", "an HTML page"),
     "html": ("<html>\n<p>Größe</p>\n".encode(), "an HTML page"),
     "page.php": ("\n <!doctype HTML>\n<p>\u30a8\u30e9\u30fc</p>\n".encode(), "an HTML page"),
@@ -443,6 +451,7 @@ def refused():
     room.put("big.hex", hex_of([(32_768, b"x")]))
     room.put("257.hex", hex_of([(250, b"1234567")]))
     room.put("257.bin", bytes(257))
+    room.put("colon.bin", b":\1\2\3")
     room.put("lfuse.txt", b"0xe2\n")
     room.put("long x.elf", b"\x7fELF" + b"x" * 600 + b"\n")
     (room.folder / "gone.hex").symlink_to("nowhere")
@@ -486,11 +495,12 @@ def texts_and_firmware():
                 1,
                 b"",
                 b"",
-                [f"- is text without records: give it as raw bytes (:r) only if its characters are meant: {UNOPENED}"],
+                [f"- {LIKE_TEXT}: {UNOPENED}"],
             ),
         )
     found = piped([*NO_CHIP, "-U", "eeprom:w:-"], raw)
     check_equal("a text in EEPROM", (found[0], room.read("no.bin")[32_768:][: len(raw)]), (0, raw))
+    check_equal("a fuse as one raw byte", piped([*NO_CHIP, "-U", "lfuse:w:-"], b"\xe2")[0], 0)
     status, *_ = run([*NO_CHIP, "-U", "eeprom:w:m.c:r"])
     check_equal("a text as raw bytes", (status, room.read("no.bin")[32_768:][: len(TEXTS["m.c"])]), (0, TEXTS["m.c"]))
     # (vectors, and strings right behind them)
@@ -506,7 +516,7 @@ def no_firmware():
     """A text without records, an archive, an HTML page and an empty image are refused, also from a pipe. A text as raw
     bytes (:r) is not."""
     why = {
-        **dict.fromkeys(TEXTS, "is text without records: give it as raw bytes (:r) only if its characters are meant"),
+        **dict.fromkeys(TEXTS, LIKE_TEXT),
         **dict.fromkeys(EMPTY, "is empty (did its build fail?)"),
     }
     why.update({name: f"is {what}, not firmware" for name, (_, what) in PACKED.items()})
@@ -594,6 +604,13 @@ def devices():
         program = stand_in(error, Path(folder))["AVRSTK"]
         ran = run_as_anyone(["-p", "m328p", "-P", device, "-U", f"flash:w:{closed}:i"], program)
         check("no right to a file", b"avrstk-serial: you may not read it; nothing was sent" in ran.stderr, ran.stderr)
+        closed = Path(folder, "closed", "folder")
+        closed.mkdir(parents=True)
+        closed.parent.chmod(0)
+        ran = run_as_anyone(["-p", "m328p", "-P", device, "-U", f"flash:r:{closed}/x.hex"], program)
+        reached = f"{closed}/x.hex cannot be created, since no folder {closed} can be reached: nothing was sent"
+        check("no way to a folder", reached.encode() in ran.stderr, ran.stderr)
+        closed.parent.chmod(0o700)
     os.close(line)
 
 
@@ -963,7 +980,8 @@ def backups_that_fail():
         ),
     ]
     sizes = "flash_size = 8192, flash_page = 64, eeprom_size = 512, eeprom_page = 4, eesave_bit = 3"
-    room.put("odd.toml", f"[parts]\n'odd' = {{ signature = \"1E930B\", {sizes} }}\n".encode())
+    # (the script doesn't read a part in one line with its table)
+    room.put("odd.toml", f'parts = {{ odd = {{ signature = "1E930B", {sizes} }} }}\n'.encode())
     odd = ["--parts", "odd.toml", "-p", "odd", "--restore", "a backup"]
     fails.append(({"part": "t85", "answer": written}, odd, "signature holds something else than 0x1E,0x95,0x0F"))
     room.put("locked.bin", b"\xff" * 33_795 + b"\xfc")
@@ -1025,12 +1043,14 @@ def warnings():
     fields = "flash_size = 32768, flash_page = 128, eeprom_size = 1024, eeprom_page = 4, eesave_bit = 3"
     mine = [
         f'{name} = {{ {fields}, signature = "{digits}" }}\n'
-        for name, digits in [("m328p", "1e950F"), ("b-chip", "1E9500")]
+        for name, digits in [("m328p", "1e950F"), ("b-chip", "1E9500"), ("'d-chip'", "1E950F")]
     ]
+    dotted = "".join(f"g-chip.{field}\n" for field in [*fields.split(", "), "'signature' = '1E950F'"])
     fields = fields.replace(", ", "\n")
-    mine.append(f'[parts.a-chip]\nsignature = "1E950F"\n{fields}\n')
+    for name, own in [("a-chip", ""), ("'e-chip'", '# signature = "1E9500"\n')]:
+        mine.append(f'[parts.{name}]\n{own}signature = "1E950F"\n{fields}\n')
     for part, words, wanted in table("warnings"):
-        room.put("mine.toml", ("[parts]\n" + "".join(mine)).encode())
+        room.put("mine.toml", ("[parts]\n" + dotted + "".join(mine)).encode())
         room.put("h59.hex", hex_of([(0, b"\x59")]))
         room.put("h59.srec", b"S104000059A2\nS9030000FC\n")
         room.put("h59.bin", b"\x59")
@@ -1394,8 +1414,15 @@ def put_odd_elf_files():
         subprocess.run(["avr-objcopy", *words, "main.elf", name], cwd=room.folder, check=True)
     note = struct.pack("<3I4s8I", 4, 45, 1, b"AVR", 0, 262144, 512, 8192, 0, 4096, 8, 1) + b"\0atmega2560\0"
     room.put("note", note)
-    words = ["--add-section", ".note.gnu.avr.deviceinfo=note", "-R", ".signature", "main.elf", "mega.elf"]
-    subprocess.run(["avr-objcopy", *words], cwd=room.folder, check=True)
+    noted = ["--add-section", ".note.gnu.avr.deviceinfo=note"]
+    subprocess.run(["avr-objcopy", *noted, "-R", ".signature", "main.elf", "mega.elf"], cwd=room.folder, check=True)
+    room.put("note", note.replace(b"atmega2560", b"atmega328p"))
+    subprocess.run(["avr-objcopy", *noted, "tiny.elf", "both.elf"], cwd=room.folder, check=True)
+    linked("none known.elf", ELF.replace("0x0F, 0x95, 0x1E", "1, 0, 0x1E"))
+    elf = room.read("main.elf")
+    # (without a table of sections, and with one of a kind of its own)
+    room.put("bare.elf", elf[:32] + bytes(4) + elf[36:48] + bytes(4) + elf[52:])
+    room.put("kind.elf", elf_with(b"\x0c\x94").replace(struct.pack("<3I", 1, 1, 6), struct.pack("<3I", 1, 6, 6)))
     room.put("loop.elf", odd_elf(65_535, 65_535, sizes=(0, 0)))
     room.put("headers.elf", odd_elf(500, 501))
     room.put("sizes.elf", odd_elf(1, 1, sizes=(32, 64)))
@@ -1606,8 +1633,8 @@ FOLLOWED = [
     (r"a format is one letter: give -U (\S+);", changed("^flash:.*", r"\1")),
     (r"a value is written as 0xE2", changed(":E2:", ":0xE2:")),
     (
-        r"belongs to no option: to write it into flash give (-U) (\S+)$",
-        lambda words, _, found: [*words[:-1], found[1], found[2]],
+        r"belongs to no option: is one, such as (-U), missing before it",
+        lambda words, _, found: [*words[:-1], found[1], words[-1]],
     ),
     (r"a value needs :m after it: give (\S+) if it is hexadecimal", changed("^lfuse.*", r"\1")),
     (r"a value needs :m after it, as lfuse:w:0xE2:m", changed("^lfuse:.*", "lfuse:w:0xE2:m")),
@@ -1888,7 +1915,8 @@ def hints_over_each_memory():
 def put_files_of_walks(good):
     """Puts the files into the room that the walks name. `good` is the firmware as Intel HEX."""
     fields = "flash_size = 32768, flash_page = 128, eeprom_size = 1024, eeprom_page = 4, eesave_bit = 3"
-    mine = "".join(f'{name} = {{ signature = "1E950F", {fields} }}\n' for name in ["m328p", "'c-chip'"])
+    # (the script doesn't read a name with an escape)
+    mine = "".join(f'{name} = {{ signature = "1E950F", {fields} }}\n' for name in ["m328p", r'"\u0063-chip"'])
     files = {
         "mine.toml": f"[parts]\n{mine}".encode(),
         "other.toml": f"[parts]\n{mine.replace('950F', '9514')}".encode(),
@@ -2166,7 +2194,7 @@ def unread_command_lines():
         (["-p", "m8", "-z", "--json", "unread.json"], ("option -z not recognized", "m8", None)),
         (
             ["--json=unread.json", "-P", "x", "--backup", "y", "-e"],
-            ("--backup reads all memories of the part: leave out -e", None, "x"),
+            ("--backup reads all memories of the part: it takes no -e", None, "x"),
         ),
         (["--json", "unread.json", "-Pa", "-Pb", "--wait"], ("option --wait requires argument", None, None)),
     ]:

@@ -107,7 +107,7 @@ def checked_place(name: str, section: Header, segments: list[Segment], left: int
     """Returns the load address of a section. Raises ValueError with the reason if the section can't be read. `left` is
     how many of the file's bytes no section had."""
     if section.kind not in KINDS or section.flags & ~FLAGS:
-        raise ValueError(f"has a section {name} of a kind that AVR doesn't have")
+        raise ValueError(f"has a section {name} of a kind that isn't read")
     if section.size > left:
         raise ValueError(f"has a section {name} that is too long: with it all have more bytes than the file")
     place = place_of(segments, section) if segments else section.address
@@ -128,7 +128,7 @@ def sections_of(elf: bytes) -> tuple[list[Section], str | None]:
     try:
         segments, sections = headers_of(elf)
     except (struct.error, IndexError):
-        raise ValueError("is damaged, or no linked ELF file for AVR")
+        raise ValueError("is damaged, or no linked ELF file for AVR with sections")
     found: list[Section] = []
     left = len(elf)
     for name, header in sections:

@@ -84,19 +84,23 @@ ONE_WRITE = "a Mega's bootloader erases pages from 0 on, so one command writes f
 CARRYING = {0x13: "writing flash", 0x14: "reading flash", 0x15: "writing eeprom", 0x16: "reading eeprom"}
 
 # fuses that keep an ISP programmer from the chip, by parts' long names: what a value does, its memory, its bits and
-# how these read then (by the parts' data sheets and the headers of avr-libc)
+# how these read then (by the parts' data sheets and the headers of avr-libc; of other parts' crystals nothing is sure)
 GONE = "no ISP programmer reaches the chip then"
 EXTERNAL = "selects an external clock: the chip only works while a clock drives its pin XTAL1 or CLKI"
-SLOW = "selects a clock of 128 kHz or less, which is too slow for most programmers: they don't reach the chip then"
+SLOW = "selects a slow clock: many programmers are too fast for the chip then"
+CRYSTAL = "selects a crystal of 32 kHz: without it the chip may not run, and with it many programmers are too fast"
 RESET = f"turns the reset pin off (RSTDISBL): {GONE}"
-DEBUG = "turns debugWIRE on (DWEN): no ISP programmer reaches the chip after its next power-up"
+DEBUG = "turns debugWIRE on (DWEN): after its next power-up no ISP programmer reaches the chip unless it is locked"
 RISKS = [
-    ("", (f"has SPIEN off: most parts keep it on, and the comparison fails; else {GONE}", "hfuse", 0x20, 0x20)),
+    ("", (f"has SPIEN off: most parts keep it on; else {GONE}", "hfuse", 0x20, 0x20)),
     ("(?!attiny88)", (EXTERNAL, "lfuse", 0x0F, 0)),
     ("attiny88", (EXTERNAL, "lfuse", 0x03, 0)),
     ("attiny88", (SLOW, "lfuse", 0x03, 3)),
     ("attiny([248][45]|1634)", (SLOW, "lfuse", 0x0F, 4)),
     ("atmega(88|168|328|640|128[01]|256[01])|attiny43u", (SLOW, "lfuse", 0x0F, 3)),
+    ("atmega(88|168|328|640|128[01]|256[01]|16u4|32u4)", (CRYSTAL, "lfuse", 0x0E, 4)),
+    ("atmega(165|169|325|329|645|649)", (CRYSTAL, "lfuse", 0x0E, 6)),
+    ("attiny[248][45](?!1)", (CRYSTAL, "lfuse", 0x0F, 6)),
     ("atmega(165|169|325|329|645|649)", (RESET, "efuse", 0x01, 0)),
     ("at90usb162|atmega(8|16|32)u2", (RESET, "hfuse", 0x40, 0)),
     ("at90usb162|atmega(8|16|32)u2", (DEBUG, "hfuse", 0x80, 0)),
@@ -720,7 +724,8 @@ def judge_part(words: Words, end: str) -> None:
         named = named or known.get(update.chip or "", {}).get("signature") == own
         if named and update.signature in (None, own):
             continue
-        chip = update.chip or " or ".join(parts_of(update.signature or "")) or update.signature
+        own_names = " or ".join(parts_of(update.signature or "")) or f"a chip of signature {update.signature}"
+        chip = own_names if named else update.chip
         why, cure = f"{update.file} is made for {chip}, and -p is {words.part}", "give -p for that chip, or -F"
         if words.last.get("-p") == "auto":
             why, cure = f"{update.file} is made for {chip}, and the chip is {words.part}", "give another file, or -F"
@@ -762,11 +767,14 @@ def warn(words: Words) -> None:
     name = words.chip()
     writes = [update for update in words.updates if update.operation == "w" and update.memory in FUSES]
     values = [(update, update.value()) for update in writes]
-    for what, memory, mask, risky in [risk for names, risk in RISKS if name and re.match(names, name)]:
-        own = [(update.given, value) for update, value in values if update.memory == memory]
-        found = [given for given, value in own if value is not None and value & mask == risky]
-        if found:
-            print_line(f"warning: {' and '.join(found)} {what}")
+    found = [
+        f"warning: {update.given} {what}"
+        for names, (what, memory, mask, risky) in RISKS
+        for update, value in values
+        if name and re.match(names, name) and update.memory == memory and value is not None and value & mask == risky
+    ]
+    for line in found:
+        print_line(line)
 
 
 def ran(words: Words, put: Callable[[bytes], None] = messages.put, earlier: frozenset[int] = frozenset()) -> Outcome:

@@ -41,11 +41,14 @@ DATA = re.compile(rb"^(?::(?!00)..(?:....)00|S1(?!03)|S2(?!04)|S3(?!05))", re.M)
 MARKED = re.compile(rb"[ \t\r](?::|S[123])")
 END = re.compile(rb"^(?::00....01|S[789])", re.M)
 
-# how files begin that are neither firmware nor text
+# how files begin that are neither firmware nor text. (cpio's old form has binary numbers, and a name below 256 bytes)
 PACKED = {
-    **{"an ar archive": rb"!<(arch|thin)>\n", "a zip archive": rb"PK\x03\x04", "a tar archive": rb"(?s:.{257})ustar"},
-    **{"a gzip file": rb"\x1f\x8b", "an xz file": rb"\xfd7zXZ\0", "a bzip2 file": rb"BZh[1-9]"},
-    **{"a zstd file": rb"\x28\xb5\x2f\xfd", "an HTML page": rb"(?i)(\xef\xbb\xbf)?\s*<(!doctype html|html|head|body)"},
+    **{"an ar archive": rb"!<(arch|thin)>\n", "a zip archive": rb"PK(\x03\x04|\x05\x06)"},
+    **{"a tar archive": rb"(?s:.{257})ustar", "a cpio archive": rb"07070[127][0-9A-Fa-f]{30}|(?s:\xc7\x71.{19}\0)"},
+    **{"a 7z archive": rb"7z\xbc\xaf\x27\x1c", "a rar archive": rb"Rar!\x1a\x07"},
+    **{"a gzip file": rb"\x1f\x8b\x08", "an xz file": rb"\xfd7zXZ\0", "a bzip2 file": rb"BZh[1-9]"},
+    **{"a zstd file": rb"\x28\xb5\x2f\xfd", "an lz4 file": rb"(\x04\x22\x4d|\x02\x21\x4c)\x18"},
+    **{"an HTML page": rb"(?i)(\xef\xbb\xbf)?\s*<(!doctype html|html|head|body)\b"},
 }
 
 # options of AVRDUDE and of avrstk
@@ -141,14 +144,14 @@ class Words:
         self.updates = [Update(update) for update in self.given]
         excluded_by = [
             ("--backup", "reads all memories of the part", "-U -e -F --each --restore"),
-            ("--restore", "is for all memories, and verifies", "-U -e -D -V -n -F"),
+            ("--restore", "erases and writes the chip, and compares it", "-U -e -D -V -n -F"),
         ]
         for name, what, excluded in excluded_by:
             found = [option for option in excluded.split() if name in last and option in last]
             if found:
-                raise Fault(f"{name} {what}: leave out {' and '.join(found)}")
+                raise Fault(f"{name} {what}: it takes no {' or '.join(found)}")
             if name in last and self.is_bootloader:
-                raise Fault(f"{name} needs a programmer, not a bootloader")
+                raise Fault(f"{name} needs a programmer, and -c {self.programmer} is for a bootloader")
         self.flags = [name for name, _ in options if name in FLAGS]
         # the images by their names, as far as they were read
         self.contents: dict[str, bytes | None] = {}
@@ -217,10 +220,11 @@ class Words:
         """Returns a field of the part in the part file of one's own."""
         if self.parts_file is None or not os.path.isfile(self.parts_file):
             return None
-        part = rf'(?:\bparts\.)?"?{re.escape(self.part or "")}"?'
-        entry = rf'^\s*(?:\[{part}\]|{part}\s*=)[^\[}}]*?\b{name}\s*=\s*["\']?(\w+)'
+        # (names and values may be in quotes, and a comment may have fields, too)
         with open(self.parts_file, encoding="utf-8", errors="replace") as file:
-            found = re.search(entry, file.read(65_536), re.M)
+            text = re.sub("#.*|[\"']", "", file.read(65_536))
+        entry = rf"^\s*\[?\s*(?:parts\s*\.\s*)?{re.escape(self.part or '')}\s*[]=.][^\[}}]*?\b{name}\s*=\s*(\w+)"
+        found = re.search(entry, text, re.M)
         return found[1] if found else None
 
     def of_part(self, name: str) -> str | None:
@@ -272,8 +276,9 @@ class Words:
 def judge_words(options: Sequence[tuple[str, str]], others: Sequence[str]) -> None:
     """Refuses options without a value, and words without an option."""
     for option, value in options:
-        if option in ("-p", "-P", "-b") and value.startswith("-"):
-            raise Fault(f"{option} has no value before {value}")
+        if option in ("-p", "-P", "-b", "-c") and value.startswith("-"):
+            missing = f"is one missing before {value.partition('=')[0]}?"
+            raise Fault(f"{option} takes no value that begins with -: {missing}")
     if not others:
         return
     other, update = others[0], dict(options).get("-U", "")
@@ -283,17 +288,17 @@ def judge_words(options: Sequence[tuple[str, str]], others: Sequence[str]) -> No
         raise Fault(f"a name with blanks needs quotes: give -U {shlex.quote(whole)}")
     if memory in MEMORIES and rest in ("", "r", "w", "v", "r:", "w:", "v:"):
         pieces = [word.strip(":") for word in [update, *others] if word.strip(":")]
-        joined = Update(":".join(pieces[:4]))
-        is_one = [option for option, _ in options].count("-U") == 1 and joined.operation in "rwv" and joined.file
-        cure = f"give -U {shlex.quote(joined.given)}" if is_one else "MEMORY:OP:FILE:FORMAT"
+        joined = Update(":".join(pieces))
+        is_one = [option for option, _ in options].count("-U") == 1 and re.fullmatch("[^:]+", joined.file)
+        is_clear = is_one and joined.operation in ("r", "w", "v")
+        cure = f"give -U {shlex.quote(joined.given)}" if is_clear else "MEMORY:OP:FILE:FORMAT"
         raise Fault(f"an update is one word: {cure}")
     if other == "all" and dict(options).get("--try-rows") == "safe":
         raise Fault("all belongs to no option: give --try-rows=all")
     if re.match("-.", other):
-        raise Fault(f"{other} is after --, which ends the options: leave out --")
-    if re.match(r"[a-z]+:[rwv]:", other):
-        raise Fault(f"{other} belongs to no option: give -U {shlex.quote(other)}")
-    raise Fault(f"{other} belongs to no option: to write it into flash give -U {shlex.quote(f'flash:w:{other}')}")
+        raise Fault(f"{other.partition('=')[0]} is after --, which ends the options")
+    cure = "is one, such as -U, missing before it, or quotes around a name with blanks?"
+    raise Fault(f"{other} belongs to no option: {cure}")
 
 
 class Update:
@@ -371,9 +376,9 @@ class Update:
         if (is_target or self.is_image) and os.path.isdir(self.file):
             return "is a folder"
         if is_target and not os.path.isdir(folder):
-            return f"cannot be created, since {folder} is no folder"
+            return f"cannot be created, since no folder {folder} can be reached"
         if is_target and not os.access(self.file if os.path.exists(self.file) else folder, os.W_OK):
-            return "cannot be written, you have no right to"
+            return "cannot be written"
         return None
 
     def fault_of_image(self, held: bytes | None) -> str | None:
@@ -386,7 +391,8 @@ class Update:
         if is_elf and (is_detected or self.format == "e"):
             return self.fault_of_elf(held)
         if is_elf and self.format == "r":
-            return "is ELF, not the bytes of a memory: leave out :r"
+            cure = f": give {self.given_as('e')}" * (self.memory in AREAS)
+            return f"is ELF, not the bytes of a memory{cure}"
         # (avrstk reports where records are that it can't read)
         if not held or begins and self.format != "r" and not (DATA.search(held) or MARKED.search(held)):
             return "is empty (did its build fail?)"
@@ -413,7 +419,7 @@ class Update:
         cure = "give it as raw bytes (:r) only if its characters are meant"
         if self.memory in FUSES:
             cure = f"give its value, as {self.memory}:{self.operation}:0xNN:m"
-        return f"is text without records: {cure}"
+        return f"looks like text, and doesn't begin with a record: {cure}"
 
     def fault_of_elf(self, held: bytes) -> str | None:
         """Takes what an ELF file has for this memory, and the chip that it names. Returns why it can't be written."""
@@ -478,8 +484,7 @@ class Update:
 
     def kind(self) -> str | None:
         """Returns the letter of an image's format, which is detected if none is given; None of values."""
-        detected = {b":": "i", b"S": "s"}.get(self.front.lstrip()[:1], "r")
-        return detected if self.format in (None, "a") else self.format
+        return form_of(self.front) or "r" if self.format in (None, "a") else self.format
 
     def writes(self, memory: str) -> bool:
         return self.operation == "w" and self.memory == memory
@@ -528,8 +533,8 @@ def is_text(held: bytes, rarity: int) -> bool:
     controls = len(re.findall(rb"[^\a-\r\x1b -~\x80-\xff]", held))
     try:
         # (the last character may be cut)
-        codecs.getincrementaldecoder("utf-8")().decode(held)
-        return 0 < len(held) >= controls * rarity
+        text = codecs.getincrementaldecoder("utf-8")().decode(held)
+        return bool(text) and len(held) >= controls * rarity
     except UnicodeDecodeError:
         return not controls and len(re.findall(rb"[\t\n\f\r -~]", held)) * 2 > len(held)
 
