@@ -446,6 +446,7 @@ def refused():
     room.put("lfuse.txt", b"0xe2\n")
     room.put("long x.elf", b"\x7fELF" + b"x" * 600 + b"\n")
     (room.folder / "gone.hex").symlink_to("nowhere")
+    (room.folder / "loop").symlink_to("loop")
     cases = [(shlex.split(words), wanted) for words, wanted in table("refused")]
 
     def ran(words):
@@ -568,7 +569,7 @@ def devices():
     for words, wanted in [
         (["-P", "/dev/no such device"], "/dev/no such device: there is no such device (is the cable in?)"),
         (["-P", os.path.basename("/dev/null")], "null: there is no such device (it is /dev/null)"),
-        (["-P", here], f"{here}: not a device"),
+        (["-P", here], f"{here}: not a serial device"),
         (["-P", "/dev/null"], "/dev/null: cannot be set to 115200 baud"),
         ([], "no device given (-P); "),
     ]:
@@ -635,6 +636,7 @@ def what_is_missing():
         check_equal("--unproved", ran("--unproved"), (0, f"{front} --unproved\n", ""))
         no_file = "the part file classic.toml is not there (install.sh puts it under share/avrstk)"
         check_equal("no part file", ran(part="atmega328p"), (1, "", f"avrstk-serial: atmega328p: {no_file}\n"))
+        check_equal("no part file to list", ran(part="?"), (1, "", f"avrstk-serial: ?: {no_file}\n"))
         check_equal("no file is written", [*Path(folder).rglob("*.pyc")], [])
     # (2: Python keeps no docstrings)
     for words, level in [([], "0"), (["--help"], "0"), (["-h"], "0"), (["-?"], "0"), (["--help"], "2")]:
@@ -894,6 +896,10 @@ def progress():
     check_equal("each has its name", (status, names), (0, set(wanted)))
     got, status, _ = on_a_terminal([*FLASH, "-q"])
     check_equal("-q", (status, got), (0, ""))
+    lost = itertools.count()
+    got, status, _ = on_a_terminal(FLASH, lambda answer: b"" if answer[5] == 0x13 and not next(lost) else slow(answer))
+    written = [int(count) for count in re.findall(r"\ravrstk-serial: writing flash: (\d+) bytes", got)]
+    check_equal("a page that is sent again counts once", (status, written), (0, [128, 256]))
 
 
 def few_lines():
@@ -2334,7 +2340,7 @@ def strangers():
     check_equal("the stranger receives", received, b"")
     room.put("go", b"")
     _, printed = started.communicate(timeout=PATIENCE)
-    line = b"avrstk-serial: another program called the port of this run, and was refused\n"
+    line = b"avrstk-serial: a caller of this run's port was refused: /proc doesn't show that it is avrstk\n"
     check_equal("the run", (started.returncode, printed, board.end() == wanted), (0, line + lines(*FIRMWARE), True))
 
 
