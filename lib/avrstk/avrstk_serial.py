@@ -87,7 +87,7 @@ CARRYING = {0x13: "writing flash", 0x14: "reading flash", 0x15: "writing eeprom"
 # how these read then (by the parts' data sheets and the headers of avr-libc)
 GONE = "no ISP programmer reaches the chip then"
 EXTERNAL = "selects an external clock: the chip only works while a clock drives its pin XTAL1 or CLKI"
-SLOW = "selects a clock of 128 kHz or less, which is too slow for most programmers: they don't reach the chip then"
+SLOW = "selects an internal clock that is too slow for most programmers: they don't reach the chip then"
 RESET = f"turns the reset pin off (RSTDISBL): {GONE}"
 DEBUG = "turns debugWIRE on (DWEN): no ISP programmer reaches the chip after its next power-up"
 RISKS = [
@@ -144,7 +144,7 @@ def unrepaired(words: Words) -> str | None:
             written.add(update.memory)
     lost = [] if is_dry else overwritten(words)
     if lost:
-        return f"a second one overwrites {lost[0]}, and reads what this one wrote"
+        return f"a second one overwrites {lost[0]}, and may read what this one wrote"
     return "a second one may erase EEPROM that this one keeps" if may_erase_kept(words) else None
 
 
@@ -179,7 +179,7 @@ def no_device(device: str) -> str:
         return "Linux has other names, such as /dev/ttyACM0 or /dev/ttyUSB0: see -P '?'"
     if re.fullmatch(r"[^/]+:\d+", device):
         return "for STK500v2 over a network give -P net:HOST:PORT"
-    if os.path.exists(f"/dev/{device}"):
+    if os.path.exists(f"/dev/{device}") and not os.path.isdir(f"/dev/{device}"):
         return f"it is /dev/{device}"
     return "is the cable in?"
 
