@@ -71,7 +71,7 @@ PROGRAMMERS = {
 
 # the serial devices of USB that are here
 DEVICES = sorted(glob.glob("/dev/ttyACM*") + glob.glob("/dev/ttyUSB*"))
-NONE_HERE = "there is no /dev/ttyACM* or /dev/ttyUSB* now"
+NONE_HERE = "no /dev/ttyACM* or /dev/ttyUSB* is found now"
 
 # Linux's tcgets2 and tcsets2. Their 44 bytes: four words of flags, a byte, 19 control characters, two speeds
 TCGETS2, TCSETS2, BOTHER = 0x802C542A, 0x402C542B, 0x1000
@@ -89,7 +89,7 @@ GONE = "no ISP programmer reaches the chip then"
 EXTERNAL = "selects an external clock: the chip only works while a clock drives its pin XTAL1 or CLKI"
 SLOW = "selects an internal clock that is too slow for most programmers: they don't reach the chip then"
 RESET = f"turns the reset pin off (RSTDISBL): {GONE}"
-DEBUG = "turns debugWIRE on (DWEN): no ISP programmer reaches the chip after its next power-up"
+DEBUG = "turns debugWIRE on (DWEN): no ISP programmer reaches an unlocked chip after its next power-up"
 RISKS = [
     ("", (f"has SPIEN off: most parts keep it on; at others {GONE}", "hfuse", 0x20, 0x20)),
     ("(?!attiny88)", (EXTERNAL, "lfuse", 0x0F, 0)),
@@ -374,7 +374,7 @@ class Talk:
         self.commands, self.replies = Frames(), Frames()
         self.silent: dict[int, bytes] = {}
         # (a board that starts may send other bytes)
-        self.quiet_until = time.monotonic() + self.wait + 10
+        self.quiet_until, self.has_reply = time.monotonic() + self.wait + 10, False
 
     def note_commands(self, piece: bytes) -> bytes:
         for frame in filter(is_frame, self.commands.pieces(piece)):
@@ -401,9 +401,11 @@ class Talk:
             self.words.note(f"the device replies at {self.words.baud} baud")
         for frame in filter(is_frame, self.replies.pieces(piece)):
             self.silent.pop(frame[1], None)
+            self.has_reply |= not xor(frame)
             if frame[5:7] == bytes([LEAVE, 0]) and not xor(frame):
                 self.outcome.is_held = False
-        if piece and time.monotonic() > self.quiet_until and self.outcome.commands <= {SIGN_ON, LEAVE}:
+        has_reply = self.has_reply or not self.outcome.commands <= {SIGN_ON, LEAVE}
+        if piece and time.monotonic() > self.quiet_until and not has_reply:
             self.outcome.is_noisy = True
         return piece
 
