@@ -2,9 +2,9 @@
 
 from __future__ import annotations
 
-from avrstk_common import BUILT_IN, NAME, READ, WRITE, Fault, Frames, Source, Way, brief, came, data_file, ended_by
-from avrstk_common import heed_signals, is_frame, messages, part_words, parts, print_line, ready, session_program, show
-from avrstk_common import text_of, version, wait
+from avrstk_common import BUILT_IN, READ, WRITE, Fault, Frames, Source, Way, brief, came, data_file, ended_by
+from avrstk_common import heed_signals, is_frame, messages, parts, print_line, ready, session_program, show, text_of
+from avrstk_common import version, wait
 from avrstk_backup import asking, back_up, restored
 from avrstk_each import Each
 from avrstk_faults import xor
@@ -24,7 +24,7 @@ from avrstk_hints import (
     state_of,
 )
 from avrstk_station import made, station
-from avrstk_version1 import LOAD_ADDRESS, SPEEDS, Bridge
+from avrstk_version1 import SPEEDS, Bridge
 from avrstk_words import FORMATS, FUSES, UNOPENED, Update, Words, long_name, parts_of
 
 import contextlib
@@ -80,18 +80,19 @@ FAR = "a Mega's bootloader reads other addresses above 255"
 OWN_PAGES = "a bootloader of version 1 erases each page that it writes, and two of these images share a page"
 ONE_WRITE = "a Mega's bootloader erases pages from 0 on, so one command writes flash once, from 0 on without gaps"
 
-# the commands that carry the bytes of a memory
+# the command that sends their address, and those that carry the bytes of a memory
+LOAD_ADDRESS = 0x06
 CARRYING = {0x13: "writing flash", 0x14: "reading flash", 0x15: "writing eeprom", 0x16: "reading eeprom"}
 
 # fuses that keep an ISP programmer from the chip, by parts' long names: what a value does, its memory, its bits and
 # how these read then (by the parts' data sheets and the headers of avr-libc)
 GONE = "no ISP programmer reaches the chip then"
 EXTERNAL = "selects an external clock: the chip only works while a clock drives its pin XTAL1 or CLKI"
-SLOW = "selects an internal clock that is too slow for most programmers: they don't reach the chip then"
+SLOW = "selects a clock of 128 kHz or less, which is too slow for most programmers: they don't reach the chip then"
 RESET = f"turns the reset pin off (RSTDISBL): {GONE}"
-DEBUG = "turns debugWIRE on (DWEN): no ISP programmer reaches an unlocked chip after its next power-up"
+DEBUG = "turns debugWIRE on (DWEN): no ISP programmer reaches the chip after its next power-up"
 RISKS = [
-    ("", (f"has SPIEN off: most parts keep it on; at others {GONE}", "hfuse", 0x20, 0x20)),
+    ("", (f"has SPIEN off: most parts keep it on, and the comparison fails; else {GONE}", "hfuse", 0x20, 0x20)),
     ("(?!attiny88)", (EXTERNAL, "lfuse", 0x0F, 0)),
     ("attiny88", (EXTERNAL, "lfuse", 0x03, 0)),
     ("attiny88", (SLOW, "lfuse", 0x03, 3)),
@@ -114,12 +115,12 @@ def list_devices() -> None:
 def list_parts() -> None:
     """Prints the parts as AVRDUDE does, with their signatures."""
     rows = []
-    # (without its file there are none)
-    part_words("?", None)
     for name, part in sorted(parts().items()):
         if not name.startswith("at"):
             proper = re.sub("^at(mega|tiny|)(.*)", lambda found: f"AT{found[1]}{found[2].upper()}", long_name(name))
             rows.append(f"  {name:8} = {proper:13} {bytes.fromhex(part['signature']).hex(' ').upper()}")
+    if not rows:
+        raise Fault("the part file classic.toml is not there (install.sh puts it under share/avrstk)")
     show("\n".join(rows))
 
 
@@ -318,7 +319,7 @@ class Progress:
             share = f", {100 * self.sent // self.total} %" if self.sent <= self.total else ""
             left = round((now - self.begun) * (self.total - self.sent) / self.sent)
             more = f", {left} s left" if share and now > self.begun + 1 and left else ""
-            messages.draw(f"{NAME}: {what}: {self.done:,} bytes{share}{more}")
+            messages.draw(f"avrstk-serial: {what}: {self.done:,} bytes{share}{more}")
 
 
 class Tool:
