@@ -183,10 +183,7 @@ def brief(help_text: str) -> str:
 
 def text_of(fault: Exception) -> str:
     """Returns the text of the line that reports a fault."""
-    if not isinstance(fault, OSError) or fault.strerror is None:
-        return str(fault)
-    # (not all calls are of a file)
-    return fault.strerror if fault.filename is None else f"{fault.filename}: {fault.strerror}"
+    return f"{fault.filename}: {fault.strerror}" if isinstance(fault, OSError) else str(fault)
 
 
 def set_up() -> None:
