@@ -143,7 +143,9 @@ def unrepaired(words: Words) -> str | None:
                 if overlaps(pages):
                     return "it writes a page of flash twice"
             written.add(update.memory)
-    lost = [] if is_dry else overwritten(words)
+    if is_dry:
+        return None
+    lost = overwritten(words)
     if lost:
         return f"a second one overwrites {lost[0]}, and may read what this one wrote"
     return "a second one may erase EEPROM that this one keeps" if may_erase_kept(words) else None
