@@ -50,7 +50,7 @@ from typing import Callable
 
 REFUSED = {
     "-B": "-B is not supported: leave it out; no programmer's clock is set (avrdude -B sets that of an STK500)",
-    "-E": "-E is not supported: the pins of a parallel port are for other programmers",
+    "-E": "-E is not supported: it is for programmers whose pins avrdude drives",
     "-O": "-O is not supported: the oscillator is not calibrated",
     "-i": "-i is not supported: leave it out; no programmer's clock is set",
     "-x": "-x is not supported: no parameter of the programmer is set",
