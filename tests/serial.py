@@ -686,11 +686,6 @@ def speeds_that_a_device_has_not():
         found = patched(slow, ["-p", "m328p", "-P", board.device, "-b", baud])
         check_equal(f"{baud} at 9600", found, (int(baud != "9500"), "", end.format(board.device)))
         board.end()
-    board = Board()
-    found = patched(slow.replace("9600", "115200"), ["-p", "m328p", "-c", "arduino", "-P", board.device])
-    silent = "avrstk-serial: no valid reply; the chip is unchanged. Check: the speed (-b 115200 or 57600)"
-    check("one of two speeds", found[0] == 1 and found[2].startswith(silent), found)
-    board.end()
 
 
 def lines_of_a_board():

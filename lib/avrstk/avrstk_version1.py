@@ -144,12 +144,8 @@ class Version1:
             if not self.is_wanted():
                 break
             speed = speeds[attempt % len(speeds)]
-            try:
-                if attempt and len(speeds) > 1:
-                    self.line.set_speed(speed)
-            except OSError:
-                # (a device may have only some of them)
-                continue
+            if attempt and len(speeds) > 1:
+                self.line.set_speed(speed)
             if attempt:
                 self.interrupt()
             self.line.receive(1_000, 0.05)
