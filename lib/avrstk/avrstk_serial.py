@@ -377,7 +377,7 @@ class Talk:
         self.commands, self.replies = Frames(), Frames()
         self.silent: dict[int, bytes] = {}
         # (a board that starts may send other bytes)
-        self.quiet_until, self.has_reply = time.monotonic() + self.wait + 10, False
+        self.quiet_until = time.monotonic() + self.wait + 10
 
     def note_commands(self, piece: bytes) -> bytes:
         for frame in filter(is_frame, self.commands.pieces(piece)):
@@ -402,13 +402,14 @@ class Talk:
         if isinstance(self.end, Bridge) and len(self.words.speeds) > 1 and self.end.programmer.speed:
             self.words.speeds = (self.end.programmer.speed,)
             self.words.note(f"the device replies at {self.words.baud} baud")
-        for frame in filter(is_frame, self.replies.pieces(piece)):
+        found = self.replies.pieces(piece)
+        # (a piece may end in the middle of a reply)
+        is_noise = bool(found) and not any(is_frame(one) and one[1] in self.silent and not xor(one) for one in found)
+        for frame in filter(is_frame, found):
             self.silent.pop(frame[1], None)
-            self.has_reply |= not xor(frame)
             if frame[5:7] == bytes([LEAVE, 0]) and not xor(frame):
                 self.outcome.is_held = False
-        has_reply = self.has_reply or not self.outcome.commands <= {SIGN_ON, LEAVE}
-        if piece and time.monotonic() > self.quiet_until and not has_reply:
+        if is_noise and time.monotonic() > self.quiet_until and self.outcome.commands <= {SIGN_ON, LEAVE}:
             self.outcome.is_noisy = True
         return piece
 
