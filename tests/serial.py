@@ -655,7 +655,8 @@ def what_is_missing():
         check_equal("--unproved", ran("--unproved"), (0, f"{front} --unproved\n", ""))
         no_file = "the part file classic.toml is not there (install.sh puts it under share/avrstk)"
         check_equal("no part file", ran(part="atmega328p"), (1, "", f"avrstk-serial: atmega328p: {no_file}\n"))
-        check_equal("no part file to list", ran(part="?"), (1, "", f"avrstk-serial: {no_file}\n"))
+        none_to_list = "the part file classic.toml is not there or empty (install.sh puts it under share/avrstk)"
+        check_equal("no part file to list", ran(part="?"), (1, "", f"avrstk-serial: {none_to_list}\n"))
         check_equal("no file is written", [*Path(folder).rglob("*.pyc")], [])
     # (2: Python keeps no docstrings)
     for words, level in [([], "0"), (["--help"], "0"), (["-h"], "0"), (["-?"], "0"), (["--help"], "2")]:

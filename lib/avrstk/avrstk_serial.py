@@ -120,7 +120,7 @@ def list_parts() -> None:
             proper = re.sub("^at(mega|tiny|)(.*)", lambda found: f"AT{found[1]}{found[2].upper()}", long_name(name))
             rows.append(f"  {name:8} = {proper:13} {bytes.fromhex(part['signature']).hex(' ').upper()}")
     if not rows:
-        raise Fault("the part file classic.toml is not there (install.sh puts it under share/avrstk)")
+        raise Fault("the part file classic.toml is not there or empty (install.sh puts it under share/avrstk)")
     show("\n".join(rows))
 
 
