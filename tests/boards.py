@@ -701,12 +701,19 @@ def leaves_to_another():
         with room.start(words.split(), **how) as started:
             output, messages = started.communicate(timeout=PATIENCE)
         check_equal(f"{words}: another program runs", output.decode(), f"other: {words}\n" if is_left else "")
-        check(f"{words}: a line says so", (b"runs in place of avrstk" in messages) == is_left, messages)
+        check(f"{words}: a line says so", (b"/avrdude in place of avrstk" in messages) == is_left, messages)
     how["env"] = how["env"] | {"AVRSTK_ELSE": "nosuch"}
     with room.start("-c usbasp -p m328p".split(), **how) as started:
         _, messages = started.communicate(timeout=PATIENCE)
     absent = b"avrstk-serial: AVRSTK_ELSE names no other program here: nosuch\n"
     check("a program that isn't there", messages.startswith(absent) and messages.count(b"\n") == 2, messages)
+    # (an empty name in PATH is this folder, which has no such program)
+    (folder / "avrdude").rename(folder / "other")
+    how["env"] = how["env"] | {"AVRSTK_ELSE": "other", "PATH": f":{folder}:{os.environ['PATH']}"}
+    with room.start("-c usbasp -p m328p".split(), **how) as started:
+        output, messages = started.communicate(timeout=PATIENCE)
+    found = f"avrstk-serial: -c usbasp is not known here: starting {folder}/other in place of avrstk\n"
+    check_equal("PATH with an empty name", (output, messages.decode()), (b"other: -c usbasp -p m328p\n", found))
     (room.folder / "avrdude").unlink()
     shutil.rmtree(folder)
 

@@ -88,13 +88,15 @@ def is_open(line):
 
 class Board:
     """An emulated programmer behind a pseudo terminal, like a board that resets when its device is opened. It ignores
-    the bytes of its first `deaf` seconds, and all later ones if none came until second `gone`. With `talk` it has no
-    programmer and sends this text all the time. The device disappears after `vanish` replies. `answer` changes the
-    bytes of each reply. With `stopped` somebody else says that no run will open the device any more."""
+    the bytes of its first `deaf` seconds, and all later ones if none came until second `gone`. It prints dots in its
+    first `noise` seconds, and then forgets what has come. With `talk` it has no programmer and sends this text all the
+    time. The device disappears after `vanish` replies. `answer` changes the bytes of each reply. With `stopped`
+    somebody else says that no run will open the device any more."""
 
     def __init__(self, deaf=0.0, gone=None, part="m328p", talk=None, vanish=None, answer=None, words=(), **more):
         chip, server, ends, stopped = (more.get(name) for name in ("chip", "server", "ends", "stopped"))
         self.deaf, self.gone, self.talk, self.vanish, self.answer = deaf, gone, talk, vanish, answer
+        self.noise = more.get("noise", 0)
         self.opened, self.received, self.chip = 0, b"", chip or f"served{next(boards)}.bin"
         self.server = None if talk else server or Server(room, self.chip, part, words)
         self.line, self.device = ends or terminal()
@@ -106,7 +108,11 @@ class Board:
         while not is_open(self.line):
             if self.stopped.wait(0.005):
                 return
-        self.opened = 1
+        self.opened, begun = 1, time.monotonic()
+        while time.monotonic() < begun + self.noise:
+            os.write(self.line, b".")
+            if select.select([self.line], [], [], 0.2)[0]:
+                os.read(self.line, 4096)
         if self.talk:
             self.talks()
         else:
@@ -356,6 +362,9 @@ def boards_that_reset():
     for words, deaf, gone in [([*FLASH, "-P", "DEVICE"], 0.25, 1.2), (longer, 1.4, 3.5)]:
         found = flashes(words, deaf=deaf, gone=gone)
         check_equal(f"deaf for {deaf} s", found, (0, lines(*FIRMWARE), True, []))
+    # (avrstk sends SIGN_ON again a second later, after the ten seconds in which a board may send other bytes)
+    found = flashes([*FLASH, "-P", "DEVICE"], noise=9.8)
+    check_equal("a valid reply after ten seconds of noise", found, (0, lines(*FIRMWARE), True, []))
 
 
 def parts():
@@ -455,6 +464,7 @@ def refused():
     room.put("lfuse.txt", b"0xe2\n")
     room.put("long x.elf", b"\x7fELF" + b"x" * 600 + b"\n")
     (room.folder / "gone.hex").symlink_to("nowhere")
+    (room.folder / "loop").symlink_to("loop")
     cases = [(shlex.split(words), wanted) for words, wanted in table("refused")]
 
     def ran(words):
@@ -578,7 +588,7 @@ def devices():
     for words, wanted in [
         (["-P", "/dev/no such device"], "/dev/no such device: there is no such device (is the cable in?)"),
         (["-P", os.path.basename("/dev/null")], "null: there is no such device (it is /dev/null)"),
-        (["-P", here], f"{here}: not a device"),
+        (["-P", here], f"{here}: not a serial device"),
         (["-P", "/dev/null"], "/dev/null: cannot be set to 115200 baud"),
         ([], "no device given (-P); "),
     ]:
@@ -587,7 +597,13 @@ def devices():
     os.chmod(device, 0)
     # (group 5 is `tty`, the owner of terminals, in every Linux)
     cure, belongs = "(often: sudo usermod -aG ", "(its owner is "
-    for mode, group, wanted in [(0o660, 5, cure), (0o600, 5, belongs), (0o660, 0, belongs)]:
+    cases = [
+        (0o660, 5, cure),
+        (0o600, 5, belongs),
+        (0o660, 0, belongs),
+        (0o660, 54_321, f"{belongs}root, its group 54321"),
+    ]
+    for mode, group, wanted in cases:
         if os.geteuid() == 0:
             os.chown(device, 0, group)
         os.chmod(device, mode if os.geteuid() == 0 else 0)
@@ -595,6 +611,10 @@ def devices():
         wanted = f"{device}: you may not read and write it {wanted if os.geteuid() == 0 else belongs}"
         check(f"no right to it, of group {group}, mode {mode:o}", wanted.encode() in ran.stderr, ran.stderr)
     os.chmod(device, 0o666)
+    with tempfile.TemporaryDirectory(dir="/tmp") as folder:
+        ran = run_as_anyone([*FLASH, "-P", f"{folder}/x"], shutil.which("true"))
+        wanted = "Permission denied" if os.geteuid() == 0 else "there is no such device (is the cable in?)"
+        check("a device in a closed folder", f"{folder}/x: {wanted}".encode() in ran.stderr, ran.stderr)
     with tempfile.TemporaryDirectory(dir="/tmp") as folder:
         os.chmod(folder, 0o755)
         closed = Path(folder, "closed.hex")
@@ -653,6 +673,8 @@ def what_is_missing():
         check_equal("--unproved", ran("--unproved"), (0, f"{front} --unproved\n", ""))
         no_file = "the part file classic.toml is not there (install.sh puts it under share/avrstk)"
         check_equal("no part file", ran(part="atmega328p"), (1, "", f"avrstk-serial: atmega328p: {no_file}\n"))
+        none_to_list = "the part file classic.toml is not there or empty (install.sh puts it under share/avrstk)"
+        check_equal("no part file to list", ran(part="?"), (1, "", f"avrstk-serial: {none_to_list}\n"))
         check_equal("no file is written", [*Path(folder).rglob("*.pyc")], [])
     # (2: Python keeps no docstrings)
     for words, level in [([], "0"), (["--help"], "0"), (["-h"], "0"), (["-?"], "0"), (["--help"], "2")]:
@@ -912,6 +934,10 @@ def progress():
     check_equal("each has its name", (status, names), (0, set(wanted)))
     got, status, _ = on_a_terminal([*FLASH, "-q"])
     check_equal("-q", (status, got), (0, ""))
+    lost = itertools.count()
+    got, status, _ = on_a_terminal(FLASH, lambda answer: b"" if answer[5] == 0x13 and not next(lost) else slow(answer))
+    written = [int(count) for count in re.findall(r"\ravrstk-serial: writing flash: (\d+) bytes", got)]
+    check_equal("a page that is sent again counts once", (status, written), (0, [128, 256]))
 
 
 def few_lines():
@@ -2409,7 +2435,7 @@ def strangers():
     check_equal("the stranger receives", received, b"")
     room.put("go", b"")
     _, printed = started.communicate(timeout=PATIENCE)
-    line = b"avrstk-serial: another program called the port of this run, and was refused\n"
+    line = b"avrstk-serial: a caller of this run's port was refused: /proc doesn't show that it is avrstk\n"
     check_equal("the run", (started.returncode, printed, board.end() == wanted), (0, line + lines(*FIRMWARE), True))
 
 

@@ -49,13 +49,13 @@ import time
 from typing import Callable
 
 REFUSED = {
-    "-B": "-B is not supported: leave it out; the programmer has its own clock (avrdude -B sets that of an STK500)",
-    "-E": "-E is not supported: the pins of a parallel port are for other programmers",
-    "-O": "-O is not supported: the oscillator is not calibrated; -U calibration:r:-:h reads the byte",
-    "-i": "-i is not supported: the programmer has its own clock for the chip's pins",
+    "-B": "-B is not supported: leave it out; no programmer's clock is set (avrdude -B sets that of an STK500)",
+    "-E": "-E is not supported: it is for programmers whose pins avrdude drives",
+    "-O": "-O is not supported: the oscillator is not calibrated",
+    "-i": "-i is not supported: leave it out; no programmer's clock is set",
     "-x": "-x is not supported: no parameter of the programmer is set",
-    "-t": "-t is not supported: read with -U MEMORY:r:-:h and write with -U MEMORY:w:FILE",
-    "-T": "-T is not supported: read with -U MEMORY:r:-:h and write with -U MEMORY:w:FILE",
+    "-t": "-t is not supported: there is no terminal mode; -U reads, writes and compares memories",
+    "-T": "-T is not supported: there is no terminal mode; -U reads, writes and compares memories",
     "-y": "-y is not supported: erase cycles are not counted in EEPROM",
     "-Y": "-Y is not supported: erase cycles are not counted in EEPROM",
     "--serve": "--serve is for the emulated programmer: give it to avrstk",
@@ -71,7 +71,7 @@ PROGRAMMERS = {
 
 # the serial devices of USB that are here
 DEVICES = sorted(glob.glob("/dev/ttyACM*") + glob.glob("/dev/ttyUSB*"))
-NONE_HERE = "no serial device of USB is here now"
+NONE_HERE = "no /dev/ttyACM* or /dev/ttyUSB* is found now"
 
 # Linux's tcgets2 and tcsets2. Their 44 bytes: four words of flags, a byte, 19 control characters, two speeds
 TCGETS2, TCSETS2, BOTHER = 0x802C542A, 0x402C542B, 0x1000
@@ -80,7 +80,8 @@ FAR = "a Mega's bootloader reads other addresses above 255"
 OWN_PAGES = "a bootloader of version 1 erases each page that it writes, and two of these images share a page"
 ONE_WRITE = "a Mega's bootloader erases pages from 0 on, so one command writes flash once, from 0 on without gaps"
 
-# the commands that carry the bytes of a memory
+# the command that sends their address, and those that carry the bytes of a memory
+LOAD_ADDRESS = 0x06
 CARRYING = {0x13: "writing flash", 0x14: "reading flash", 0x15: "writing eeprom", 0x16: "reading eeprom"}
 
 # fuses that keep an ISP programmer from the chip, by parts' long names: what a value does, its memory, its bits and
@@ -122,30 +123,35 @@ def list_parts() -> None:
         if not name.startswith("at"):
             proper = re.sub("^at(mega|tiny|)(.*)", lambda found: f"AT{found[1]}{found[2].upper()}", long_name(name))
             rows.append(f"  {name:8} = {proper:13} {bytes.fromhex(part['signature']).hex(' ').upper()}")
+    if not rows:
+        raise Fault("the part file classic.toml is not there or empty (install.sh puts it under share/avrstk)")
     show("\n".join(rows))
 
 
 def unrepaired(words: Words) -> str | None:
     """Returns why a second run may not repair the chip; None if it does. (docs/TROUBLESHOOTING has the conditions.)"""
     written: set[str] = set()
+    is_dry = "-n" in words.flags
     for update in words.updates:
         if update.is_stream():
-            return f"{'standard output' if update.file == '-' else update.file} can't be written twice"
+            return f"a second one writes to {'standard output' if update.file == '-' else update.file} again"
         if update.operation == "v" and update.memory not in written:
             return f"it compares {update.memory}, which it didn't write before"
-        if update.operation == "w":
+        if update.operation == "w" and not is_dry:
             if "lock" in written:
                 return "it writes after the lock"
-            if update.memory == "flash" and "flash" in written and "-n" not in words.flags:
+            if update.memory == "flash" and "flash" in written:
                 pages = words.plan().pages
                 if not pages:
                     return "it isn't known whether two images share a page of flash"
                 if overlaps(pages):
                     return "it writes a page of flash twice"
             written.add(update.memory)
+    if is_dry:
+        return None
     lost = overwritten(words)
     if lost:
-        return f"a second one overwrites {lost[0]}, and reads what this one wrote"
+        return f"a second one overwrites {lost[0]}, and may read what this one wrote"
     return "a second one may erase EEPROM that this one keeps" if may_erase_kept(words) else None
 
 
@@ -160,12 +166,15 @@ def judge_device(device: str | None) -> str:
     if not device:
         raise Fault(f"no device given (-P); {'there are ' + ', '.join(DEVICES) if DEVICES else NONE_HERE}")
     if re.match(r"usb(:|$)", device):
-        raise Fault(f"-P {device} is for programmers without a serial device: use avrdude")
-    if not os.path.exists(device):
-        raise Fault(f"{device}: there is no such device ({no_device(device)})")
-    state = os.stat(device)
+        raise Fault(f"-P {device} is for programmers without a serial device: use avrdude. For others see -P '?'")
+    try:
+        state = os.stat(device)
+    except OSError as fault:
+        # (a folder on the way may be closed)
+        is_missing = isinstance(fault, FileNotFoundError)
+        raise Fault(f"{device}: there is no such device ({no_device(device)})" if is_missing else text_of(fault))
     if not stat.S_ISCHR(state.st_mode):
-        raise Fault(f"{device}: not a device")
+        raise Fault(f"{device}: not a serial device")
     if not os.access(device, os.R_OK | os.W_OK):
         raise Fault(f"{device}: you may not read and write it ({no_right(state)})")
     return device
@@ -174,10 +183,10 @@ def judge_device(device: str | None) -> str:
 def no_device(device: str) -> str:
     """Returns why there may be no device with this name."""
     if re.fullmatch(r"COM\d+", device, re.I):
-        return "Linux calls it /dev/ttyACM0, /dev/ttyUSB0 or /dev/ttyS0; -P '?' lists those of USB"
+        return "Linux has other names, such as /dev/ttyACM0 or /dev/ttyUSB0: see -P '?'"
     if re.fullmatch(r"[^/]+:\d+", device):
-        return f"a port of a network is -P net:{device}"
-    if os.path.exists(f"/dev/{device}"):
+        return "for STK500v2 over a network give -P net:HOST:PORT"
+    if os.path.exists(f"/dev/{device}") and not os.path.isdir(f"/dev/{device}"):
         return f"it is /dev/{device}"
     return "is the cable in?"
 
@@ -185,13 +194,13 @@ def no_device(device: str) -> str:
 def no_right(state: os.stat_result) -> str:
     """Returns how to get the right to use a device, or who has it."""
     # (a number may have no name)
-    owner = group = "UNKNOWN"
+    owner, group = str(state.st_uid), str(state.st_gid)
     with contextlib.suppress(KeyError):
         owner = pwd.getpwuid(state.st_uid).pw_name
     with contextlib.suppress(KeyError):
         group = grp.getgrgid(state.st_gid).gr_name
-    if state.st_gid != 0 and state.st_mode & 0o60 == 0o60:
-        return f"often: sudo usermod -aG {group} $USER, and log in again"
+    if state.st_gid != 0 and state.st_mode & 0o60 == 0o60 and not group.isdigit():
+        return f"often: sudo usermod -aG {shlex.quote(group)} $USER, and log in again"
     return f"its owner is {owner}, its group {group}, its mode {stat.S_IMODE(state.st_mode):o}"
 
 
@@ -291,22 +300,28 @@ class Progress:
         # what is written or read, and how many bytes of it were; how many frames were sent, and when that was drawn
         self.what: str | None = None
         self.done, self.sent, self.drawn = 0, 0, 0.0
+        # the address that was sent last, and that of the bytes that were counted last
+        self.address, self.counted = b"", b""
 
     def pause(self) -> None:
         """Begins anew after a line of avrstk."""
         self.what, self.drawn = None, 0.0
 
     def frame(self, body: bytes) -> None:
-        """Counts a command that goes to the device."""
+        """Counts a command that goes to the device. (An address and its bytes that are sent again don't count.)"""
         self.sent += 1
+        self.address = body if body[0] == LOAD_ADDRESS else self.address
         what, now = CARRYING.get(body[0]), time.monotonic()
         if not what or not self.is_wanted:
             return
+        if what == self.what and self.address == self.counted:
+            self.sent -= 2
+            return
         self.done = (self.done if what == self.what else 0) + int.from_bytes(body[1:3], "big")
-        self.what = what
+        self.what, self.counted = what, self.address
         if now > self.drawn + 0.1:
             self.drawn = now
-            # (a command that is sent again counts too)
+            # (another command that is sent again counts)
             share = f", {100 * self.sent // self.total} %" if self.sent <= self.total else ""
             left = round((now - self.begun) * (self.total - self.sent) / self.sent)
             more = f", {left} s left" if share and now > self.begun + 1 and left else ""
@@ -391,11 +406,14 @@ class Talk:
         if isinstance(self.end, Bridge) and len(self.words.speeds) > 1 and self.end.programmer.speed:
             self.words.speeds = (self.end.programmer.speed,)
             self.words.note(f"the device replies at {self.words.baud} baud")
-        for frame in filter(is_frame, self.replies.pieces(piece)):
+        found = self.replies.pieces(piece)
+        # (a piece may end in the middle of a reply)
+        is_noise = bool(found) and not any(is_frame(one) and one[1] in self.silent and not xor(one) for one in found)
+        for frame in filter(is_frame, found):
             self.silent.pop(frame[1], None)
             if frame[5:7] == bytes([LEAVE, 0]) and not xor(frame):
                 self.outcome.is_held = False
-        if piece and time.monotonic() > self.quiet_until and self.outcome.commands <= {SIGN_ON, LEAVE}:
+        if is_noise and time.monotonic() > self.quiet_until and self.outcome.commands <= {SIGN_ON, LEAVE}:
             self.outcome.is_noisy = True
         return piece
 
@@ -439,7 +457,7 @@ class Run:
             return
         line.close()
         if is_avrstk is False:
-            print_line("another program called the port of this run, and was refused")
+            print_line("a caller of this run's port was refused: /proc doesn't show that it is avrstk")
 
     def open(self, line: socket.socket) -> None:
         """Opens the device and waits for the board. Only the last SIGN_ON that avrstk sends meanwhile is passed on."""
@@ -497,18 +515,18 @@ def other_program() -> str | None:
     """Returns the program that AVRSTK_ELSE names, or None. A link to this script, as one named avrdude, is none."""
     name, own = os.environ.get("AVRSTK_ELSE", ""), os.path.realpath(sys.argv[0])
     folders = [""] if "/" in name else os.environ.get("PATH", os.defpath).split(os.pathsep)
-    places = [os.path.join(folder, name) for folder in folders if name]
+    places = [os.path.join(folder or os.curdir, name) for folder in folders if name]
     return next((place for place in places if shutil.which(place) and os.path.realpath(place) != own), None)
 
 
 def why_other(words: Words) -> str | None:
     """Returns why these options are for another program; None if they are for avrstk."""
     if words.programmer.lower() not in SPEAKING:
-        return f"-c {words.programmer}: another programmer"
+        return f"-c {words.programmer} is not known here"
     if re.match(r"usb(:|$)", words.device or ""):
-        return f"-P {words.device}: no serial device"
+        return f"-P {words.device} names no serial device"
     if words.parts_file is None and (words.part or "").lower() not in {*BUILT_IN, *parts(), "auto", "?", ""}:
-        return f"-p {words.part}: another part"
+        return f"-p {words.part} is not known here"
     return None
 
 
@@ -521,7 +539,7 @@ def leave_to_other(words: Words) -> None:
     # (it doesn't know the script's own options, and takes one port)
     has_own = words.unproved or any(option.startswith("--") for option in words.last)
     if other and not words.is_station and not has_own:
-        print_line(f"{why}: {other} runs in place of avrstk")
+        print_line(f"{why}: starting {other} in place of avrstk")
         messages.finish()
         environment = {name: value for name, value in os.environ.items() if name != "AVRSTK_ELSE"}
         os.execve(other, [other, *sys.argv[1:]], environment)

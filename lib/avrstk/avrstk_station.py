@@ -262,7 +262,7 @@ def judge_outputs(words: Words) -> None:
 def devices_of(words: Words, here: list[str]) -> list[str]:
     """Returns the devices of a command, `all` replaced by those that are here."""
     if "all" in words.devices and not here:
-        raise Fault(f"-P all: no serial device of USB is here now: {UNOPENED}")
+        raise Fault(f"-P all: no /dev/ttyACM* or /dev/ttyUSB* is found now: {UNOPENED}")
     found = [name for device in words.devices for name in (here if device == "all" else [device])]
     paths = [os.path.realpath(name) for name in found]
     for name, path in zip(found, paths):
