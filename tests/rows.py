@@ -473,8 +473,8 @@ def no_trial():
 
 
 def not_put_back():
-    """If the page of EEPROM isn't put back, a line says so, and the status is 1, even if each row is met, or the
-    programmer only replies OK."""
+    """If the page of EEPROM isn't put back, a line says so, and the status is 1. So it is if each row is met, or if
+    the programmer only replies OK."""
     for what, reply, number in ("refused", b"\x15\xc0", None), ("pretended", b"\x15\0", serial.signal.SIGINT):
         pids, writes = [], []
 
