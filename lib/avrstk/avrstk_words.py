@@ -287,10 +287,10 @@ def judge_words(options: Sequence[tuple[str, str]], others: Sequence[str]) -> No
         is_one = [option for option, _ in options].count("-U") == 1 and joined.operation in "rwv" and joined.file
         cure = f"give -U {shlex.quote(joined.given)}" if is_one else "MEMORY:OP:FILE:FORMAT"
         raise Fault(f"an update is one word: {cure}")
-    if other == "all" and dict(options).get("--try-rows") == "safe":
-        raise Fault("all belongs to no option: give --try-rows=all")
     if re.match("-.", other):
         raise Fault(f"{other} is after --, which ends the options: leave out --")
+    if "--try-rows" in dict(options):
+        raise Fault(f"{other} belongs to no option: there is --try-rows, and --try-rows=all")
     if re.match(r"[a-z]+:[rwv]:", other):
         raise Fault(f"{other} belongs to no option: give -U {shlex.quote(other)}")
     raise Fault(f"{other} belongs to no option: to write it into flash give -U {shlex.quote(f'flash:w:{other}')}")
@@ -478,7 +478,7 @@ class Update:
 
     def kind(self) -> str | None:
         """Returns the letter of an image's format, which is detected if none is given; None of values."""
-        detected = {b":": "i", b"S": "s"}.get(self.front.lstrip()[:1], "r")
+        detected = form_of(self.front) or "r"
         return detected if self.format in (None, "a") else self.format
 
     def writes(self, memory: str) -> bool:
