@@ -1080,9 +1080,17 @@ def warnings():
         room.clear()
         check(f"{part} {words}", bool(own) == bool(wanted) and all(line.startswith(wanted) for line in own), own)
     why = "it was erased, or the lock hid it (then -U lock:r:-:h prints a lock whose bit 1 is 0)"
-    hides, locks = f"all of flash was FF when it was read: {why}", "-U flash:w:blink.hex:i -U lock:w:0xFC:m"
-    for words, shown in ("", [hides]), ("-A", []), ("-q -q", []), (locks, [hides]):
+    hides, locks, done = f"all of flash was FF when it was read: {why}", ["-U", "flash:w:blink.hex:i"], set()
+    for words, shown in ("", [hides]), ("-A", []), ("-q -q", []):
         check_equal(f"erased {words}", over(["-p", "m328p", *words.split(), "-U", "flash:r:none.hex:i"])[3], shown)
+
+    def hiding(reply):
+        done.add(reply[5])
+        is_hidden = reply[5] == 0x14 and 0x19 in done
+        return frame(reply[1], b"\x14\0" + b"\xff" * (len(reply) - 9) + b"\0") if is_hidden else reply
+
+    locks += ["-U", "lock:w:0xFC:m", "-U", "flash:r:none.hex:i"]
+    check_equal("hidden", over(["-p", "m328p", *locks], {"answer": hiding})[3], [hides])
 
 
 def asked(words, *each):
