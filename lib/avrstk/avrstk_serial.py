@@ -632,7 +632,7 @@ def judge_files(words: Words, begin: str = "") -> None:
             raise Fault(f"-U {update.given}: that file is the device: {UNOPENED}")
     ports = [device.partition("emu:")[2] for device in words.devices]
     chips = [f"{port}{end}" for port in ports for end in ("", ".avrstk-new", ".avrstk-lock") if port]
-    inputs = {update.file: "an image" for update in words.updates if update.is_image}
+    inputs = {update.file: "an image" for update in words.updates if update.is_image and update.file != "-"}
     inputs.update({words.parts_file or data_file("classic.toml"): "the part file"})
     inputs.update(dict.fromkeys(devices, "the device"))
     inputs.update(dict.fromkeys(chips, "the chip"))
