@@ -846,7 +846,9 @@ def the_part_of_the_chip():
         check(f"{hint}: the chip", set(chip) == {0xFF}, chip[-4:])
     for more in [["-P", "emu:chip.bin"], [*CLASSIC, "-P", os.devnull]]:
         status, _, printed, own = run([*words, *more])
-        check(f"{more}", (status, printed) == (1, b"") and own[-1].startswith("-p auto is for a device"), own)
+        check(
+            f"{more}", (status, printed) == (1, b"") and own[-1].startswith("-p auto is for a serial device, and"), own
+        )
     each = ["--each", "eeprom@512={n}", "--counter", "untaken", "--from", "5"]
     _, _, _, own, _ = over(["-p", "auto", *each], board_of("part t85"))
     has = "--each: eeprom of t85 has 512 bytes: nothing was written"
