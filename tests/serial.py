@@ -1011,8 +1011,7 @@ def backups_that_fail():
 
 
 def commands_of_backups():
-    """The command that restores a backup has --unproved, and goes to no programmer. If --restore refuses the backup of
-    another chip, which -F made, no command is printed."""
+    """The command that restores a backup has --unproved, and goes to no programmer."""
     put_program(room.folder / "unproved", f'#!/bin/sh\n[ "$1" != --unproved ] || shift\nexec {PROGRAM} "$@"\n')
     words, more = ["-p", "m328p", "-P", "emu:old.bin"], {"env": {"AVRSTK": str(room.folder / "unproved")}}
     output = run(["--unproved", *words, "--backup", "other"], **more)[1].decode()
@@ -1021,10 +1020,6 @@ def commands_of_backups():
     with Server(room) as server, server.call() as line:
         *_, own = run(["-p", "m328p", "-P", "stdio:", "--backup", "other"], stdin=line, stdout=line)
     check("stdio:", own[-1:] and own[-1].endswith(" -p m328p -P stdio: --restore=other"), own)
-    shutil.rmtree(room.folder / "other")
-    status, output, _, own, _ = over(["-p", "m328p", "-F", "--backup", "other"], board_of("part m328"))
-    why = "other is of a chip with the signature 1E9514, and m328p has 1E950F"
-    check_equal("-F", (status, output, own), (0, b"", [f"other can't be restored with -p m328p: {why}"]))
     shutil.rmtree(room.folder / "other")
 
 

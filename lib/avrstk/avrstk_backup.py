@@ -58,20 +58,10 @@ def back_up(words: Words, folder: str, runs: Callable[[], int]) -> int:
                         os.unlink(f"{folder}/{name}")
                 os.rmdir(folder)
     if is_whole:
-        print_restoring(words, folder)
+        # (over `stdio:` standard output goes to the programmer)
+        prints = print_line if (words.device or "").startswith("stdio:") else show
+        prints(command_again(words, f"--restore={folder}"))
     return status
-
-
-def print_restoring(words: Words, folder: str) -> None:
-    """Prints the command that restores a backup; after -F, which --restore doesn't take, the reason may be printed."""
-    try:
-        restored(words, folder)
-    except Fault as fault:
-        print_line(f"{folder} can't be restored with -p {words.part}: {fault}")
-    else:
-        # (what goes to standard output at `stdio:` goes to the programmer)
-        print_it = print_line if (words.device or "").startswith("stdio:") else show
-        print_it(command_again(words, f"--restore={folder}"))
 
 
 def own_name() -> str:

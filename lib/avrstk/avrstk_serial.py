@@ -781,10 +781,14 @@ def warn(words: Words) -> None:
     name = words.chip()
     writes = [update for update in words.updates if update.operation == "w" and update.memory in FUSES]
     values = [(update, update.value()) for update in writes]
-    risks = [risk for names, risk in RISKS if name and re.match(names, name)]
-    for what, memory, mask, risky, update, value in [(*risk, *pair) for risk in risks for pair in values]:
-        if update.memory == memory and value is not None and value & mask == risky:
-            print_line(f"warning: {update.given} {what}")
+    found = [
+        f"warning: {update.given} {what}"
+        for names, (what, memory, mask, risky) in RISKS
+        for update, value in values
+        if name and re.match(names, name) and update.memory == memory and value is not None and value & mask == risky
+    ]
+    for line in found:
+        print_line(line)
 
 
 def ran(words: Words, put: Callable[[bytes], None] = messages.put, earlier: frozenset[int] = frozenset()) -> Outcome:
@@ -815,12 +819,12 @@ def ran(words: Words, put: Callable[[bytes], None] = messages.put, earlier: froz
 
 
 def give(words: Words, each: Each, before: Outcome) -> None:
-    """Takes the number of a run. If that fails for a second run, the error also describes the chip after the first."""
+    """Takes the number of a run. If that fails after a first run or a signal, the error describes the chip, too."""
     each.end = each.end if words.tries == 1 else "the command is not run again"
     try:
         each.give(words)
     except (Fault, OSError) as fault:
-        if words.tries == 1:
+        if words.tries == 1 and not ended_by():
             raise
         raise Fault(f"{text_of(fault)}; {state_of(before, False)}")
 

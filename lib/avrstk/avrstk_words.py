@@ -287,10 +287,10 @@ def judge_words(options: Sequence[tuple[str, str]], others: Sequence[str]) -> No
         is_one = [option for option, _ in options].count("-U") == 1 and joined.operation in "rwv" and joined.file
         cure = f"give -U {shlex.quote(joined.given)}" if is_one else "MEMORY:OP:FILE:FORMAT"
         raise Fault(f"an update is one word: {cure}")
+    if "--try-rows" in dict(options) and other[:1] != "-":
+        raise Fault(f"{other} belongs to no option: there is --try-rows, and --try-rows=all")
     if re.match("-.", other):
         raise Fault(f"{other} is after --, which ends the options: leave out --")
-    if "--try-rows" in dict(options):
-        raise Fault(f"{other} belongs to no option: there is --try-rows, and --try-rows=all")
     if re.match(r"[a-z]+:[rwv]:", other):
         raise Fault(f"{other} belongs to no option: give -U {shlex.quote(other)}")
     raise Fault(f"{other} belongs to no option: to write it into flash give -U {shlex.quote(f'flash:w:{other}')}")
