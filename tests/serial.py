@@ -844,6 +844,10 @@ def the_part_of_the_chip():
         status, _, printed, own, chip = over(words, board_of(board))
         check(hint, (status, len(own)) == (1, 1) and own[0].startswith(hint), (status, printed, own))
         check(f"{hint}: the chip", set(chip) == {0xFF}, chip[-4:])
+    _, _, printed, _, _ = over(words, {"part": "m2560", **silent(0x11)})
+    check_equal(
+        "another part than the session asks for", printed, lines("device signature = 1E 98 01", "error: no answer")
+    )
     for more in [["-P", "emu:chip.bin"], [*CLASSIC, "-P", os.devnull]]:
         status, _, printed, own = run([*words, *more])
         check(
@@ -1222,6 +1226,9 @@ def images_that_are_read_once():
     for name in ("no.hex:i", "no.hex"):
         found = run([*NO_CHIP, "-U", f"flash:w:{name}"])[1:]
         check_equal(f"no such file: {name}", found, (b"", lines("error: no.hex: cannot be opened"), []))
+    room.put("emu:no.bin", text)
+    found = run([*NO_CHIP, "-U", "flash:w:emu:no.bin:i", "-l", "all"])[::3]
+    check_equal("a file with the name of a port", found, (0, []))
     why = f"-P stdio: needs standard input, so no image comes from it: {UNOPENED}"
     check_equal("no image from frames", run(["-p", "m328p", "-P", "stdio:", "-U", "flash:w:-"])[3], [why])
     # (a file that grows no further: what is judged isn't passed on in part)

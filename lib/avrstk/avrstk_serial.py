@@ -635,7 +635,7 @@ def judge_files(words: Words, begin: str = "") -> None:
     inputs = {update.file: "an image" for update in words.updates if update.is_image and update.file != "-"}
     inputs.update({words.parts_file or data_file("classic.toml"): "the part file"})
     inputs.update(dict.fromkeys(devices, "the device"))
-    inputs.update(dict.fromkeys(chips, "the chip"))
+    inputs.update(dict.fromkeys(chips, "one of the chip's"))
     inputs.update({words.last["--rows"]: "the table"} if "--rows" in words.last else {})
     # (without a part file)
     inputs.pop(os.devnull, None)
