@@ -1257,10 +1257,10 @@ def images_that_are_read_once():
 def over_a_bootloader():
     """With -c wiring flash is written once, from address 0 on, and nothing erases the chip. The srec_cat command of a
     refusal makes an image that is taken."""
-    images = {"a.hex": [(0x100, b"x" * 256)], "b.hex": [(0, b"y" * 256)], "gap.hex": [(0, b"x"), (256, b"x")]}
-    images["-gap.hex"] = images["gap.hex"]
+    # (BELOW.hex may be a reading of all flash)
+    images = {"BELOW.hex": [(0, b"\1"), (0x1C0, b"\2")], "a.hex": [(0x100, b"x" * 256)], "b.hex": [(0, b"y" * 256)]}
+    images["-gap.hex"] = images["gap.hex"] = [(0, b"x"), (256, b"x")]
     room.put("f.elf", elf_with(b"x" * 256, address=0x100))
-    images["BELOW.hex"] = [(0, b"\1")]
     for name, runs in images.items():
         room.put(name, hex_of(runs))
     held = {name: image_of(room.read(name)) for name in images}

@@ -711,8 +711,8 @@ def joined(writes: list[Update], pages: list[tuple[int, int]]) -> str:
     names = [re.sub(r"^(?![\w./])", "./", update.file) for update in writes]
     words = [word for name, kind in zip(names, kinds) for word in (name, kind or "")]
     # (what is below the images isn't known: a placeholder, so that nothing below is lost)
-    is_above = min(pages or [(0, 0)])[0] > 0
-    words = ["BELOW.hex", "-Intel"] * is_above + words
+    begin = min(pages or [(0, 0)])[0]
+    words = ["BELOW.hex", "-Intel", "-crop", "0", f"0x{begin:X}"] * bool(begin) + words
     fill = ["-fill", "0xFF", "0", f"0x{max(at + count for at, count in pages):X}"] if pages else []
     words = ["(", *words, ")"] if len(words) > 2 and fill else words
     # (srec_cat joins no images that have different bytes at an address)
@@ -720,7 +720,7 @@ def joined(writes: list[Update], pages: list[tuple[int, int]]) -> str:
     made = next(name for name in (f"joined{count or ''}.hex" for count in range(1 << 20)) if not os.path.lexists(name))
     line = " ".join(map(shlex.quote, ["srec_cat", *over, *words, *fill, "-o", made, "-Intel"]))
     notes = ["whose gaps are FF"] * bool(fill) + ["in which the last of overlapping images counts"] * bool(over)
-    below = "; BELOW.hex stands for the file of what is to stay below" * is_above
+    below = "; BELOW.hex stands for the file of what is to stay below" * bool(begin)
     advice = f"Type {line}, and give {made}{', ' * bool(notes)}{', and '.join(notes)}{below}"
     return advice if all(kinds) else ONE_IMAGE.capitalize()
 
