@@ -1022,6 +1022,7 @@ def commands_of_backups():
     check_equal("--unproved", shlex.split(output)[1:], ["--unproved", *words, "--restore=other"])
     shutil.rmtree(room.folder / "other")
     with Server(room) as server, server.call() as line:
+        line.setblocking(True)
         *_, own = run(["-p", "m328p", "-P", "stdio:", "--backup", "other"], stdin=line, stdout=line)
     check("stdio:", own[-1:] and own[-1].endswith(" -p m328p -P stdio: --restore=other"), own)
     shutil.rmtree(room.folder / "other")
