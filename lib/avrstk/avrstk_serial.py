@@ -826,7 +826,8 @@ def give(words: Words, each: Each, before: Outcome) -> None:
     except (Fault, OSError) as fault:
         if words.tries == 1 and not ended_by():
             raise
-        raise Fault(f"{text_of(fault)}; {state_of(before, False)}")
+        # (without what it advises)
+        raise Fault(f"{text_of(fault)}; {state_of(before).partition(': ')[0]}")
 
 
 def wait_for(device: str | None) -> None:
