@@ -523,7 +523,8 @@ def refused():
     at = "-P /dev/null -p m328p"
     lacks = "--try-rows finds no flash_size, flash_page, eeprom_size, eeprom_page, eesave_bit of "
     cases = {
-        f"{at} --try-rows=all": "--try-rows=all erases and writes the chip, and clears a bit of its lock: at a chip ",
+        f"{at} --try-rows=all": "--try-rows=all may erase and write the chip, its fuses and its lock, and fail to "
+        "restore them: add --yes if you can lose this chip; nothing was sent, and the device was not opened",
         f"{at} --try-rows=some": "--try-rows=some: there is --try-rows, and --try-rows=all",
         f"{at} --yes": "--yes is for --try-rows=all",
         f"{at} --try-rows -e": "--try-rows tries a programmer, and takes no -e",

@@ -814,11 +814,24 @@ def retries():
 
     cases = table("attempts")
     for (each, count, error, hint), (status, own, is_flashed) in zip(cases, side_by_side(unpaused(ran), cases)):
-        again = [f"{error}: the same command again, {attempt} of 2" for attempt in range(1, int(count) + 1)]
+        again = [f"{error}: trying again, {attempt} of 2" for attempt in range(1, int(count) + 1)]
         # (whichever byte differs first)
         found = (status, [re.sub(r"address .*? expected", "address 00000000: 0C expected", line) for line in own])
         check_equal(f"{each}: {hint}", found, (int(hint != ""), again + [hint] * (hint != "")))
         check(f"{each}: the chip", is_flashed == (hint == ""), own)
+
+    def spoiled(reply):
+        room.put("counter", b"x\n")
+        return reply
+
+    room.put("counter", b"7\n")
+    programmer = Boards({"vanish": 8, "answer": spoiled}, {})
+    words = [*FLASH, "--each", "eeprom@0={n}", "--counter", "counter", "--retry", "1"]
+    *_, own = run([*words, "-P", str(programmer.device)])
+    programmer.end()
+    why = "--counter counter has to be one line with a number of at most 16 digits"
+    state = "the chip may be erased or partly written, and in programming mode"
+    check_equal("no number for the second attempt", own[-1], f"{why}; {state}")
 
 
 def retries_that_are_refused():
@@ -840,6 +853,7 @@ def retries_that_are_refused():
     for words, why in table("retries"):
         words = shlex.split(words)
         check_equal(f"--retry {words}", ran(*words), (1, why))
+    check_equal("--retry 007", run([*FLASH, "-P", device, "--retry=007"], env=fails)[3], [UNOPENED])
     for text in ["-1", "x", "100", "\u0663"]:
         status, _, _, own = run([*FLASH, "-P", device, f"--retry={text}"])
         check_equal(f"--retry {text}", (status, own), (1, [f"--retry {text}: not a number from 0 to 99"]))
@@ -854,27 +868,35 @@ def the_part_of_the_chip():
     status, _, printed, own = run([*words, "--retry", "1", "-P", str(programmer.device)])
     note, again = (
         "lock of m328p has no bits 6, 7; given as 1: lock:w:0xFF:m",
-        "no answer: the same command again, 1 of 1",
+        "no answer: trying again, 1 of 1",
     )
-    check_equal("its lines", (status, own), (0, [again, "the chip is m328p (1E 95 0F)", note]))
+    check_equal("its lines", (status, own), (0, [again, "-p auto takes m328p, whose signature is 1E 95 0F", note]))
     check("the run's own lines alone", printed.startswith(lines(SIGNATURE, "chip erased")), printed)
     check_equal("the chip", programmer.end(), wanted)
     _, _, _, own, _ = over(["-p", "auto", "-U", "flash:w:gone.hex:i"], {})
     sent = "the chip is unchanged"
     check_equal(
-        "what its session sent is known", own, ["the chip is m328p (1E 95 0F)", f"there is no such file; {sent}"]
+        "what its session sent is known",
+        own,
+        ["-p auto takes m328p, whose signature is 1E 95 0F", f"there is no such file; {sent}"],
     )
     for board, hint in table("auto"):
         status, _, printed, own, chip = over(words, board_of(board))
         check(hint, (status, len(own)) == (1, 1) and own[0].startswith(hint), (status, printed, own))
         check(f"{hint}: the chip", set(chip) == {0xFF}, chip[-4:])
+    _, _, printed, _, _ = over(words, {"part": "m2560", **silent(0x11)})
+    check_equal(
+        "another part than the session asks for", printed, lines("device signature = 1E 98 01", "error: no answer")
+    )
     for more in [["-P", "emu:chip.bin"], [*CLASSIC, "-P", os.devnull]]:
         status, _, printed, own = run([*words, *more])
-        check(f"{more}", (status, printed) == (1, b"") and own[-1].startswith("-p auto is for a device"), own)
+        check(
+            f"{more}", (status, printed) == (1, b"") and own[-1].startswith("-p auto is for a serial device, and"), own
+        )
     each = ["--each", "eeprom@512={n}", "--counter", "untaken", "--from", "5"]
     _, _, _, own, _ = over(["-p", "auto", *each], board_of("part t85"))
     has = "--each: eeprom of t85 has 512 bytes: nothing was written"
-    check_equal("a text outside the chip's EEPROM", own, ["the chip is t85 (1E 93 0B)", has])
+    check_equal("a text outside the chip's EEPROM", own, ["-p auto takes t85, whose signature is 1E 93 0B", has])
     check("no number was taken", not (room.folder / "untaken").exists())
 
 
@@ -1002,7 +1024,7 @@ def backups_that_fail():
         (
             board_of("part t85"),
             ["-p", "t85", "--restore", "a backup"],
-            f"a backup is of a chip 1E950F, and t85 is 1E930B: {UNOPENED}",
+            f"a backup is of a chip with the signature 1E950F, and t85 has 1E930B: {UNOPENED}",
         ),
     ]
     sizes = "flash_size = 8192, flash_page = 64, eeprom_size = 512, eeprom_page = 4, eesave_bit = 3"
@@ -1018,17 +1040,37 @@ def backups_that_fail():
         check(f"{words}: {why}", status == 1 and own[-1].startswith(why) and not (room.folder / "gone").exists(), own)
     cut = hex_of([(0, bytes(512))])
     for file, text, why, words in [
-        ("lock.txt", b"0xfc", f"none is of a chip that was {locked}", []),
+        ("lock.txt", b"0xfc", "none/lock.txt is of a locked chip, whose flash and EEPROM can't be read", []),
+        ("lock.txt", b"255", "none/lock.txt is not as --backup writes it", []),
         ("eeprom.hex", hex_of([(0, b"1")]), "none/eeprom.hex is not the whole EEPROM", []),
         ("eeprom.hex", cut, "none/eeprom.hex is not the whole EEPROM", CLASSIC),
         ("eeprom.hex", cut, "none/eeprom.hex is not the whole EEPROM", ["-p", "auto"]),
-        ("flash.hex", b"".join(cut.splitlines(True)[:-1]), "none/flash.hex has no end record, so it is cut short", []),
+        (
+            "flash.hex",
+            b"".join(cut.splitlines(True)[:-1]),
+            "none/flash.hex has no end record, so it may be cut short",
+            [],
+        ),
     ]:
         kept = room.read(f"none/{file}")
         room.put(f"none/{file}", text)
         own = status_and_lines([*words, "--restore", "none"], {"talk": b"x"})
         check_equal(why, own, (1, [f"{why}: {UNOPENED}"]))
         room.put(f"none/{file}", kept)
+
+
+def commands_of_backups():
+    """The command that restores a backup has --unproved, and goes to no programmer."""
+    put_program(room.folder / "unproved", f'#!/bin/sh\n[ "$1" != --unproved ] || shift\nexec {PROGRAM} "$@"\n')
+    words, more = ["-p", "m328p", "-P", "emu:old.bin"], {"env": {"AVRSTK": str(room.folder / "unproved")}}
+    output = run(["--unproved", *words, "--backup", "other"], **more)[1].decode()
+    check_equal("--unproved", shlex.split(output)[1:], ["--unproved", *words, "--restore=other"])
+    shutil.rmtree(room.folder / "other")
+    with Server(room) as server, server.call() as line:
+        line.setblocking(True)
+        *_, own = run(["-p", "m328p", "-P", "stdio:", "--backup", "other"], stdin=line, stdout=line)
+    check("stdio:", own[-1:] and own[-1].endswith(" -p m328p -P stdio: --restore=other"), own)
+    shutil.rmtree(room.folder / "other")
 
 
 def backups():
@@ -1060,6 +1102,7 @@ def backups():
     for words in [["--backup", "none"], ["--restore", "none"]]:
         check_equal("an erased chip", run(["-p", "m328p", "-P", "emu:old.bin", *words])[0], 0)
     backups_that_fail()
+    commands_of_backups()
     for folder in ["a backup", "none", "-x"]:
         shutil.rmtree(room.folder / folder)
 
@@ -1085,9 +1128,18 @@ def warnings():
         own = run(["-p", part, "-P", "emu:no.bin", *words.split()])[3]
         room.clear()
         check(f"{part} {words}", bool(own) == bool(wanted) and all(line.startswith(wanted) for line in own), own)
-    hides = "flash was erased when it was read, or the lock hid it (then -U lock:r:-:h prints a lock whose bit 1 is 0)"
+    why = "it was erased, or the lock hid it (then -U lock:r:-:h prints a lock whose bit 1 is 0)"
+    hides, locks, done = f"all of flash was FF when it was read: {why}", ["-U", "flash:w:blink.hex:i"], set()
     for words, shown in ("", [hides]), ("-A", []), ("-q -q", []):
         check_equal(f"erased {words}", over(["-p", "m328p", *words.split(), "-U", "flash:r:none.hex:i"])[3], shown)
+
+    def hiding(reply):
+        done.add(reply[5])
+        is_hidden = reply[5] == 0x14 and 0x19 in done
+        return frame(reply[1], b"\x14\0" + b"\xff" * (len(reply) - 9) + b"\0") if is_hidden else reply
+
+    locks += ["-U", "lock:w:0xFC:m", "-U", "flash:r:none.hex:i"]
+    check_equal("hidden", over(["-p", "m328p", *locks], {"answer": hiding})[3], [hides])
 
 
 def asked(words, *each):
@@ -1125,6 +1177,16 @@ def asked_and_done():
     )
     counts = [update["read"] for update in report["updates"]]
     check_equal("what was asked is no update", (status, counts, done.count(0x1C)), (1, [None, None], 1))
+
+    def counted(reply):
+        room.put("counter", b"10\n")
+        return reply
+
+    room.put("counter", b"9\n")
+    words = ["--each", "eeprom@0x3F0={n}", "--each", "eeprom@0x3F1=x{n}", "--counter", "counter"]
+    *_, own, _, _, _ = asked(words, {"answer": counted})
+    why = "--each: two texts have a byte at eeprom@0x3F1: nothing was written"
+    check_equal("a number that another station made longer", own[-1], why)
 
 
 def asked_over_a_port():
@@ -1194,7 +1256,7 @@ def images_in_pipes():
     words = ["-p", "m328p", "--retry", "1", "-P", str(board.device), "-U", f"flash:w:/dev/fd/{reader}"]
     status, _, printed, own = run([*words, "-U", f"flash:v:/dev/fd/{reader}:i"], pass_fds=[reader])
     os.close(reader)
-    again = ["no answer: the same command again, 1 of 1"]
+    again = ["no answer: trying again, 1 of 1"]
     check_equal("a shell's pipe, twice", (status, own, board.end() == wanted), (0, again, True))
 
 
@@ -1209,9 +1271,12 @@ def images_that_are_read_once():
         (text[: text.rindex(b":")], "warning: -: no end record"),
     ]:
         check_equal(wanted, piped([*NO_CHIP, "-U", "flash:w:-"], content)[2].splitlines(True)[0], lines(wanted))
-    check_equal(
-        "no such file", run([*NO_CHIP, "-U", "flash:w:no.hex:i"])[1:3], (b"", lines("error: no.hex: cannot be opened"))
-    )
+    for name in ("no.hex:i", "no.hex"):
+        found = run([*NO_CHIP, "-U", f"flash:w:{name}"])[1:]
+        check_equal(f"no such file: {name}", found, (b"", lines("error: no.hex: cannot be opened"), []))
+    room.put("emu:no.bin", text)
+    found = run([*NO_CHIP, "-U", "flash:w:emu:no.bin:i", "-l", "all"])[::3]
+    check_equal("a file with the name of a port", found, (0, []))
     why = f"-P stdio: needs standard input, so no image comes from it: {UNOPENED}"
     check_equal("no image from frames", run(["-p", "m328p", "-P", "stdio:", "-U", "flash:w:-"])[3], [why])
     # (a file that grows no further: what is judged isn't passed on in part)
@@ -1240,8 +1305,10 @@ def images_that_are_read_once():
 def over_a_bootloader():
     """With -c wiring flash is written once, from address 0 on, and nothing erases the chip. The srec_cat command of a
     refusal makes an image that is taken."""
-    images = {"a.hex": [(0x100, b"x" * 256)], "b.hex": [(0, b"y" * 256)], "gap.hex": [(0, b"x"), (256, b"x")]}
-    images["BELOW.hex"] = [(0, b"\1")]
+    # (BELOW.hex may be a reading of all flash)
+    images = {"BELOW.hex": [(0, b"\1"), (0x1C0, b"\2")], "a.hex": [(0x100, b"x" * 256)], "b.hex": [(0, b"y" * 256)]}
+    images["-gap.hex"] = images["gap.hex"] = [(0, b"x"), (256, b"x")]
+    room.put("f.elf", elf_with(b"x" * 256, address=0x100))
     for name, runs in images.items():
         room.put(name, hex_of(runs))
     held = {name: image_of(room.read(name)) for name in images}
@@ -1266,6 +1333,10 @@ def over_a_bootloader():
         status, _, printed, own = run([*NO_CHIP, "-c", "wiring", "-D", "-U", "flash:w:joined.hex"])
         check(f"{line[1]}: joined", (status, room.read("no.bin")[:32_768] == chip) == (0, True), (status, printed, own))
         (room.folder / "no.bin").unlink()
+        # (a file of this name would stay)
+        *_, own = run([*NO_CHIP, *words])
+        check_equal("another name", own[-1].partition(" -o ")[2].split()[0], "joined1.hex")
+        (room.folder / "joined.hex").unlink()
 
 
 def files_of_one_command():
@@ -1464,7 +1535,7 @@ def elf_files_that_are_refused():
         printed = started.stderr.read().decode()
         _, status, used = os.wait4(started.pid, 0)
         started.returncode = os.waitstatus_to_exitcode(status)
-        end = ";" if " is made for " in why else ":"
+        end = ";" if "another -p" in why else ":"
         check_equal(text, (started.returncode, printed), (1, f"avrstk-serial: {why}{end} {UNOPENED}\n"))
         check(f"{text}: a second, 100 MB", used.ru_utime < 1 and used.ru_maxrss < 100_000, used)
 
@@ -1504,7 +1575,7 @@ def elf_files():
     words = [word for memory in memories for word in ("-U", f"{memory}:w:main.elf")]
     board = Boards(silent(0x15), {})
     status, _, printed, own = run(["-p", "m328p", "--retry", "1", "-q", *words, "-P", str(board.device)])
-    again = ["no answer: the same command again, 1 of 1"]
+    again = ["no answer: trying again, 1 of 1"]
     check_equal("all, by a second attempt", (status, own, board.end()), (0, again, wanted))
     words = [word for memory in memories for word in ("-U", f"{memory}:v:main.elf:e")]
     room.put("wanted.bin", wanted)

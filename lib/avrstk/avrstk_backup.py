@@ -2,7 +2,7 @@
 
 from __future__ import annotations
 
-from avrstk_common import HERE, NAME, Fault, show
+from avrstk_common import HERE, NAME, Fault, print_line, show
 from avrstk_words import DATA, END, FUSES, UNOPENED, Update, Words, parts_of, records_of
 
 import contextlib
@@ -18,7 +18,6 @@ from typing import Callable
 # the files, in the order of the reads. (What a bootloader refuses to read comes first)
 FILES = {memory: "txt:h" for memory in ["calibration", "signature", *FUSES]}
 FILES.update({"flash": "hex:i", "eeprom": "hex:i"})
-LOCKED = "locked, so its flash and EEPROM can't be read"
 
 
 def text_of(folder: str, memory: str) -> str:
@@ -29,7 +28,7 @@ def bytes_of(folder: str, memory: str) -> list[int]:
     """Returns the values of a file."""
     text = text_of(folder, memory).strip()
     if not re.fullmatch(r"0x[0-9a-f]{1,2}(,0x[0-9a-f]{1,2})*", text):
-        raise Fault(f"{folder}/{memory}.txt has no values, as a backup has them")
+        raise Fault(f"{folder}/{memory}.txt is not as --backup writes it")
     return [int(value, 16) for value in text.split(",")]
 
 
@@ -50,7 +49,7 @@ def back_up(words: Words, folder: str, runs: Callable[[], int]) -> int:
             raise Fault(f"{fault}; no backup is kept")
         if not status and not bytes_of(folder, "lock")[0] & 2:
             words.report.stage = "refused"
-            raise Fault(f"the chip is {LOCKED}: no backup is kept")
+            raise Fault("the chip is locked, so its flash and EEPROM can't be read: no backup is kept")
         is_whole = not status
     finally:
         if not is_whole:
@@ -61,7 +60,9 @@ def back_up(words: Words, folder: str, runs: Callable[[], int]) -> int:
                         os.unlink(f"{folder}/{name}")
                 os.rmdir(folder)
     if is_whole:
-        show(command_again(words, f"--restore={folder}"))
+        # (over `stdio:` standard output goes to the programmer)
+        prints = print_line if (words.device or "").startswith("stdio:") else show
+        prints(command_again(words, f"--restore={folder}"))
     return status
 
 
@@ -78,7 +79,7 @@ def command_again(words: Words, *more: str) -> str:
     kept = [option for option in ("--parts", "-c", "-b", "--wait") if option in words.last]
     given = [word for option in kept for word in (option, words.last[option])]
     given += ["-p", words.part or "", "-P", words.device or "", *more]
-    return " ".join(map(shlex.quote, [own_name(), *given]))
+    return " ".join(map(shlex.quote, [own_name(), *["--unproved"] * words.unproved, *given]))
 
 
 def restored(words: Words, folder: str) -> list[Update]:
@@ -86,13 +87,13 @@ def restored(words: Words, folder: str) -> list[Update]:
     signature = "".join(f"{byte:02X}" for byte in bytes_of(folder, "signature"))
     own, eeprom = words.signature(), records_of(text_of(folder, "eeprom").encode())
     if not bytes_of(folder, "lock")[0] & 2:
-        raise Fault(f"{folder} is of a chip that was {LOCKED}")
+        raise Fault(f"{folder}/lock.txt is of a locked chip, whose flash and EEPROM can't be read")
     if own and own != signature:
-        raise Fault(f"{folder} is of a chip {signature}, and {words.part} is {own}")
+        raise Fault(f"{folder} is of a chip with the signature {signature}, and {words.part} has {own}")
     if sorted(eeprom) != list(range(len(eeprom))) or has_more(words, signature, len(eeprom)):
         raise Fault(f"{folder}/eeprom.hex is not the whole EEPROM")
     if not END.search(text_of(folder, "flash").encode()):
-        raise Fault(f"{folder}/flash.hex has no end record, so it is cut short")
+        raise Fault(f"{folder}/flash.hex has no end record, so it may be cut short")
     # (if all of flash is FF, the erase restores it)
     flash = f"{folder}/flash.hex:i" if DATA.search(text_of(folder, "flash").encode()) else "0xFF:m"
     values = [f"{memory}:w:0x{bytes_of(folder, memory)[0]:02X}:m" for memory in ["efuse", "hfuse", "lfuse", "lock"]]

@@ -10,13 +10,11 @@ from avrstk_each import Each
 from avrstk_faults import xor
 from avrstk_report import Report, fault_of, write
 from avrstk_rows import try_rows
-from avrstk_hints import CHANGING, ENTER, LEAVE, MAYBE_CHANGED, NO_CHIP, NO_SIGNATURES, ONE_IMAGE, OPEN_LOCK
+from avrstk_hints import ENTER, LEAVE, NO_CHIP, NO_SIGNATURES, ONE_IMAGE, OPEN_LOCK
 from avrstk_hints import (
     POWER_CYCLE,
     SIGN_ON,
-    UNCHANGED,
     Outcome,
-    erases,
     hint,
     may_erase_kept,
     overwritten,
@@ -25,7 +23,7 @@ from avrstk_hints import (
 )
 from avrstk_station import made, station
 from avrstk_version1 import SPEEDS, Bridge
-from avrstk_words import FORMATS, FUSES, UNOPENED, Update, Words, long_name, parts_of
+from avrstk_words import FORMATS, FUSES, UNOPENED, Update, Words, is_port, long_name, parts_of
 
 import contextlib
 import copy
@@ -573,10 +571,10 @@ def judge(words: Words) -> None:
     for device in words.devices:
         if re.fullmatch("net:[^:]*", device):
             raise Fault(f"-P {device}: a port of a network is -P net:HOST:PORT")
-    if not re.fullmatch(r"[0-9]{1,2}", words.retry):
+    if not re.fullmatch(r"0*[0-9]{1,2}", words.retry):
         raise Fault(f"--retry {words.retry}: not a number from 0 to 99")
     if not words.has_port and not os.path.exists("/proc/net"):
-        raise Fault("there is no /proc, which shows whether a caller of this run's port is avrstk")
+        raise Fault("/proc/net is not there, by which a run sees whether avrstk calls it")
     if int(words.retry):
         if words.has_port:
             raise Fault(f"--retry is for a serial device, not -P {words.device}")
@@ -638,22 +636,24 @@ def judge_rows(words: Words) -> None:
     if words.has_port:
         raise Fault(f"--try-rows is for a serial device, not -P {words.device}")
     if words.trial == "all" and "--yes" not in words.last:
-        spare = "erases and writes the chip, and clears a bit of its lock: at a chip to spare give --yes, too"
-        raise Fault(f"--try-rows=all {spare}; {UNOPENED}")
+        risk = "may erase and write the chip, its fuses and its lock, and fail to restore them"
+        raise Fault(f"--try-rows=all {risk}: add --yes if you can lose this chip; {UNOPENED}")
 
 
 def judge_files(words: Words, begin: str = "") -> None:
     """Refuses an output that is another file of this command, and the device as an image, before a file is opened. With
     `begin` only the outputs of options that begin so are judged."""
+    # (a file may have the name of a port)
+    devices = [device for device in words.devices if device != "all" and not is_port(device)]
     for update in words.updates if not begin else []:
-        if update.is_image and any(is_one(update.file, device) for device in words.devices):
+        if update.is_image and any(is_one(update.file, device) for device in devices):
             raise Fault(f"-U {update.given}: that file is the device: {UNOPENED}")
     ports = [device.partition("emu:")[2] for device in words.devices]
     chips = [f"{port}{end}" for port in ports for end in ("", ".avrstk-new", ".avrstk-lock") if port]
-    inputs = {update.file: "an image" for update in words.updates if update.is_image}
+    inputs = {update.file: "an image" for update in words.updates if update.is_image and update.file != "-"}
     inputs.update({words.parts_file or data_file("classic.toml"): "the part file"})
-    inputs.update(dict.fromkeys(words.devices, "the device"))
-    inputs.update(dict.fromkeys(chips, "the chip"))
+    inputs.update(dict.fromkeys(devices, "the device"))
+    inputs.update(dict.fromkeys(chips, "one of the chip's"))
     inputs.update({words.last["--rows"]: "the table"} if "--rows" in words.last else {})
     # (without a part file)
     inputs.pop(os.devnull, None)
@@ -692,8 +692,13 @@ def judge_bootloader(words: Words) -> None:
     for update in words.updates if words.is_version1 else []:
         if update.memory not in ("flash", "signature"):
             why = f"{is_for}, and only for its flash and signature: use a programmer"
-            raise Fault(f"-U {update.given}: {why}; {UNOPENED}")
+            raise Fault(f"{option_of(update)}: {why}; {UNOPENED}")
     judge_pieces(words, UNOPENED)
+
+
+def option_of(update: Update) -> str:
+    """Returns the option of an update, which may be an image that --each makes."""
+    return "--each" if update.file == "--each" else f"-U {update.given}"
 
 
 def judge_pieces(words: Words, end: str) -> None:
@@ -718,19 +723,34 @@ def why_pieces(words: Words) -> str | None:
 def joined(writes: list[Update], pages: list[tuple[int, int]]) -> str:
     """Returns what to do in place of these writes: the command that makes one image, if it can be given."""
     formats = {"i": "-Intel", "s": "-Motorola", "r": "-Binary"}
-    kinds = [formats.get(update.kind() or "") if os.path.isfile(update.file) else None for update in writes]
-    words = [word for update, kind in zip(writes, kinds) for word in (update.file, kind or "")]
+    is_file = [os.path.isfile(update.file) and update.file != "-" for update in writes]
+    kinds = [formats.get(update.kind() or "") if known else None for update, known in zip(writes, is_file)]
+    # (- begins an option of srec_cat, and other signs mean something to it, too)
+    names = [re.sub(r"^(?![\w./])", "./", update.file) for update in writes]
+    words = [word for name, kind in zip(names, kinds) for word in (name, kind or "")]
     # (what is below the images isn't known: a placeholder, so that nothing below is lost)
-    words = ["BELOW.hex", "-Intel"] * (min(pages or [(0, 0)])[0] > 0) + words
+    begin = min(pages or [(0, 0)])[0]
+    words = ["BELOW.hex", "-Intel", "-crop", "0", f"0x{begin:X}"] * bool(begin) + words
     fill = ["-fill", "0xFF", "0", f"0x{max(at + count for at, count in pages):X}"] if pages else []
     words = ["(", *words, ")"] if len(words) > 2 and fill else words
     # (srec_cat joins no images that have different bytes at an address)
     over = ["-contradictory-bytes=ignore"] * (len(writes) > 1 and (not pages or overlaps(pages)))
-    line = " ".join(map(shlex.quote, ["srec_cat", *over, *words, *fill, "-o", "joined.hex", "-Intel"]))
+    made = next(name for name in (f"joined{count or ''}.hex" for count in range(1 << 20)) if not os.path.lexists(name))
+    line = " ".join(map(shlex.quote, ["srec_cat", *over, *words, *fill, "-o", made, "-Intel"]))
     notes = ["whose gaps are FF"] * bool(fill) + ["in which the last of overlapping images counts"] * bool(over)
-    below = "; BELOW.hex has what is to stay below" * ("BELOW.hex" in words)
-    advice = f"Type {line}, and give joined.hex{', ' * bool(notes)}{', and '.join(notes)}{below}"
+    below = "; BELOW.hex stands for the file of what is to stay below" * bool(begin)
+    advice = f"Type {line}, and give {made}{', ' * bool(notes)}{', and '.join(notes)}{below}"
     return advice if all(kinds) else ONE_IMAGE.capitalize()
+
+
+def unlike(update: Update, part: str | None, own: str) -> str | None:
+    """Returns what an ELF file states of its chip, if that isn't so for a part with the signature `own`; else None."""
+    if update.chip not in (None, long_name(part)) and parts().get(update.chip or "", {}).get("signature") != own:
+        return f"is made for {update.chip}"
+    if update.signature in (None, own):
+        return None
+    names = " or ".join(parts_of(update.signature or ""))
+    return f"has the signature of {names}" if names else f"has the unknown signature {update.signature}"
 
 
 def judge_part(words: Words, end: str) -> None:
@@ -738,18 +758,12 @@ def judge_part(words: Words, end: str) -> None:
     known = parts() if words.parts_file is None else {}
     own = known.get((words.part or "").lower(), {}).get("signature")
     for update in words.updates if own else []:
-        named = update.chip in (None, long_name(words.part))
-        named = named or known.get(update.chip or "", {}).get("signature") == own
-        if named and update.signature in (None, own):
-            continue
-        own_names = " or ".join(parts_of(update.signature or "")) or f"a chip of signature {update.signature}"
-        chip = own_names if named else update.chip
-        why, cure = f"{update.file} is made for {chip}, and -p is {words.part}", "give -p for that chip, or -F"
-        if words.last.get("-p") == "auto":
-            why, cure = f"{update.file} is made for {chip}, and the chip is {words.part}", "give another file, or -F"
-        if "-F" not in words.flags:
-            raise Fault(f"{why}: {cure} if it fits both (-F takes any chip); {end}")
-        words.note(f"warning: {why}")
+        states = unlike(update, words.part, own or "")
+        if states and "-F" not in words.flags:
+            cure = "give another file or another -p, or -F if the file fits both (-F takes any chip)"
+            raise Fault(f"{update.file} {states}, and the part is {words.part}: {cure}; {end}")
+        if states:
+            words.note(f"warning: {update.file} {states}, and the part is {words.part}")
     writes = words.is_bootloader and any(update.writes_flash() for update in words.updates)
     # (without that program it isn't known which pages are written)
     if writes and reported_session():
@@ -765,7 +779,7 @@ def is_far(words: Words, update: Update) -> bool:
 def why_far(words: Words) -> str | None:
     """Returns why a bootloader can't read EEPROM as the command does; None if it can."""
     far = next((update for update in words.updates if is_far(words, update)), None)
-    return f"-U {far.given}: {FAR}: use a programmer" if far else None
+    return f"{option_of(far)}: {FAR}: use a programmer" if far else None
 
 
 def risk_of_loader(words: Words) -> str | None:
@@ -802,7 +816,7 @@ def ran(words: Words, put: Callable[[bytes], None] = messages.put, earlier: froz
         words.tries += 1
         words.report.stage = "file"
         if words.each:
-            give(words, words.each, earlier)
+            give(words, words.each, Outcome(words, earlier, is_held=outcome.is_held))
         outcome = Outcome(words, earlier, is_held=outcome.is_held)
         words.report.stage = "device"
         run = Run(words, outcome, put)
@@ -822,20 +836,20 @@ def ran(words: Words, put: Callable[[bytes], None] = messages.put, earlier: froz
         repairs = re.match(r"no answer$|link |\w+: address \w+: \w+ expected, \w+ found$", outcome.error)
         if words.tries > count or ended_by() or not outcome.status or not repairs:
             return outcome
-        words.note(f"{outcome.error}: the same command again, {words.tries} of {count}")
+        words.note(f"{outcome.error}: trying again, {words.tries} of {count}")
         wait_for(words.device)
 
 
-def give(words: Words, each: Each, earlier: frozenset[int]) -> None:
-    """Takes the number of a run. If that fails for a second run, or by a signal, the error also describes the chip."""
+def give(words: Words, each: Each, before: Outcome) -> None:
+    """Takes the number of a run. If that fails after a first run or a signal, the error describes the chip, too."""
     each.end = each.end if words.tries == 1 else "the command is not run again"
     try:
         each.give(words)
     except (Fault, OSError) as fault:
         if words.tries == 1 and not ended_by():
             raise
-        state = MAYBE_CHANGED if CHANGING & earlier else UNCHANGED
-        raise Fault(f"{text_of(fault)}; {state}")
+        # (without what it advises)
+        raise Fault(f"{text_of(fault)}; {state_of(before).partition(': ')[0]}")
 
 
 def wait_for(device: str | None) -> None:
@@ -859,7 +873,8 @@ def ask(
     before = len(report.lines)
     outcome = ran(session, lines.append)
     outcome.may_change, words.speeds = False, session.speeds
-    is_loader = risk is not None and outcome.error.startswith("command 1C refused")
+    # (status C1 is that of a frame that arrived corrupt)
+    is_loader = risk is not None and bool(re.match("command 1C refused with status (?!C1)", outcome.error))
     if is_loader or not outcome.status:
         # (what the session before the run read or compared is no update of the run)
         report.lines[before:] = [line for line in report.lines[before:] if line.startswith("device signature")]
@@ -867,7 +882,8 @@ def ask(
         report.stage = "refused"
         raise Fault(f"the device refuses command 1C, as a bootloader does: {risk}; nothing was written")
     if outcome.status:
-        messages.put(b"".join(lines))
+        # (-p auto takes any part to ask)
+        messages.put(b"".join(line for line in lines if not line.startswith(b"avrstk: warning: signature is ")))
         if outcome.left_at_error and outcome.error == "no answer" and not ended_by() and not words.has_port:
             why = "the session before the run got no reply to its last command; nothing was written"
             raise Fault(f"{why}. {POWER_CYCLE.capitalize()}, and {same(words)}")
@@ -880,19 +896,19 @@ def ask(
 def detect(words: Words) -> set[int]:
     """Takes the part of the chip's signature for -p auto. Returns the commands that were sent."""
     if words.has_port or words.parts_file is not None:
-        raise Fault("-p auto is for a device, and looks in the part file that comes with avrstk (without --parts)")
+        raise Fault("-p auto is for a serial device, and without --parts")
     outcome, lines = ask(words, ["-F", "-n"], [], "m328p")
     (signature,) = re.findall(r"^avrstk: device signature = ((?:\w\w ?){3})$", lines, re.M)
     names = parts_of(signature)
     words.report.stage = "no chip" if signature in NO_SIGNATURES else "arguments" if names else "other part"
-    has = f"-p auto: the chip has the signature {signature}, which"
+    has = f"-p auto: the device signature is {signature}, which"
     if signature in NO_SIGNATURES:
         raise Fault(f"-p auto: {NO_CHIP}; nothing was written")
     if not names:
         raise Fault(f"{has} no part here has; nothing was written")
     if len(names) > 1:
         raise Fault(f"{has} several parts have: give one of them by -p: {', '.join(names)}; nothing was written")
-    words.note(f"the chip is {names[0]} ({signature})")
+    words.note(f"-p auto takes {names[0]}, whose signature is {signature}")
     words.part = names[0]
     return outcome.commands
 
@@ -901,7 +917,7 @@ def prepare(words: Words) -> None:
     """Judges the command line, makes the log and the folder that it names, and prints what is understood otherwise."""
     lone = [option for option in ("--from", "--rows", "--counter") if option in words.last and not words.each_given]
     if lone:
-        raise Fault(f"{' and '.join(lone)}: for what --each writes, which is not given")
+        raise Fault(f"{' and '.join(lone)}: only with --each")
     words.report.stage = "file"
     if words.restore is not None:
         try:
@@ -920,7 +936,7 @@ def prepare(words: Words) -> None:
     if words.left_out:
         words.note(f"ignored: {', '.join(words.left_out)}")
     for update in words.updates if "-q" not in words.flags else []:
-        if update.named:
+        if update.named and update.front:
             print_line(f"{update.file} is read as {FORMATS[update.named]} (:{update.named})")
 
 
@@ -992,6 +1008,8 @@ def execute(words: Words) -> int:
         flags = [flag for flag in words.flags if flag in ("-F", "-q")]
         outcome, _ = ask(words, flags, asking(words.restore), risk=risk)
         sent |= outcome.commands
+        if words.each:
+            words.each.end = "nothing was written"
         if outcome.status:
             return outcome.status
     # (a backup has the bits as they were read)
@@ -1005,8 +1023,8 @@ def execute(words: Words) -> int:
     if outcome.status and not words.has_port:
         raise Fault(hint(outcome, ended_by()))
     if not outcome.status and words.backup is None and "flash: 0 bytes read" in words.report.lines:
-        hidden = f", or the lock hid it ({OPEN_LOCK})"
-        words.note("flash was erased when it was read" + hidden * (not words.is_bootloader and not erases(words)))
+        hidden = f": it was erased, or the lock hid it ({OPEN_LOCK})"
+        words.note("all of flash was FF when it was read" + hidden * (not words.is_bootloader))
     return outcome.status
 
 

@@ -293,8 +293,8 @@ def judge_words(options: Sequence[tuple[str, str]], others: Sequence[str]) -> No
         is_clear = is_one and joined.operation in ("r", "w", "v")
         cure = f"give -U {shlex.quote(joined.given)}" if is_clear else "MEMORY:OP:FILE:FORMAT"
         raise Fault(f"an update is one word: {cure}")
-    if other == "all" and dict(options).get("--try-rows") == "safe":
-        raise Fault("all belongs to no option: give --try-rows=all")
+    if "--try-rows" in dict(options) and other[:1] != "-":
+        raise Fault(f"{other} belongs to no option: there is --try-rows, and --try-rows=all")
     if re.match("-.", other):
         raise Fault(f"{other.partition('=')[0]} is after --, which ends the options")
     cure = "is one, such as -U, missing before it, or quotes around a name with blanks?"
@@ -484,7 +484,8 @@ class Update:
 
     def kind(self) -> str | None:
         """Returns the letter of an image's format, which is detected if none is given; None of values."""
-        return form_of(self.front) or "r" if self.format in (None, "a") else self.format
+        detected = form_of(self.front) or "r"
+        return detected if self.format in (None, "a") else self.format
 
     def writes(self, memory: str) -> bool:
         return self.operation == "w" and self.memory == memory
