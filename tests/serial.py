@@ -633,7 +633,7 @@ def what_is_missing():
         put_program(front, "#!/bin/sh\necho $0 $1\n")
         check_equal("the one beside it", ran(), (0, f"{front} -P\n", ""))
         check_equal("--unproved", ran("--unproved"), (0, f"{front} --unproved\n", ""))
-        no_file = "the part file classic.toml is not there (install.sh puts it under share/avrstk)"
+        no_file = "the part file classic.toml is not there or empty (install.sh puts it under share/avrstk)"
         check_equal("no part file", ran(part="atmega328p"), (1, "", f"avrstk-serial: atmega328p: {no_file}\n"))
         check_equal("no file is written", [*Path(folder).rglob("*.pyc")], [])
     # (2: Python keeps no docstrings)
