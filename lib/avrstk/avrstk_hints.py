@@ -108,7 +108,7 @@ def again(run: Outcome) -> str:
 
 def same(words: Words) -> str:
     """Advises to run the same command again. With several boards it would change those that are done."""
-    return SAME + f" for {words.device} alone (one -P)" * words.is_station
+    return SAME + f" for {words.device} alone (one -P, no {{board}})" * words.is_station
 
 
 def overwritten(words: Words) -> list[str]:
@@ -151,11 +151,11 @@ def hint(run: Outcome, number: int | None) -> str:
     needs_reset = words.is_bootloader or not words.is_version1
     resets = "that the board resets when the port opens (else press reset right after starting)" * needs_reset
     if run.is_noisy:
-        why = f"the device sends data, but no valid reply: its application is running, or {speed} is wrong"
+        why = f"the device sends data, but no valid reply: often its application is running, or {speed} is wrong"
         return f"{why}. Check {resets}. {others}" if resets else f"{why}. {others}"
     if error == "no answer" and run.commands <= {SIGN_ON, LEAVE}:
         checks = "; ".join([speed, "that no serial monitor has the port open", *[resets] * needs_reset])
-        return f"no valid reply; {UNCHANGED}. Check: {checks}. {others}"
+        return f"no valid reply; {state}. Check: {checks}. {others}"
     return matched(REPLIED, error, run, speed=speed, state=state, noisy=noisy(words, error)) or state
 
 
@@ -231,12 +231,12 @@ def unread(run: Outcome, found: Match[str]) -> str:
     update = next(iter(images + values), None)
     if update and address:
         return too_far(words, update, int(address, 16))
-    held, is_at_begin = update.held(65_536) if update else b"", fault == "no record mark" and line == "1"
-    if not update or not is_at_begin and held[:4] != b"\x7fELF":
-        return "the file is damaged or cut short: build or download it again"
-    other = form_of(held) or update.format
-    if other and other != update.format and (other != "e" or update.memory in AREAS):
-        return f"it has {FORMATS.get(other)}: give {update.given_as(other)}"
+    held = update.held(65_536) if update else b""
+    form, is_at_begin = form_of(held), line == "1" and fault in ("no record mark", "line too long")
+    if not update or form and update.format in (None, "a", form) or not is_at_begin and form != "e":
+        return "the file is damaged, cut short or edited: build or download it again"
+    if form and (form != "e" or update.memory in AREAS):
+        return f"it has {FORMATS[form]}: give {update.given_as(form)}"
     if re.search(rb"^" + RECORD.pattern, held, re.M):
         cure = "delete that if it is a comment, else build or download the file again"
         return f"something is above its first record: {cure}"
@@ -246,12 +246,12 @@ def unread(run: Outcome, found: Match[str]) -> str:
 def too_far(words: Words, update: Update, address: int) -> str:
     """Returns the hint for an image with a byte at an address that its memory doesn't have."""
     own = f"{update.memory}:{update.operation}"
+    if update.memory in ("signature", "calibration"):
+        return f"{update.memory} has {'3 bytes' if update.memory == 'signature' else '1 byte'}"
     if 0x810000 <= address < SIGNATURE + 3:
         return f"it has addresses of EEPROM or fuses, as ELF has: give the ELF file itself, as {own}:NAME.elf"
     if update.memory in FUSES:
         return f"{update.memory} has 1 byte: give its value, as {own}:0xNN:m"
-    if update.memory in ("signature", "calibration"):
-        return f"{update.memory} has {'3 bytes' if update.memory == 'signature' else '1 byte'}"
     size = words.field(f"{update.memory}_size")
     room = f"has {size:,} bytes" if size else "is smaller"
     goes_on = f"{update.file} goes past it: " if update.elf else ""
@@ -307,7 +307,7 @@ def another_part(run: Outcome, found: Match[str]) -> str:
         return f"{NO_CHIP}; nothing was written"
     if not names:
         return f"no part here has the signature {found[1]}: check the board and the wires; nothing was written"
-    which = f"is {words.device} the right board? Its chip is {' or '.join(names[:4])} ({found[1]})"
+    which = f"is {words.device} the right board? It has the signature of {' or '.join(names)} ({found[1]})"
     # (the part file of one's own may not have it, or may have it with another signature)
     alone = "" if words.parts_file is None else " without --parts"
     cure = f"if that is so, -p {names[0]}{alone}, with firmware and fuses that are made for it"
@@ -343,7 +343,7 @@ def unlike(run: Outcome, memory: str, address: int, wanted: int, held: int) -> s
         return remains(run)
     writes = [update for update in words.updates[: run.done() + 1] if update.writes_flash()]
     if memory == "flash" and sum(update.may_have(address) for update in writes) > 1:
-        cause = "two images overlap (give one of them), or "
+        cause = "two images may overlap (give one of them), or "
     else:
         # (a restore, and version 1, need a programmer)
         is_far = memory == "eeprom" and address > 0xFF and words.restore is None and not words.is_version1
@@ -443,7 +443,7 @@ REPLIED: Table = {
     r"signature is (\w\w \w\w \w\w)": another_part,
     r"command \w\w refused with status C1": "{noisy}: {state}; if it refuses again, use another programmer",
     "command 12 ": unerased,
-    "command 10 ": f"{NO_REACH}: check wires, power, clock and reset pin; {UNCHANGED}",
+    r"command 10 .*(80|81|C0)$": f"{NO_REACH}: check wires, power, clock and reset pin; {UNCHANGED}",
     "command (17|19|1C) ": "a bootloader may refuse to write fuses and the lock, and to read the calibration: use a "
     "programmer. If this is one, {state}; if it refuses again, use another one",
     "no answer$": "no further valid reply: check the cable and the power; {state}",
