@@ -98,9 +98,9 @@ def again(run: Outcome) -> str:
     left = [update for at, update in begun[: run.done()] if not erases(words) or at < first.get(update.memory, 0)]
     base = words.updates if words.each is None or words.each.base is None else words.each.base
     given = [f"-U {shlex.quote(update.given)}" for update in left if update.file != "--each"]
-    given += ["--each"] * any(update not in base for update in left)
+    given += ["--each with its options"] * any(update not in base for update in left)
     without = f" without {' and '.join(given)}" * bool(given)
-    number = ", with another number" * (bool(words.each_given) and "--each" not in given)
+    number = ", with another number" * (bool(words.each_given) and all(update in base for update in left))
     eeprom = "-U eeprom:r:FILE:i, if no lock hides it"
     before = f"read EEPROM into a file ({eeprom}), because the next run may erase it, and then " * may_erase
     return before + same(words) + without + number
