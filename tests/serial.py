@@ -1545,9 +1545,10 @@ def elf_files_with_faults():
 def repeated(words, _, found):
     """Follows a hint to run the same command again, without the updates that it names."""
     without = re.search(r"run the same command again without (.*)$", found.string)
-    left = shlex.split(without[1]) if without else []
+    texts = shlex.split(without[1]) if without else []
+    left = [value for word, value in zip(texts, texts[1:]) if word == "-U"]
     pairs = zip(words, [*words[1:], ""])
-    return [word for word, value in pairs if word not in left[1::3] and (word != "-U" or value not in left[1::3])]
+    return [word for word, value in pairs if word not in left and (word != "-U" or value not in left)]
 
 
 def mended(words, case, found):

@@ -90,17 +90,22 @@ def state_of(run: Outcome) -> str:
 def again(run: Outcome) -> str:
     """Advises to run the same command again, without updates that were done and can't be repeated. After an erase these
     are the reads and comparisons of what was changed later; without one nothing is repeated (a lock may protect it)."""
-    words, begun = run.words, [*enumerate(run.words.updates[: run.done() + 1])]
-    first = {update.memory: at for at, update in reversed(begun) if update.operation == "w"}
-    may_erase = may_erase_kept(words, [update for _, update in begun])
+    words, done, updates = run.words, run.done(), run.words.updates
+    first = {update.memory: at for at, update in reversed([*enumerate(updates[: done + 1])]) if update.operation == "w"}
+    may_erase = may_erase_kept(words, updates[: done + 1])
     if may_erase:
-        first.setdefault("eeprom", run.done())
-    left = [update for at, update in begun[: run.done()] if not erases(words) or at < first.get(update.memory, 0)]
-    base = words.updates if words.each is None or words.each.base is None else words.each.base
-    given = [f"-U {shlex.quote(update.given)}" for update in left if update.file != "--each"]
-    given += ["--each with its options"] * any(update not in base for update in left)
+        first.setdefault("eeprom", done)
+    left = [one for at, one in enumerate(updates[:done]) if not erases(words) or at < first.get(one.memory, 0)]
+    base = updates if words.each is None or words.each.base is None else words.each.base
+    is_each = any(update not in base for update in left)
+    # (the same may be given once more, later)
+    later = {update.given for update in updates if update not in left}
+    given = [
+        (one.given in later) * "the first " + f"-U {shlex.quote(one.given)}" for one in left if one.file != "--each"
+    ]
+    given += ["--each with its options"] * is_each
     without = f" without {' and '.join(given)}" * bool(given)
-    number = ", with another number" * (bool(words.each_given) and all(update in base for update in left))
+    number = ", with another number" * (bool(words.each_given) and not is_each)
     eeprom = "-U eeprom:r:FILE:i, if no lock hides it"
     before = f"read EEPROM into a file ({eeprom}), because the next run may erase it, and then " * may_erase
     return before + same(words) + without + number
