@@ -1657,7 +1657,7 @@ FOLLOWED = [
     ),
     (r"^ended by SIG|^no valid reply; the chip is unchanged. Check|^the device sends data, but no valid reply", mended),
     (
-        r"^the programmer (finds no chip|can't reach the chip)|^no further valid reply|^the device is gone"
+        r"^a signature of 00 or FF|^the programmer can't reach the chip|^no further valid reply|^the device is gone"
         r"|^something else sends data",
         mended,
     ),

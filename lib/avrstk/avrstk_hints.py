@@ -20,7 +20,7 @@ CHANGING, SIGN_ON, ENTER, LEAVE = {0x12, 0x13, 0x15, 0x17, 0x19, 0x1D}, 0x01, 0x
 
 # what a programmer without a chip reads as its signature
 NO_SIGNATURES = {"00 00 00", "FF FF FF"}
-NO_CHIP = "the programmer finds no chip: check the wires and the power"
+NO_CHIP = "a signature of 00 or FF often means that no chip replies: check the wires and the power"
 NO_REACH = "the programmer can't reach the chip"
 SAME = "run the same command again"
 ONE_IMAGE = "give one image that begins at 0 and leaves out no page"
@@ -192,9 +192,9 @@ def noisy(words: Words, error: str) -> str:
     if not words.is_version1:
         return "the programmer reports damaged commands (check the cable)"
     # (then a reply wasn't as avrstk_version1 expects it)
-    causes = {"command 10": NO_REACH} if not words.is_bootloader else {}
-    causes.update({"command 14": "flash outside the image is not FF"} if erases(words) else {})
-    return f"{causes.get(error[:10], 'the device refused the command')}, or the line is noisy"
+    causes = {"command 10": f"{NO_REACH}, "} if not words.is_bootloader else {}
+    causes.update({"command 14": "flash outside the image is not FF, "} if erases(words) else {})
+    return f"{causes.get(error[:10], '')}the device refused the command, or the line is noisy"
 
 
 def matched(table: Table, error: str, run: Outcome, **fields: str) -> str:
