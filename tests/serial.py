@@ -1670,7 +1670,7 @@ FOLLOWED = [
         lambda *_: None,
     ),
     (
-        r"use another (one|programmer)$|^no part here has the signature|is not supported: .* Use avrdude",
+        r"use another (one|programmer)$|^no part of classic.toml has the signature|is not supported: .* Use avrdude",
         lambda *_: None,
     ),
 ]

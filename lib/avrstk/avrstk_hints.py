@@ -311,7 +311,9 @@ def another_part(run: Outcome, found: Match[str]) -> str:
     if found[1] in NO_SIGNATURES:
         return f"{NO_CHIP}; nothing was written"
     if not names:
-        return f"no part here has the signature {found[1]}: check the board and the wires; nothing was written"
+        return (
+            f"no part of classic.toml has the signature {found[1]}: check the board and the wires; nothing was written"
+        )
     which = f"is {words.device} the right board? It has the signature of {' or '.join(names)} ({found[1]})"
     # (the part file of one's own may not have it, or may have it with another signature)
     alone = "" if words.parts_file is None else " without --parts"
