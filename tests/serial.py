@@ -1543,12 +1543,13 @@ def elf_files_with_faults():
 
 
 def repeated(words, _, found):
-    """Follows a hint to run the same command again, without the updates that it names."""
-    without = re.search(r"run the same command again without (.*)$", found.string)
-    texts = shlex.split(without[1]) if without else []
-    left = [value for word, value in zip(texts, texts[1:]) if word == "-U"]
+    """Follows a hint to run the same command again, with -D, or without the updates that it names."""
+    again = re.search(r"run the same command again( with -D)?(?: without (.*))?$", found.string)
+    texts = shlex.split(again[2] or "") if again else []
+    left = [value for word, value in zip(texts, texts[1:]) if word == "-U"] + ["-e"] * ("-e" in texts)
     pairs = zip(words, [*words[1:], ""])
-    return [word for word, value in pairs if word not in left and (word != "-U" or value not in left)]
+    kept = [word for word, value in pairs if word not in left and (word != "-U" or value not in left)]
+    return [*kept, *["-D"] * bool(again and again[1])]
 
 
 def mended(words, case, found):
@@ -1663,7 +1664,7 @@ FOLLOWED = [
     ),
     (r"only the session's end failed. Power-cycle the board", mended),
     (r"^check the folder and free space|^standard output is closed", changed(":(/dev/full|-):h", ":read.txt:h")),
-    (r"run the same command again( without .*)?$", repeated),
+    (r"run the same command again( with -D)?( without .*)?$", repeated),
     (
         r"holds something else than [^;]*$|: use a programmer$|: power-cycle the board$|may be worn$"
         r"|may be worn, or a lock|or try another chip$",

@@ -58,19 +58,24 @@ class Outcome:
     is_held: bool = False
     # whether this is a session before the run, which only asks
     is_before: bool = False
-    # how many lines of avrstk reported what an update did
+    # how many lines of avrstk reported an erase, or what an update did
     steps: int = 0
 
-    def done(self) -> int:
-        """Returns how many updates were done, in their order. (A write that is compared has two lines.)"""
+    def begun(self) -> int:
+        """Returns how many updates were begun after the erase, in their order; one more if all were done."""
         is_compared = not {"-V", "-n"} & {*self.words.flags}
+        # (a write that is compared has two lines)
         lines = [1 + (update.operation == "w" and is_compared) for update in self.words.updates]
-        return sum(end <= self.steps for end in itertools.accumulate(lines))
+        return sum(end <= self.steps for end in itertools.accumulate([int(erases(self.words)), *lines]))
+
+    def done(self) -> list[Update]:
+        """Returns the updates that were done."""
+        return self.words.updates[: max(self.begun() - 1, 0)]
 
     def is_done(self) -> bool:
         """Whether all but the session's end was done."""
         is_left = self.left_at_error or LEAVE in self.commands and not self.error
-        return not self.is_before and (is_left or 0 < len(self.words.updates) == self.done())
+        return not self.is_before and (is_left or 0 < len(self.words.updates) < self.begun())
 
 
 # hints by the beginnings of errors: a text, or a function of the run and of what was found in the error
@@ -88,14 +93,13 @@ def state_of(run: Outcome) -> str:
 
 
 def again(run: Outcome) -> str:
-    """Advises to run the same command again, without updates that were done and can't be repeated. After an erase these
-    are the reads and comparisons of what was changed later; without one nothing is repeated (a lock may protect it)."""
-    words, done, updates = run.words, run.done(), run.words.updates
-    first = {update.memory: at for at, update in reversed([*enumerate(updates[: done + 1])]) if update.operation == "w"}
-    may_erase = may_erase_kept(words, updates[: done + 1])
-    if may_erase:
-        first.setdefault("eeprom", done)
-    left = [one for at, one in enumerate(updates[:done]) if not erases(words) or at < first.get(one.memory, 0)]
+    """Advises to run the same command again. It leaves out what was done, unless an erase clears that; then only reads
+    and comparisons of what was changed later. (A lock that was written may protect what was done before.)"""
+    words, updates, begun = run.words, run.words.updates, [*enumerate(run.words.updates[: run.begun()])]
+    loses = may_erase_kept(words, [update for _, update in begun])
+    first = {update.memory: at for at, update in reversed(begun) if update.operation == "w"}
+    repeats = erases(words) and not loses
+    left = [one for at, one in enumerate(run.done()) if not repeats or at < first.get(one.memory, 0)]
     base = updates if words.each is None or words.each.base is None else words.each.base
     is_each = any(update not in base for update in left)
     # (the same may be given once more, later)
@@ -103,12 +107,11 @@ def again(run: Outcome) -> str:
     given = [
         (one.given in later) * "the first " + f"-U {shlex.quote(one.given)}" for one in left if one.file != "--each"
     ]
-    given += ["--each with its options"] * is_each
+    given = ["-e"] * (loses and "-e" in words.flags) + given + ["--each with its options"] * is_each
     without = f" without {' and '.join(given)}" * bool(given)
     number = ", with another number" * (bool(words.each_given) and not is_each)
-    eeprom = "-U eeprom:r:FILE:i, if no lock hides it"
-    before = f"read EEPROM into a file ({eeprom}), because the next run may erase it, and then " * may_erase
-    return before + same(words) + without + number
+    why, option = ("since another erase may clear EEPROM, ", " with -D") if loses else ("", "")
+    return why + same(words) + option + without + number
 
 
 def same(words: Words) -> str:
@@ -326,7 +329,7 @@ def differs(run: Outcome, found: Match[str]) -> str:
     words, memory = run.words, found[1]
     address, wanted, held = (int(number, 16) for number in found.groups()[1:])
     # (the updates before were done)
-    update = next(one for one in [*words.updates[run.done() :], *words.updates] if one.memory == memory)
+    update = next(one for one in [*words.updates[len(run.done()) :], *words.updates] if one.memory == memory)
     bits = words.bits().get(memory) if words.restore is None else None
     if bits is not None and not (wanted ^ held) & bits:
         own = f"{memory}:{update.operation}:0x{held:02X}:m"
@@ -343,12 +346,12 @@ def differs(run: Outcome, found: Match[str]) -> str:
 def unlike(run: Outcome, memory: str, address: int, wanted: int, held: int) -> str:
     """Returns the hint if flash or EEPROM holds another byte than the one that was written."""
     words = run.words
-    if may_lock(words.updates[: run.done()]):
+    if may_lock(run.done()):
         return lock_last(words)
     keeps = not erases(words) and not words.is_bootloader
     if memory == "flash" and keeps and not held & ~wanted:
         return remains(run)
-    writes = [update for update in words.updates[: run.done() + 1] if update.writes_flash()]
+    writes = [update for update in words.updates[: run.begun()] if update.writes_flash()]
     if memory == "flash" and sum(update.may_have(address) for update in writes) > 1:
         cause = "two images may overlap (give one of them), or "
     else:
@@ -379,10 +382,9 @@ def lock_last(words: Words) -> str:
 
 def unlike_fuse(run: Outcome, memory: str, wanted: int, held: int) -> str:
     """Returns the hint if a fuse or the lock holds another value than the one that was written."""
-    words, before = run.words, run.words.updates[: run.done()]
-    if memory == "lock" and wanted & ~held and any(update.writes("lock") for update in before):
+    words, is_after = run.words, memory != "lock" and may_lock(run.done())
+    if memory == "lock" and wanted & ~held and any(update.writes("lock") for update in run.done()):
         return "the lock is given twice: give one value"
-    is_after = memory != "lock" and may_lock(before)
     cause = "check the wires, the power and the clock, or try another chip" if erases(words) else LOCKED
     if is_after:
         cause = lock_last(words)

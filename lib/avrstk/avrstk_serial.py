@@ -427,7 +427,7 @@ class Run:
         # (several updates may have one file: only the name that avrstk got tells which one is faulty)
         text = os.fsdecode(shown if line.endswith(b": cannot be opened") else line).partition("avrstk: ")[2]
         self.outcome.may_change |= text.startswith("device signature = ") and self.words.changes()
-        self.outcome.steps += bool(re.match(r"\w+: \d+ bytes (not )?\w+$", text))
+        self.outcome.steps += bool(re.match(r"chip erased$|\w+: \d+ bytes (not )?\w+$", text))
         if text.startswith("error: ") and not self.outcome.error:
             self.outcome.left_at_error, self.outcome.error = LEAVE in self.outcome.commands, text[7:]
 
