@@ -150,7 +150,7 @@ def followed(given, chip, lost, is_done):
     hint = hints.hint(outcome, None)
     if is_whole or hint.startswith("everything was done") or hint.endswith("the chip is unchanged"):
         return None
-    again = re.search(r"run the same command again( with -D)?(?: without (.*))?$", hint)
+    again = re.search(r"run the same command again( with -D)?(?:,? without (.*))?$", hint)
     if not check(f"{given}: it may be run again: {hint}", again):
         return None
     chip.lost = 0

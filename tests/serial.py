@@ -669,6 +669,12 @@ def speeds_that_a_device_has_not():
         found = patched(slow, ["-p", "m328p", "-P", board.device, "-b", baud])
         check_equal(f"{baud} at 9600", found, (int(baud != "9500"), "", end.format(board.device)))
         board.end()
+    # (it has the first speed of two, and is silent)
+    board = Board(deaf=1000)
+    words = ["-p", "m328p", "-c", "arduino", "-D", "-U", "flash:w:blink.hex", "-P", board.device]
+    _, _, hint = patched(slow.replace("(9600)", "(115200)"), words)
+    check("a device without the second speed", hint.startswith("avrstk-serial: no valid reply; the chip is"), hint)
+    board.end()
 
 
 def lines_of_a_board():
@@ -1544,7 +1550,7 @@ def elf_files_with_faults():
 
 def repeated(words, _, found):
     """Follows a hint to run the same command again, with -D, or without the updates that it names."""
-    again = re.search(r"run the same command again( with -D)?(?: without (.*))?$", found.string)
+    again = re.search(r"run the same command again( with -D)?(?:,? without (.*))?$", found.string)
     texts = shlex.split(again[2] or "") if again else []
     left = [value for word, value in zip(texts, texts[1:]) if word == "-U"] + ["-e"] * ("-e" in texts)
     pairs = zip(words, [*words[1:], ""])
@@ -1636,7 +1642,7 @@ FOLLOWED = [
     (r"has 1 byte: give its value, as lfuse:w:0xNN:m", changed("^lfuse:.*", "lfuse:w:0xE2:m")),
     (r"without the package: -p (\w+)|give -p (\w+);", changed("^(m328p-pu|mega328p)$", r"\1\2")),
     (
-        r"-p takes the chip's name, not the board's: (m328p) for Uno|^-p '\?' lists the parts",
+        r"-p takes the chip's name, not the board's: mostly (m328p) for Uno|^-p '\?' lists the parts",
         changed("^(uno|nano|m9)$", "m328p"),
     ),
     (r"; without --parts \w+ is known;", lambda words, *_: without(words, "--parts", "mine.toml")),
@@ -1664,7 +1670,7 @@ FOLLOWED = [
     ),
     (r"only the session's end failed. Power-cycle the board", mended),
     (r"^check the folder and free space|^standard output is closed", changed(":(/dev/full|-):h", ":read.txt:h")),
-    (r"run the same command again( with -D)?( without .*)?$", repeated),
+    (r"run the same command again( with -D)?(,? without .*)?$", repeated),
     (
         r"holds something else than [^;]*$|: use a programmer$|: power-cycle the board$|may be worn$"
         r"|may be worn, or a lock|or try another chip$",

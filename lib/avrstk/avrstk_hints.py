@@ -108,10 +108,10 @@ def again(run: Outcome) -> str:
         (one.given in later) * "the first " + f"-U {shlex.quote(one.given)}" for one in left if one.file != "--each"
     ]
     given = ["-e"] * (loses and "-e" in words.flags) + given + ["--each with its options"] * is_each
-    without = f" without {' and '.join(given)}" * bool(given)
+    options = ["with -D"] * loses + [f"without {' and '.join(given)}"] * bool(given)
     number = ", with another number" * (bool(words.each_given) and not is_each)
-    why, option = ("since another erase may clear EEPROM, ", " with -D") if loses else ("", "")
-    return why + same(words) + option + without + number
+    why = "since another erase may clear EEPROM, " * loses
+    return f"{why}{same(words)} {', '.join(options)}".rstrip() + number
 
 
 def same(words: Words) -> str:
