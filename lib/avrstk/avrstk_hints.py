@@ -95,8 +95,8 @@ def state_of(run: Outcome) -> str:
 def again(run: Outcome) -> str:
     """Advises to run the same command again. It leaves out what was done, unless an erase clears that; then only reads
     and comparisons of what was changed later. (A lock that was written may protect what was done before.)"""
-    words, updates, begun = run.words, run.words.updates, [*enumerate(run.words.updates[: run.begun()])]
-    loses = may_erase_kept(words, [update for _, update in begun])
+    words, updates, loses = run.words, run.words.updates, may_lose(run)
+    begun = [*enumerate(updates[: run.begun()])]
     first = {update.memory: at for at, update in reversed(begun) if update.operation == "w"}
     repeats = erases(words) and not loses
     left = [one for at, one in enumerate(run.done()) if not repeats or at < first.get(one.memory, 0)]
@@ -136,6 +136,11 @@ def may_erase_kept(words: Words, updates: list[Update]) -> bool:
     values = [update.value() for update in updates if update.writes("hfuse")]
     keeps = all(value is not None and bit is not None and not value >> bit & 1 for value in values)
     return erases(words) and not keeps and words.restore is None
+
+
+def may_lose(run: Outcome) -> bool:
+    """Whether another erase may clear EEPROM that the run kept."""
+    return may_erase_kept(run.words, run.words.updates[: run.begun()])
 
 
 def hint(run: Outcome, number: int | None) -> str:
@@ -359,7 +364,8 @@ def unlike(run: Outcome, memory: str, address: int, wanted: int, held: int) -> s
         is_far = memory == "eeprom" and address > 0xFF and words.restore is None and not words.is_version1
         cause = "a Mega's bootloader reads other addresses above 255 (use a programmer), " * is_far
     worn = "a page may be worn" + f", or {LOCKED}" * keeps
-    return f"{again(run)}; if it always fails at the same address, {cause}{worn}"
+    always = f"{again(run)}; if it always fails at the same address, " * (not may_lose(run))
+    return f"{always}{cause}{worn}"
 
 
 def erases(words: Words) -> bool:
@@ -399,7 +405,8 @@ def unlike_fuse(run: Outcome, memory: str, wanted: int, held: int) -> str:
         return f"bit 5 (SPIEN) stays 0 at most parts: give hfuse:w:0x{held:02X}:m"
     if memory == "lock" and wanted & ~held and not erases(words):
         return REMOVES
-    return cause if is_after else f"{again(run)}; if it fails again, {cause}"
+    is_last = is_after or memory != "lock" and may_lose(run)
+    return cause if is_last else f"{again(run)}; if it fails again, {cause}"
 
 
 def remains(run: Outcome) -> str:
