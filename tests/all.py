@@ -59,7 +59,7 @@ SOURCES = (
 # scripts over the library for C, which takes minutes to prove and build, so that only --all runs them
 LIBRARY = ("from_c",)
 # scripts that take seconds
-SHORT = ("runs", "lines", "made_frames", "manual")
+SHORT = ("runs", "lines", "made_frames", "second_runs", "manual")
 # scripts that ./test runs with the unproved program; the longest first, the longest of all in two halves
 HALVES = tuple(f"{name} {half}" for name in ("serve", "recipes", "serial", "station") for half in ("1/2", "2/2"))
 QUICK = (*HALVES, "boards", "bad_lines", "avrdude", "chips", "drawn_runs", "why", "hostile", "parts", *SHORT)

@@ -461,6 +461,10 @@ def refused():
     room.put("257.hex", hex_of([(250, b"1234567")]))
     room.put("257.bin", bytes(257))
     room.put("colon.bin", b":\1\2\3")
+    room.put("zeros.bin", bytes(2000))
+    room.put("above.hex", hex_of([(0x810000, b"x")]))
+    room.put("arm.hex", hex_of([(0x8000000, b"x")]))
+    room.put("long.txt", room.read("blink.hex").replace(b"\n", b"0" * 600, 1))
     room.put("lfuse.txt", b"0xe2\n")
     room.put("long x.elf", b"\x7fELF" + b"x" * 600 + b"\n")
     (room.folder / "gone.hex").symlink_to("nowhere")
@@ -671,7 +675,7 @@ def what_is_missing():
         put_program(front, "#!/bin/sh\necho $0 $1\n")
         check_equal("the one beside it", ran(), (0, f"{front} -P\n", ""))
         check_equal("--unproved", ran("--unproved"), (0, f"{front} --unproved\n", ""))
-        no_file = "the part file classic.toml is not there (install.sh puts it under share/avrstk)"
+        no_file = "the part file classic.toml is not there or empty (install.sh puts it under share/avrstk)"
         check_equal("no part file", ran(part="atmega328p"), (1, "", f"avrstk-serial: atmega328p: {no_file}\n"))
         none_to_list = "the part file classic.toml is not there or empty (install.sh puts it under share/avrstk)"
         check_equal("no part file to list", ran(part="?"), (1, "", f"avrstk-serial: {none_to_list}\n"))
@@ -705,6 +709,12 @@ def speeds_that_a_device_has_not():
         found = patched(slow, ["-p", "m328p", "-P", board.device, "-b", baud])
         check_equal(f"{baud} at 9600", found, (int(baud != "9500"), "", end.format(board.device)))
         board.end()
+    # (it has the first speed of two, and is silent)
+    board = Board(deaf=1000)
+    words = ["-p", "m328p", "-c", "arduino", "-D", "-U", "flash:w:blink.hex", "-P", board.device]
+    _, _, hint = patched(slow.replace("(9600)", "(115200)"), words)
+    check("a device without the second speed", hint.startswith("avrstk-serial: no valid reply; the chip is"), hint)
+    board.end()
 
 
 def lines_of_a_board():
@@ -1005,7 +1015,7 @@ def status_and_lines(words, board):
 def backups_that_fail():
     """A failed backup leaves no folder. A chip of another part, or a folder with faults, is not restored."""
     loader = "a bootloader may refuse to write fuses and the lock, and to read the calibration: use a programmer. If "
-    loader += "this is one, use another; the chip is unchanged"
+    loader += "this is one, the chip is unchanged; if it refuses again, use another one"
 
     def written(answer):
         check("no write", answer[5] not in (0x12, 0x13, 0x15, 0x17, 0x19))
@@ -1014,7 +1024,7 @@ def backups_that_fail():
     def refused(answer):
         return frame(answer[1], b"\x1c\xc0") if answer[5] == 0x1C else written(answer)
 
-    only_leaving = "only the last command got no reply. Power-cycle the board, and run the same command again"
+    only_leaving = "only the session's end failed. Power-cycle the board, and run the same command again"
     fails = [
         ({"answer": refused}, ["--backup", "gone"], f"{loader}; no backup is kept"),
         ({"answer": refused}, ["--restore", "a backup"], loader),
@@ -1411,7 +1421,7 @@ def hints():
         if name == "silent":
             check_equal(f"{name}: the chip", chip, b"\xff" * CHIP_FILE)
     status, _, printed, own, _ = over(["-p", "m328p", "-U", "lfuse:r:-:h"], closed=">&-")
-    stays = "everything reported above was done. The chip stays in programming mode: power-cycle the board"
+    stays = "the chip is unchanged, and may be in programming mode: power-cycle the board"
     wanted = [f"standard output is closed or full; {stays}"]
     check_equal("a closed output", (status, b"-: cannot be written" in printed, own), (1, True, wanted))
 
@@ -1663,10 +1673,25 @@ def elf_files_with_faults():
     print(summary, flush=True)
 
 
-def mended(words, case, *_):
+def repeated(words, _, found):
+    """Follows a hint to run the same command again, with -D, or without the updates that it names."""
+    again = re.search(r"run the same command again( with -D)?(?:,? without (.*))?$", found.string)
+    texts = shlex.split(again[2] or "") if again else []
+    left = [value for word, value in zip(texts, texts[1:]) if word == "-U"] + ["-e"] * ("-e" in texts)
+    pairs = zip(words, [*words[1:], ""])
+    kept = [word for word, value in pairs if word not in left and (word != "-U" or value not in left)]
+    return [*kept, *["-D"] * bool(again and again[1])]
+
+
+def mended(words, case, found):
     """Follows a hint to check wires, power, speed or reset: that ends the board's fault."""
     case["board"] = {}
-    return words
+    return repeated(words, case, found)
+
+
+def on_this_device(leaves):
+    """Follows a hint for a bootloader by this change of the command, and one for a programmer by the same command."""
+    return lambda words, case, found: leaves(words, case) if "loads" in case else repeated(words, case, found)
 
 
 def changed(before, after):
@@ -1677,7 +1702,7 @@ def changed(before, after):
 # What a reader does after a hint: the words that he finds in it, and the next command with the files of its case. After
 # a hint without a next command the walk ends.
 FOLLOWED = [
-    (r"damaged or cut short: build or download it again", another_file),
+    (r"damaged, cut short or edited: build or download it again", another_file),
     (r"if it is a comment, else build or download the file again|it is not Intel HEX", another_file),
     (
         r"give the ELF file itself, as (\w+:w:)NAME.elf",
@@ -1689,11 +1714,11 @@ FOLLOWED = [
     ),
     (
         r": (leave out -e, and )?use -D(, and give one image .* no page)?\. If",
-        lambda words, case, _: "loads" in case and on_a_bootloader(words, case),
+        on_this_device(on_a_bootloader),
     ),
     (
-        r": leave out -e. If this is a programmer, it can't",
-        lambda words, case, _: "loads" in case and without(words, "-e"),
+        r": leave out -e\. If this is a programmer, ",
+        on_this_device(lambda words, _: without(words, "-e")),
     ),
     (
         r"^-c wiring is for a bootloader, which can't",
@@ -1701,12 +1726,16 @@ FOLLOWED = [
         if "loads" in case
         else without(without(words, "-c"), "wiring"),
     ),
+    (
+        r": use a programmer(, whose erase also clears the bootloader)?\. If this is (one|a programmer), ",
+        on_this_device(lambda *_: None),
+    ),
     (r"from 0 on without gaps", another_file),
     (
         r"lacks read 0, not 1: is -p right\? If it is, give (\S+), with a part file of your own \(--parts\)$",
         lambda words, _, found: [*valued(words, found[1]), "--parts", "mine.toml"],
     ),
-    (r"is -p right\?", lambda words, case, _: other_part(words, case["part"], "blink.hex")),
+    (r"are -p and the image right\?", lambda words, case, _: other_part(words, case["part"], "blink.hex")),
     (
         r"the right board\? .*; if that is so, -p (\w+)( without --parts)?, with",
         lambda words, case, found: other_part(
@@ -1738,7 +1767,7 @@ FOLLOWED = [
     (r"has 1 byte: give its value, as lfuse:w:0xNN:m", changed("^lfuse:.*", "lfuse:w:0xE2:m")),
     (r"without the package: -p (\w+)|give -p (\w+);", changed("^(m328p-pu|mega328p)$", r"\1\2")),
     (
-        r"-p takes the chip's name, not the board's: (m328p) for Uno|^-p '\?' lists the parts",
+        r"-p takes the chip's name, not the board's: mostly (m328p) for Uno|^-p '\?' lists the parts",
         changed("^(uno|nano|m9)$", "m328p"),
     ),
     (r"; without --parts \w+ is known;", lambda words, *_: without(words, "--parts", "mine.toml")),
@@ -1748,32 +1777,34 @@ FOLLOWED = [
         lambda words, _, found: valued(words, found[1]),
     ),
     (r"bits ([\d, ]+) stay 1. If the part has none of them, give (\S+)\. If it has any of them, (.*)", stays),
-    (r"only an erase \(-e\) removes (a|the) lock, and clears all of", lambda words, *_: [*words, "-e"]),
+    (r"only an erase \(-e\) removes a lock, and clears all of", lambda words, *_: [*words, "-e"]),
     (
-        r"^-U lock was given before: give it last(\. Only an erase \(-e\) removes the lock, and clears all of flash)?",
+        r"^-U lock was given before: give it last(\. Only an erase \(-e\) removes a lock, and clears all of flash)?",
         lambda words, _, found: [*lock_last(words), *["-e"] * bool(found[1])],
     ),
-    (r"give one value$|two images overlap \(give one of them\)", lambda words, *_: words[:-2]),
+    (r"give one value$|two images may overlap \(give one of them\)", lambda words, *_: words[:-2]),
     (
         r"For a programmer of STK500v2 leave out -c (\w+)\. ",
         lambda words, _, found: [word for word in words if word not in ("-c", found[1])],
     ),
     (r"^ended by SIG|^no valid reply; the chip is unchanged. Check|^the device sends data, but no valid reply", mended),
     (
-        r"^the programmer (finds no chip|can't reach the chip)|^no further valid reply|^the device is gone"
+        r"^a signature of 00 or FF|^the programmer can't reach the chip|^no further valid reply|^the device is gone"
         r"|^something else sends data",
         mended,
     ),
-    (r"only the last command got no reply. Power-cycle the board", mended),
+    (r"only the session's end failed. Power-cycle the board", mended),
     (r"^check the folder and free space|^standard output is closed", changed(":(/dev/full|-):h", ":read.txt:h")),
-    (r"run the same command again$", lambda words, *_: words),
+    (r"run the same command again( with -D)?(,? without .*)?$", repeated),
     (
-        r"holds something else than [^;]*$|: use a programmer(, whose erase also clears the bootloader)?$"
-        r"|: use a programmer\. If this is one, use another; the chip (is unchanged|may be erased or partly written)$"
-        r"|: power-cycle the board$|may be worn$|may be worn, or a lock|the wires or the clock are bad$",
+        r"holds something else than [^;]*$|: use a programmer$|: power-cycle the board$|may be worn$"
+        r"|may be worn, or a lock|or try another chip$",
         lambda *_: None,
     ),
-    (r"use another (one|programmer)$|which is not known here|is not supported: .* Use avrdude", lambda *_: None),
+    (
+        r"use another (one|programmer)$|^no part of classic.toml has the signature|is not supported: .* Use avrdude",
+        lambda *_: None,
+    ),
 ]
 
 # Runs avrstk-serial, and notes each row of its hints that is chosen: the function or table, the row's line or number,
@@ -1922,6 +1953,7 @@ def kind_of(name):
         "written": lambda: {"chip": OLD + b"\xfa\xff"},
         "locked": lambda: {"chip": OLD + b"\xfa\xfc"},
         "locked, lacks bits": lambda: {"chip": OLD + b"\xfa\xfc", **lacks},
+        "written, silent 19": lambda: {"chip": OLD + b"\xfa\xff", "board": silent(0x19)},
         "lacks bits": lambda: lacks,
         "loader": loads,
         "mega": lambda: loads(takes_lock=True),

@@ -335,7 +335,11 @@ def retried():
     check_equal("no number for a retry", (status, messages[-1]), (1, f"avrstk-serial: {why}"))
     with Doubles(["first", "second"], {"second": ["--lose", "PROGRAM_EEPROM"]}) as doubles:
         status, _, messages = run(["-p", "m328p", *doubles.ports(), *EACH, "--counter", "alone", "--from", "1"])
-    alone = [line for line in messages if line.endswith(": run the same command again for second alone (one -P)")]
+    alone = [
+        line
+        for line in messages
+        if line.endswith(": run the same command again for second alone (one -P, no {board}), with another number")
+    ]
     check_equal("a board that is to be run alone", (status, len(alone)), (1, 1))
 
 

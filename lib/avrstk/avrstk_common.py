@@ -232,7 +232,8 @@ def part_words(part: str | None, file: str | None) -> list[str]:
         part = next((name for name in (part, part.lower()) if name in BUILT_IN or name in known), part)
         if part not in BUILT_IN:
             if not known:
-                raise Fault(f"{part}: the part file classic.toml is not there (install.sh puts it under share/avrstk)")
+                missing = "the part file classic.toml is not there or empty"
+                raise Fault(f"{part}: {missing} (install.sh puts it under share/avrstk)")
             file = data_file("classic.toml")
     given = {"--parts": file, "-p": part}
     return [word for name, value in given.items() if value is not None for word in (name, value)]

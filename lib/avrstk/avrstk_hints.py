@@ -3,10 +3,11 @@
 from __future__ import annotations
 
 from avrstk_common import parts
-from avrstk_elf import AREAS
+from avrstk_elf import AREAS, SIGNATURE
 from avrstk_words import FORMATS, FUSES, MEMORIES, RECORD, UNOPENED, Update, Words, form_of, long_name, parts_of
 from avrstk_words import rows_of
 
+import itertools
 import os
 import re
 import shlex
@@ -19,7 +20,7 @@ CHANGING, SIGN_ON, ENTER, LEAVE = {0x12, 0x13, 0x15, 0x17, 0x19, 0x1D}, 0x01, 0x
 
 # what a programmer without a chip reads as its signature
 NO_SIGNATURES = {"00 00 00", "FF FF FF"}
-NO_CHIP = "the programmer finds no chip: check the wires and the power"
+NO_CHIP = "a signature of 00 or FF often means that no chip replies: check the wires and the power"
 NO_REACH = "the programmer can't reach the chip"
 SAME = "run the same command again"
 ONE_IMAGE = "give one image that begins at 0 and leaves out no page"
@@ -29,13 +30,9 @@ MAYBE_CHANGED = "the chip may be erased or partly written"
 TAKES = "flash (a bootloader, too), and EEPROM unless the fuse bit EESAVE is 0"
 OPEN_LOCK = "then -U lock:r:-:h prints a lock whose bit 1 is 0"
 HIDDEN = f"or the lock hides it ({OPEN_LOCK})"
-LOCKED = f"a lock protects it: only an erase (-e) removes the lock, and clears all of {TAKES}"
-ANOTHER = "If this is a programmer, it can't erase: use another one"
+REMOVES = f"only an erase (-e) removes a lock, and clears all of {TAKES}"
+LOCKED = f"a lock may protect it: {REMOVES}"
 LOADER = "a bootloader can't erase the chip"
-STAYS = f"everything reported above was done. The chip stays in programming mode: {POWER_CYCLE}"
-
-# hints by the beginnings of errors: a text, or a function of the command line and of what was found in the error
-Table = Dict[str, Union[str, Callable[[Words, Match[str]], str]]]
 
 
 @dataclass
@@ -61,33 +58,65 @@ class Outcome:
     is_held: bool = False
     # whether this is a session before the run, which only asks
     is_before: bool = False
+    # how many lines of avrstk reported an erase, or what an update did
+    steps: int = 0
+
+    def begun(self) -> int:
+        """Returns how many updates were begun after the erase, in their order; one more if all were done."""
+        is_compared = not {"-V", "-n"} & {*self.words.flags}
+        # (a write that is compared has two lines)
+        lines = [1 + (update.operation == "w" and is_compared) for update in self.words.updates]
+        return sum(end <= self.steps for end in itertools.accumulate([int(erases(self.words)), *lines]))
+
+    def done(self) -> list[Update]:
+        """Returns the updates that were done."""
+        return self.words.updates[: max(self.begun() - 1, 0)]
+
+    def is_done(self) -> bool:
+        """Whether all but the session's end was done."""
+        is_left = self.left_at_error or LEAVE in self.commands and not self.error
+        return not self.is_before and (is_left or 0 < len(self.words.updates) < self.begun())
 
 
-def state_of(run: Outcome, is_worth_again: bool = True) -> str:
-    """Describes the state of the chip after a run that stopped early. Advises to run it again if that is worth it."""
+# hints by the beginnings of errors: a text, or a function of the run and of what was found in the error
+Table = Dict[str, Union[str, Callable[[Outcome, Match[str]], str]]]
+
+
+def state_of(run: Outcome) -> str:
+    """Describes the state of the chip after a run that stopped early. If it may be changed, advises to run it again."""
     sent = run.earlier | run.commands
     if not sent:
         return f"nothing was sent: {UNCHANGED}"
-    if sent <= {SIGN_ON}:
-        return UNCHANGED
     if not CHANGING & sent:
         return f"{UNCHANGED}, and may be in programming mode: {POWER_CYCLE}" if run.is_held else UNCHANGED
-    state = MAYBE_CHANGED + ", and in programming mode" * run.is_held
-    return f"{state}: {again(run.words)}" if is_worth_again else state
+    return MAYBE_CHANGED + ", and in programming mode" * run.is_held + f": {again(run)}"
 
 
-def again(words: Words) -> str:
-    """Advises to run the same command again, and to save first what that may take and the first run left."""
-    files = overwritten(words)
-    read = {file: f"copy {file}, which the next run overwrites" for file in files if os.path.isfile(file)}
-    read.update({"-": "keep what standard output got, because the next run reads new bytes"} if "-" in files else {})
-    eeprom = "read EEPROM into a file (-U eeprom:r:FILE:i), because the next run may erase it"
-    return ", and then ".join([*read.values(), *[eeprom] * may_erase_kept(words), same(words)])
+def again(run: Outcome) -> str:
+    """Advises to run the same command again. It leaves out what was done, unless an erase clears that; then only reads
+    and comparisons of what was changed later. (A lock that was written may protect what was done before.)"""
+    words, updates, loses = run.words, run.words.updates, may_lose(run)
+    begun = [*enumerate(updates[: run.begun()])]
+    first = {update.memory: at for at, update in reversed(begun) if update.operation == "w"}
+    repeats = erases(words) and not loses
+    left = [one for at, one in enumerate(run.done()) if not repeats or at < first.get(one.memory, 0)]
+    base = updates if words.each is None or words.each.base is None else words.each.base
+    is_each = any(update not in base for update in left)
+    # (the same may be given once more, later)
+    later = {update.given for update in updates if update not in left}
+    given = [
+        (one.given in later) * "the first " + f"-U {shlex.quote(one.given)}" for one in left if one.file != "--each"
+    ]
+    given = ["-e"] * (loses and "-e" in words.flags) + given + ["--each with its options"] * is_each
+    options = ["with -D"] * loses + [f"without {' and '.join(given)}"] * bool(given)
+    number = ", with another number" * (bool(words.each_given) and not is_each)
+    why = "since another erase may clear EEPROM, " * loses
+    return f"{why}{same(words)} {', '.join(options)}".rstrip() + number
 
 
 def same(words: Words) -> str:
-    """Advises to run the same command again. With several boards it would give those that are done another number."""
-    return SAME + f" for {words.device} alone (one -P)" * (words.is_station and bool(words.each_given))
+    """Advises to run the same command again. With several boards it would change those that are done."""
+    return SAME + f" for {words.device} alone (one -P, no {{board}})" * words.is_station
 
 
 def overwritten(words: Words) -> list[str]:
@@ -100,44 +129,47 @@ def overwritten(words: Words) -> list[str]:
     ]
 
 
-def may_erase_kept(words: Words) -> bool:
-    """Whether a second run may erase EEPROM that the first one keeps: the command erases, and writes a high fuse that
-    doesn't surely keep EEPROM at an erase. (--restore writes all of EEPROM.)"""
+def may_erase_kept(words: Words, updates: list[Update]) -> bool:
+    """Whether a second run may erase EEPROM that the first one keeps: the command erases, and one of these updates
+    writes a high fuse that doesn't surely keep EEPROM at an erase. (--restore writes all of EEPROM.)"""
     bit = words.field("eesave_bit")
-    values = [update.value() for update in words.updates if update.writes("hfuse")]
+    values = [update.value() for update in updates if update.writes("hfuse")]
     keeps = all(value is not None and bit is not None and not value >> bit & 1 for value in values)
     return erases(words) and not keeps and words.restore is None
 
 
+def may_lose(run: Outcome) -> bool:
+    """Whether another erase may clear EEPROM that the run kept."""
+    return may_erase_kept(run.words, run.words.updates[: run.begun()])
+
+
 def hint(run: Outcome, number: int | None) -> str:
     """Returns what to do after a failed run, judged by its first error. `number` is the signal that ended it."""
-    error, words, state = run.error, run.words, state_of(run)
+    error, words, state, is_done = run.error, run.words, state_of(run), run.is_done()
     if number:
-        if LEAVE in run.commands and not error and not run.is_before and words.backup is None:
+        if is_done and words.backup is None:
             state = "everything was done" + f"; the chip may be in programming mode: {POWER_CYCLE}" * run.is_held
         return f"ended by {signal.Signals(number).name}: {state}"
     if CHANGING & run.earlier and not CHANGING & run.commands:
         return state
     if not run.was_opened:
         end = state if run.earlier else UNOPENED
-        why = matched(REFUSALS, error, words)
+        why = matched(REFUSALS, error, run)
         return f"{why}; {end}" if why else end
+    if is_done:
+        last = f"only the session's end failed. {POWER_CYCLE.capitalize()}"
+        return f"everything was done; {last}" if words.backup is None else f"{last}, and {same(words)}"
     speed, others = f"the speed (-b {words.baud})", f"{other_kinds(words)}. USBasp needs avrdude"
     # (Arduino as ISP and other programmers need no reset)
     needs_reset = words.is_bootloader or not words.is_version1
     resets = "that the board resets when the port opens (else press reset right after starting)" * needs_reset
     if run.is_noisy:
-        why = f"the device sends data, but no valid reply: its application is running, or {speed} is wrong"
+        why = f"the device sends data, but no valid reply: often its application is running, or {speed} is wrong"
         return f"{why}. Check {resets}. {others}" if resets else f"{why}. {others}"
-    if error == "no answer" and run.left_at_error and not run.is_before:
-        if words.backup is not None:
-            return f"only the last command got no reply. {POWER_CYCLE.capitalize()}, and {same(words)}"
-        return f"everything was done; only the last command got no reply. {POWER_CYCLE.capitalize()}"
     if error == "no answer" and run.commands <= {SIGN_ON, LEAVE}:
         checks = "; ".join([speed, "that no serial monitor has the port open", *[resets] * needs_reset])
-        return f"no valid reply; {UNCHANGED}. Check: {checks}. {others}"
-    fields = {"speed": speed, "state": state, "left": state_of(run, False), "noisy": noisy(words, error)}
-    return matched(REPLIED, error, words, **fields) or state
+        return f"no valid reply; {state}. Check: {checks}. {others}"
+    return matched(REPLIED, error, run, speed=speed, state=state, noisy=noisy(words, error)) or state
 
 
 def other_kinds(words: Words) -> str:
@@ -166,19 +198,19 @@ def loaders(words: Words) -> list[str]:
 def noisy(words: Words, error: str) -> str:
     """Returns why four replies to a command may have been of a corrupt frame."""
     if not words.is_version1:
-        return "the line is noisy (check the cable)"
+        return "the programmer reports damaged commands (check the cable)"
     # (then a reply wasn't as avrstk_version1 expects it)
-    causes = {"command 10": NO_REACH} if not words.is_bootloader else {}
-    causes.update({"command 14": "flash outside the image is not FF"} if erases(words) else {})
-    return f"{causes.get(error[:10], 'the device refused the command')}, or the line is noisy"
+    causes = {"command 10": f"{NO_REACH}, "} if not words.is_bootloader else {}
+    causes.update({"command 14": "flash outside the image is not FF, "} if erases(words) else {})
+    return f"{causes.get(error[:10], '')}the device refused the command, or the line is noisy"
 
 
-def matched(table: Table, error: str, words: Words, **fields: str) -> str:
+def matched(table: Table, error: str, run: Outcome, **fields: str) -> str:
     """Returns the hint of the first row whose error begins so; an empty text if there is none."""
     for begin, text in table.items():
         found = re.match(begin, error)
         if found:
-            return text.format(**fields) if isinstance(text, str) else text(words, found)
+            return text.format(**fields) if isinstance(text, str) else text(run, found)
     return ""
 
 
@@ -197,25 +229,27 @@ def no_part(words: Words, _: Match[str] | None) -> str:
     if f"at{package}" in parts():
         return f"give -p at{package}"
     if re.match(r"(uno|nano|pro|mega(2560)?|leonardo|micro)(?!\d|.*(every|wifi|r4|esp|rp2040))", name):
-        boards = "m328p for Uno, Nano and Pro Mini, m2560 for Mega 2560, m32u4 for Leonardo, Micro and Pro Micro"
+        boards = "mostly m328p for Uno, Nano and Pro Mini, m2560 for Mega 2560, m32u4 for Leonardo, Micro and Pro Micro"
         return f"-p takes the chip's name, not the board's: {boards}"
     auto = "" if words.part or words.has_port else ", and -p auto takes whichever is there"
     return f"-p '?' lists the parts{auto}; others with ISP need a part file (--parts)"
 
 
-def unread(words: Words, found: Match[str]) -> str:
+def unread(run: Outcome, found: Match[str]) -> str:
     """Returns what to do with an image that avrstk refuses. (No other format makes a text firmware.)"""
-    name, line, fault, address = found.groups()
-    named = (update for update in words.updates if name in (update.file, update.memory, *update.text.split(":")))
-    update = next(named, None)
+    words, (name, line, fault, address) = run.words, found.groups()
+    # (a fault of values has the memory's name)
+    images = [update for update in words.updates if update.is_image and name in (update.handed, update.file)]
+    values = [update for update in words.updates if update.format == "m" and name == update.memory]
+    update = next(iter(images + values), None)
     if update and address:
         return too_far(words, update, int(address, 16))
-    held, is_at_begin = update.held(65_536) if update else b"", fault == "no record mark" and line == "1"
-    if not update or not is_at_begin and held[:4] != b"\x7fELF":
-        return "the file is damaged or cut short: build or download it again"
-    other = form_of(held) or update.format
-    if other and other != update.format and (other != "e" or update.memory in AREAS):
-        return f"it has {FORMATS.get(other)}: give {update.given_as(other)}"
+    held = update.held(65_536) if update else b""
+    form, is_at_begin = form_of(held), line == "1" and fault in ("no record mark", "line too long")
+    if not update or form and update.format in (None, "a", form) or not is_at_begin and form != "e":
+        return "the file is damaged, cut short or edited: build or download it again"
+    if form and (form != "e" or update.memory in AREAS):
+        return f"it has {FORMATS[form]}: give {update.given_as(form)}"
     if re.search(rb"^" + RECORD.pattern, held, re.M):
         cure = "delete that if it is a comment, else build or download the file again"
         return f"something is above its first record: {cure}"
@@ -225,22 +259,22 @@ def unread(words: Words, found: Match[str]) -> str:
 def too_far(words: Words, update: Update, address: int) -> str:
     """Returns the hint for an image with a byte at an address that its memory doesn't have."""
     own = f"{update.memory}:{update.operation}"
-    if address >= 0x810000:
+    if update.memory in ("signature", "calibration"):
+        return f"{update.memory} has {'3 bytes' if update.memory == 'signature' else '1 byte'}"
+    if 0x810000 <= address < SIGNATURE + 3:
         return f"it has addresses of EEPROM or fuses, as ELF has: give the ELF file itself, as {own}:NAME.elf"
     if update.memory in FUSES:
         return f"{update.memory} has 1 byte: give its value, as {own}:0xNN:m"
-    if update.memory in ("signature", "calibration"):
-        return f"{update.memory} has {'3 bytes' if update.memory == 'signature' else '1 byte'}"
     size = words.field(f"{update.memory}_size")
     room = f"has {size:,} bytes" if size else "is smaller"
     goes_on = f"{update.file} goes past it: " if update.elf else ""
-    return f"{update.memory} of {words.part} {room}; {goes_on}is -p right?"
+    return f"{update.memory} of {words.part} {room}; {goes_on}are -p and the image right?"
 
 
-def unopened(words: Words, found: Match[str]) -> str:
+def unopened(run: Outcome, found: Match[str]) -> str:
     """Returns why a file can't be opened."""
     file, front = found[1], found[1].rpartition(":")[0]
-    own = next((update for update in words.updates if update.file == file), None)
+    own = next((update for update in run.words.updates if update.file == file), None)
     if own:
         update = f"{own.memory}:{own.operation}"
         # (letters alone may be a file's name, but not for a fuse)
@@ -279,59 +313,59 @@ def as_value(text: str) -> str:
     return f"0x{text}" if re.fullmatch("[0-9A-Fa-f]{2}", text) and not text.isdigit() else "0xNN"
 
 
-def another_part(words: Words, found: Match[str]) -> str:
+def another_part(run: Outcome, found: Match[str]) -> str:
     """Returns the hint after a wrong signature."""
-    names = parts_of(found[1])
+    words, names = run.words, parts_of(found[1])
     if found[1] in NO_SIGNATURES:
         return f"{NO_CHIP}; nothing was written"
     if not names:
-        return f"the chip is another part ({found[1]}), which is not known here; nothing was written"
-    which = f"is {words.device} the right board? Its chip is {' or '.join(names[:4])} ({found[1]})"
+        return (
+            f"no part of classic.toml has the signature {found[1]}: check the board and the wires; nothing was written"
+        )
+    which = f"is {words.device} the right board? It has the signature of {' or '.join(names)} ({found[1]})"
     # (the part file of one's own may not have it, or may have it with another signature)
     alone = "" if words.parts_file is None else " without --parts"
     cure = f"if that is so, -p {names[0]}{alone}, with firmware and fuses that are made for it"
     return f"{which}; {cure}; nothing was written"
 
 
-def differs(words: Words, found: Match[str]) -> str:
+def differs(run: Outcome, found: Match[str]) -> str:
     """Returns the hint after a failed comparison."""
-    memory, address, wanted, held = found[1], *(int(number, 16) for number in found.groups()[1:])
-    own = [update for update in words.updates if update.memory == memory]
-    compared = ", ".join(update.file for update in own if update.operation == "v")
-    writes = [update for update in own if update.operation == "w"]
+    words, memory = run.words, found[1]
+    address, wanted, held = (int(number, 16) for number in found.groups()[1:])
+    # (the updates before were done)
+    update = next(one for one in [*words.updates[len(run.done()) :], *words.updates] if one.memory == memory)
     bits = words.bits().get(memory) if words.restore is None else None
     if bits is not None and not (wanted ^ held) & bits:
+        own = f"{memory}:{update.operation}:0x{held:02X}:m"
         if not ~(wanted | bits) & 0xFF:
-            same = f"{memory}:{'w' if writes else 'v'}:0x{held:02X}:m"
             unmasked = ", with a part file of your own (--parts)" * (words.parts_file is None)
-            return f"bits that this part lacks read 0, not 1: is -p right? If it is, give {same}{unmasked}"
-        return f"only bits that the part doesn't have differ: give {memory}:{'w' if writes else 'v'}:0x{held:02X}:m"
-    if not writes:
-        is_hidden = memory in ("flash", "eeprom") and not words.is_bootloader and not erases(words)
-        return f"{memory} holds something else than {compared}" + f", {HIDDEN}" * is_hidden
-    if memory in FUSES:
-        known = [(update.operation, update.value()) for update in own]
-        mask = 0xFF if bits is None else bits
-        # (what is written is compared before a later comparison)
-        first = next((act for act, value in known if value is not None and not (value ^ wanted) & mask), "w")
-        if first == "v":
-            return f"{memory} holds something else than 0x{wanted:02X}"
-        return unlike_fuse(words, memory, wanted, held)
-    if is_after_lock(words, memory):
+            return f"bits that this part lacks read 0, not 1: is -p right? If it is, give {own}{unmasked}"
+        return f"only bits that the part doesn't have differ: give {own}"
+    if update.operation == "v":
+        is_hidden = memory in ("flash", "eeprom") and not words.is_bootloader
+        return f"{memory} holds something else than {update.file}" + f", {HIDDEN}" * is_hidden
+    return unlike_fuse(run, memory, wanted, held) if memory in FUSES else unlike(run, memory, address, wanted, held)
+
+
+def unlike(run: Outcome, memory: str, address: int, wanted: int, held: int) -> str:
+    """Returns the hint if flash or EEPROM holds another byte than the one that was written."""
+    words = run.words
+    if may_lock(run.done()):
         return lock_last(words)
-    is_erased = erases(words)
-    if memory == "flash" and not is_erased and not held & ~wanted:
-        return remains(words)
-    always = f"{again(words)}; if it always fails at the same address, "
-    if compared:
-        return f"{always}{memory} holds something else than {compared}"
-    worn = "a page may be worn" if is_erased else f"a page may be worn, or {LOCKED}"
+    keeps = not erases(words) and not words.is_bootloader
+    if memory == "flash" and keeps and not held & ~wanted:
+        return remains(run)
+    writes = [update for update in words.updates[: run.begun()] if update.writes_flash()]
     if memory == "flash" and sum(update.may_have(address) for update in writes) > 1:
-        return f"{always}two images overlap (give one of them), or {worn}"
-    # (a restore, and version 1, need a programmer)
-    is_far = memory == "eeprom" and address > 0xFF and words.restore is None and not words.is_version1
-    far = "a Mega's bootloader reads other addresses above 255 (use a programmer), " if is_far else ""
-    return f"{always}{far}{worn}"
+        cause = "two images may overlap (give one of them), or "
+    else:
+        # (a restore, and version 1, need a programmer)
+        is_far = memory == "eeprom" and address > 0xFF and words.restore is None and not words.is_version1
+        cause = "a Mega's bootloader reads other addresses above 255 (use a programmer), " * is_far
+    worn = "a page may be worn" + f", or {LOCKED}" * keeps
+    always = f"{again(run)}; if it always fails at the same address, " * (not may_lose(run))
+    return f"{always}{cause}{worn}"
 
 
 def erases(words: Words) -> bool:
@@ -340,24 +374,25 @@ def erases(words: Words) -> bool:
     return "-n" not in words.flags and ("-e" in words.flags or writes_flash and "-D" not in words.flags)
 
 
-def is_after_lock(words: Words, memory: str) -> bool:
-    """Whether a memory is written after a lock that may protect it."""
-    writes = [update for update in words.updates if update.operation == "w"]
-    first = next(at for at, update in enumerate(writes) if update.memory == memory)
-    values = [update.value() for update in writes[:first] if update.memory == "lock"]
+def may_lock(updates: list[Update]) -> bool:
+    """Whether these updates write a lock that may protect other memories."""
+    values = [update.value() for update in updates if update.writes("lock")]
     return any(value is None or value & 3 != 3 for value in values)
 
 
 def lock_last(words: Words) -> str:
     """Returns the hint after a memory that the lock protected, since it was written first."""
-    removes = f". Only an erase (-e) removes the lock, and clears all of {TAKES}"
-    return f"-U lock was given before: give it last{removes * (not erases(words))}"
+    removes = f". {REMOVES[0].upper()}{REMOVES[1:]}" * (not erases(words))
+    return f"-U lock was given before: give it last{removes}"
 
 
-def unlike_fuse(words: Words, memory: str, wanted: int, held: int) -> str:
+def unlike_fuse(run: Outcome, memory: str, wanted: int, held: int) -> str:
     """Returns the hint if a fuse or the lock holds another value than the one that was written."""
-    cause = "the chip or the programmer is damaged, or the wires or the clock are bad" if erases(words) else LOCKED
-    if is_after_lock(words, memory):
+    words, is_after = run.words, memory != "lock" and may_lock(run.done())
+    if memory == "lock" and wanted & ~held and any(update.writes("lock") for update in run.done()):
+        return "the lock is given twice: give one value"
+    cause = "check the wires, the power and the clock, or try another chip" if erases(words) else LOCKED
+    if is_after:
         cause = lock_last(words)
     if memory == "lock" and words.restore is None and not words.is_version1:
         cause = "a bootloader can't write the lock: use a programmer"
@@ -368,36 +403,31 @@ def unlike_fuse(words: Words, memory: str, wanted: int, held: int) -> str:
         return f"bits {stay} stay 1. If the part has none of them, give {update}. If it has any of them, {cause}"
     if memory == "hfuse" and wanted & ~held == 0x20 and not held & ~wanted:
         return f"bit 5 (SPIEN) stays 0 at most parts: give hfuse:w:0x{held:02X}:m"
-    locks = [update for update in words.updates if update.operation == "w" and update.memory == "lock"]
-    if memory == "lock" and len(locks) > 1:
-        return "the lock is given twice: give one value"
     if memory == "lock" and wanted & ~held and not erases(words):
-        return f"only an erase (-e) removes a lock, and clears all of {TAKES}"
-    if is_after_lock(words, memory):
-        return lock_last(words)
-    return f"{again(words)}; if it fails again, {cause}"
+        return REMOVES
+    is_last = is_after or memory != "lock" and may_lose(run)
+    return cause if is_last else f"{again(run)}; if it fails again, {cause}"
 
 
-def remains(words: Words) -> str:
-    """Returns the hint after flash that kept zeros of before, since nothing erased it."""
-    # (a bootloader of version 1 erases each page that it writes)
-    is_erased = words.is_version1 or words.is_whole()
-    mega = f"a Mega's bootloader {ONE_IMAGE}, since it erases pages from 0 on"
-    bootloader = "a bootloader a page may be worn" if is_erased else mega
+def remains(run: Outcome) -> str:
+    """Returns the hint after flash that may have kept zeros of before, since nothing erased it."""
     programmer = f"With a programmer leave out -D: the erase clears all of {TAKES}"
-    return f"old bytes remain without an erase. {programmer}; with {bootloader}"
+    cure = again(run) if run.words.is_whole() else f"{ONE_IMAGE}, since a Mega's erases pages from 0 on"
+    # (of version 1 only programmers come here)
+    bootloader = "" if run.words.is_version1 else f"; with a bootloader {cure}"
+    return f"flash was not erased, so old bytes may remain. {programmer}{bootloader}"
 
 
-def unerased(words: Words, _: Match[str]) -> str:
+def unerased(run: Outcome, _: Match[str]) -> str:
     """Returns what to do if an erase is refused."""
-    given = {update.memory for update in words.updates if update.operation == "w"}
+    words, given = run.words, {update.memory for update in run.words.updates if update.operation == "w"}
+    cure = ": leave out -e"
     if not given or given & set(FUSES):
-        return f"{LOADER}, or write fuses and the lock: use a programmer, whose erase also clears the bootloader"
-    if "flash" not in given:
-        return f"{LOADER}: leave out -e. {ANOTHER}"
-    without = "leave out -e, and " if "-e" in words.flags else ""
-    image = "" if words.is_whole() else f", and {ONE_IMAGE}"
-    return f"{LOADER}: {without}use -D{image}. {ANOTHER}"
+        cure = ", or write fuses and the lock: use a programmer, whose erase also clears the bootloader"
+    elif "flash" in given:
+        without = "leave out -e, and " if "-e" in words.flags else ""
+        cure = f": {without}use -D" + ("" if words.is_whole() else f", and {ONE_IMAGE}")
+    return f"{LOADER}{cure}. If this is a programmer, {state_of(run)}; if it refuses again, use another one"
 
 
 # hints after errors of the Nth -U
@@ -409,9 +439,9 @@ KINDS = {
 }
 
 
-def unparsed(words: Words, found: Match[str]) -> str:
+def unparsed(run: Outcome, found: Match[str]) -> str:
     """Returns the hint for a -U that avrstk can't parse."""
-    return f"-U {words.given[int(found[1]) - 1]}: {KINDS[found[2]]}"
+    return f"-U {run.words.given[int(found[1]) - 1]}: {KINDS[found[2]]}"
 
 
 # hints after errors before the device was opened, by the beginning of the error
@@ -419,7 +449,7 @@ REFUSALS: Table = {
     rf"update (\d+): ({'|'.join(KINDS)})$": unparsed,
     ".*: not a number$": "a value is written as 0xE2, 0b11100010, 0342 or 226",
     "(.*): cannot be opened$": unopened,
-    "no part ": no_part,
+    "no part ": lambda run, found: no_part(run.words, found),
     r"(.*?): (?:line (\d+): )?(bad |line too long|no record mark|address (\w{8}) out of range)": unread,
 }
 
@@ -427,16 +457,16 @@ REFUSALS: Table = {
 REPLIED: Table = {
     r"(\w+): address (\w+): (\w+) expected, (\w+) found": differs,
     r"signature is (\w\w \w\w \w\w)": another_part,
-    "command 12 ": unerased,
     r"command \w\w refused with status C1": "{noisy}: {state}; if it refuses again, use another programmer",
-    "command 10 ": f"{NO_REACH}: check wires, power, clock and reset pin; {UNCHANGED}",
+    "command 12 ": unerased,
+    r"command 10 .*(80|81|C0)$": f"{NO_REACH}: check wires, power, clock and reset pin; {UNCHANGED}",
     "command (17|19|1C) ": "a bootloader may refuse to write fuses and the lock, and to read the calibration: use a "
-    "programmer. If this is one, use another; {left}",
+    "programmer. If this is one, {state}; if it refuses again, use another one",
     "no answer$": "no further valid reply: check the cable and the power; {state}",
     "no answer in|.*bad answer$": "something else sends data (the board's application), {speed} is wrong, or the "
     "programmer doesn't keep to STK500v2; {state}",
     "link ": "the device is gone: check the cable; {state}",
-    "command ": "the programmer refused the command: {state}; if it refuses again, use another one",
-    "-: cannot be (created|written)$": f"standard output is closed or full; {STAYS}",
-    ".*: cannot be (created|written)$": f"check the folder and free space; {STAYS}",
+    "command ": "the device refused the command: {state}; if it refuses again, use another programmer",
+    "-: cannot be (created|written)$": "standard output is closed or full; {state}",
+    ".*: cannot be (created|written)$": "check the folder and free space; {state}",
 }

@@ -83,8 +83,8 @@ class Report:
             changes |= bool(is_open) and any(run.may_change for run in self.runs)
         if not changes:
             return "unchanged"
-        # (if only the last command got no reply, or what came after the run failed, all was done)
-        is_done = any(run.status == 0 or run.left_at_error and run.error == "no answer" for run in self.runs[-1:])
+        # (over a device it is known whether only the session's end failed, or what came after the run)
+        is_done = any(run.status == 0 or run.was_opened and run.is_done() for run in self.runs[-1:])
         return "done" if is_done else "erased or partly written"
 
     def count(self, words: Words, update: Update, what: str) -> int | None:

@@ -473,7 +473,7 @@ class Rows:
             self.changes()
         else:
             hidden = " and ".join(self.obstacles())
-            needs = "this needs --try-rows=all --yes, and a chip to spare"
+            needs = "this needs --try-rows=all --yes, and a chip that you can lose"
             self.leave_out_all(f"{hidden} can't be read" if hidden else needs)
         self.programmer.ask(LEAVE)
 

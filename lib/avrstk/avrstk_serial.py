@@ -10,13 +10,14 @@ from avrstk_each import Each
 from avrstk_faults import xor
 from avrstk_report import Report, fault_of, write
 from avrstk_rows import try_rows
-from avrstk_hints import ENTER, LEAVE, NO_CHIP, NO_SIGNATURES, ONE_IMAGE, OPEN_LOCK
+from avrstk_hints import erases, ENTER, LEAVE, NO_CHIP, NO_SIGNATURES, ONE_IMAGE, OPEN_LOCK
 from avrstk_hints import (
     POWER_CYCLE,
     SIGN_ON,
     Outcome,
     hint,
     may_erase_kept,
+    may_lock,
     overwritten,
     same,
     state_of,
@@ -150,7 +151,10 @@ def unrepaired(words: Words) -> str | None:
     lost = overwritten(words)
     if lost:
         return f"a second one overwrites {lost[0]}, and may read what this one wrote"
-    return "a second one may erase EEPROM that this one keeps" if may_erase_kept(words) else None
+    if may_erase_kept(words, words.updates):
+        return "a second one may erase EEPROM that this one keeps"
+    is_used = any(update.memory in ("flash", "eeprom") for update in words.updates)
+    return "a second one may find it locked" if may_lock(words.updates) and is_used and not erases(words) else None
 
 
 def overlaps(pages: list[tuple[int, int]]) -> bool:
@@ -443,6 +447,7 @@ class Run:
         # (several updates may have one file: only the name that avrstk got tells which one is faulty)
         text = os.fsdecode(shown if line.endswith(b": cannot be opened") else line).partition("avrstk: ")[2]
         self.outcome.may_change |= text.startswith("device signature = ") and self.words.changes()
+        self.outcome.steps += bool(re.match(r"chip erased$|\w+: \d+ bytes (not )?\w+$", text))
         if text.startswith("error: ") and not self.outcome.error:
             self.outcome.left_at_error, self.outcome.error = LEAVE in self.outcome.commands, text[7:]
 
@@ -489,7 +494,7 @@ class Run:
                 watched[2] = WRITE
             found = wait(self.ways, watched)
             # (avrstk prints an error line before it sends LEAVE, so its lines are read before its frames)
-            if came in found or self.tool.stderr in found and self.tool.receive() is False:
+            if came in found or self.tool.receive() is False:
                 return
             messages.send()
             try:

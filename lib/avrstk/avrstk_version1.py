@@ -144,8 +144,12 @@ class Version1:
             if not self.is_wanted():
                 break
             speed = speeds[attempt % len(speeds)]
-            if attempt and len(speeds) > 1:
-                self.line.set_speed(speed)
+            try:
+                if attempt and len(speeds) > 1:
+                    self.line.set_speed(speed)
+            except OSError:
+                # (the device doesn't have this speed)
+                continue
             if attempt:
                 self.interrupt()
             self.line.receive(1_000, 0.05)

@@ -168,9 +168,8 @@ class Words:
 
     def options(self, port: str) -> list[str]:
         updates = [word for update in self.updates for word in ("-U", update.text)]
-        # (a report, and the table of several boards, need the lines that -q leaves out)
-        needs_lines = self.is_station or "--json" in self.last
-        flags = [flag for flag in self.flags if flag != "-q" or not needs_lines]
+        # (a hint, a report, and the table of several boards need the lines that -q leaves out)
+        flags = [flag for flag in self.flags if flag != "-q"]
         return ["-P", port, "-c", "stk500v2", *part_words(self.part, self.parts_file), *flags, *updates]
 
     def is_wanted(self, line: bytes) -> bool:
