@@ -90,7 +90,7 @@ unfolding answer exchange attempt attempts_or_fault closing
 no_end_unheard after ran = cc (
     ap (λ during. (played closing 6 (heard during ++ [])).outcome) ran.grows
     ∙ ap (λ (run : Played ⊥ (Result ⊤ HostFault)). run.outcome) (ran.plays.plays [])
-)
+    )
 
 -- nor a failure without one,
 pub no_failure_of_a_sound_link : (after : Progress) → EndsCall false closing sixth fresh fresh (Err RecvFailed) after → ⊥
