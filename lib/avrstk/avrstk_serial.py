@@ -10,10 +10,11 @@ from avrstk_each import Each
 from avrstk_faults import xor
 from avrstk_report import Report, fault_of, write
 from avrstk_rows import try_rows
-from avrstk_hints import ENTER, LEAVE, NO_CHIP, NO_SIGNATURES, ONE_IMAGE, OPEN_LOCK
+from avrstk_hints import CHANGING, ENTER, LEAVE, MAYBE_CHANGED, NO_CHIP, NO_SIGNATURES, ONE_IMAGE, OPEN_LOCK
 from avrstk_hints import (
     POWER_CYCLE,
     SIGN_ON,
+    UNCHANGED,
     Outcome,
     hint,
     may_erase_kept,
@@ -797,7 +798,7 @@ def ran(words: Words, put: Callable[[bytes], None] = messages.put, earlier: froz
     while True:
         words.tries += 1
         if words.each:
-            give(words, words.each, Outcome(words, earlier, is_held=outcome.is_held))
+            give(words, words.each, earlier, outcome.is_held)
         outcome = Outcome(words, earlier, is_held=outcome.is_held)
         run = Run(words, outcome, put)
         words.report.runs.append(outcome)
@@ -818,7 +819,7 @@ def ran(words: Words, put: Callable[[bytes], None] = messages.put, earlier: froz
         wait_for(words.device)
 
 
-def give(words: Words, each: Each, before: Outcome) -> None:
+def give(words: Words, each: Each, earlier: frozenset[int], is_held: bool) -> None:
     """Takes the number of a run. If that fails after a first run or a signal, the error describes the chip, too."""
     each.end = each.end if words.tries == 1 else "the command is not run again"
     try:
@@ -826,8 +827,8 @@ def give(words: Words, each: Each, before: Outcome) -> None:
     except (Fault, OSError) as fault:
         if words.tries == 1 and not ended_by():
             raise
-        # (without what it advises)
-        raise Fault(f"{text_of(fault)}; {state_of(before).partition(': ')[0]}")
+        state = MAYBE_CHANGED if CHANGING & earlier else UNCHANGED
+        raise Fault(f"{text_of(fault)}; {state}{', and may be in programming mode' * is_held}")
 
 
 def wait_for(device: str | None) -> None:
