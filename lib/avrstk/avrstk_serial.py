@@ -675,13 +675,15 @@ def judge_bootloader(words: Words) -> None:
     for update in words.updates if words.is_version1 else []:
         if update.memory not in ("flash", "signature"):
             why = f"{is_for}, and only for its flash and signature: use a programmer"
-            raise Fault(f"{option_of(update)}: {why}; {UNOPENED}")
+            raise Fault(f"{options_of(words, update)}: {why}; {UNOPENED}")
     judge_pieces(words, UNOPENED)
 
 
-def option_of(update: Update) -> str:
-    """Returns the option of an update, which may be an image that --each makes."""
-    return "--each" if update.file == "--each" else f"-U {update.given}"
+def options_of(words: Words, update: Update) -> str:
+    """Returns the options of an update: --each makes an image of its own, or changes one."""
+    base = words.each.base if words.each else None
+    changed = " with --each" * (base is not None and update not in base)
+    return "--each" if update.file == "--each" else f"-U {update.given}{changed}"
 
 
 def judge_pieces(words: Words, end: str) -> None:
@@ -762,7 +764,7 @@ def is_far(words: Words, update: Update) -> bool:
 def why_far(words: Words) -> str | None:
     """Returns why a bootloader can't read EEPROM as the command does; None if it can."""
     far = next((update for update in words.updates if is_far(words, update)), None)
-    return f"{option_of(far)}: {FAR}: use a programmer" if far else None
+    return f"{options_of(words, far)}: {FAR}: use a programmer" if far else None
 
 
 def risk_of_loader(words: Words) -> str | None:
