@@ -10,10 +10,12 @@ from avrstk_each import Each
 from avrstk_faults import xor
 from avrstk_report import Report, fault_of, write
 from avrstk_rows import try_rows
-from avrstk_hints import erases, ENTER, LEAVE, NO_CHIP, NO_SIGNATURES, ONE_IMAGE, OPEN_LOCK
+from avrstk_hints import CHANGING, ENTER, LEAVE, MAYBE_CHANGED, NO_CHIP, NO_SIGNATURES, ONE_IMAGE, OPEN_LOCK
+from avrstk_hints import erases
 from avrstk_hints import (
     POWER_CYCLE,
     SIGN_ON,
+    UNCHANGED,
     Outcome,
     hint,
     may_erase_kept,
@@ -697,13 +699,15 @@ def judge_bootloader(words: Words) -> None:
     for update in words.updates if words.is_version1 else []:
         if update.memory not in ("flash", "signature"):
             why = f"{is_for}, and only for its flash and signature: use a programmer"
-            raise Fault(f"{option_of(update)}: {why}; {UNOPENED}")
+            raise Fault(f"{options_of(words, update)}: {why}; {UNOPENED}")
     judge_pieces(words, UNOPENED)
 
 
-def option_of(update: Update) -> str:
-    """Returns the option of an update, which may be an image that --each makes."""
-    return "--each" if update.file == "--each" else f"-U {update.given}"
+def options_of(words: Words, update: Update) -> str:
+    """Returns the options of an update: --each makes an image of its own, or changes one."""
+    base = words.each.base if words.each else None
+    changed = " with --each" * (base is not None and update not in base)
+    return "--each" if update.file == "--each" else f"-U {update.given}{changed}"
 
 
 def judge_pieces(words: Words, end: str) -> None:
@@ -784,7 +788,7 @@ def is_far(words: Words, update: Update) -> bool:
 def why_far(words: Words) -> str | None:
     """Returns why a bootloader can't read EEPROM as the command does; None if it can."""
     far = next((update for update in words.updates if is_far(words, update)), None)
-    return f"{option_of(far)}: {FAR}: use a programmer" if far else None
+    return f"{options_of(words, far)}: {FAR}: use a programmer" if far else None
 
 
 def risk_of_loader(words: Words) -> str | None:
@@ -821,7 +825,7 @@ def ran(words: Words, put: Callable[[bytes], None] = messages.put, earlier: froz
         words.tries += 1
         words.report.stage = "file"
         if words.each:
-            give(words, words.each, Outcome(words, earlier, is_held=outcome.is_held))
+            give(words, words.each, earlier, outcome.is_held)
         outcome = Outcome(words, earlier, is_held=outcome.is_held)
         words.report.stage = "device"
         run = Run(words, outcome, put)
@@ -845,7 +849,7 @@ def ran(words: Words, put: Callable[[bytes], None] = messages.put, earlier: froz
         wait_for(words.device)
 
 
-def give(words: Words, each: Each, before: Outcome) -> None:
+def give(words: Words, each: Each, earlier: frozenset[int], is_held: bool) -> None:
     """Takes the number of a run. If that fails after a first run or a signal, the error describes the chip, too."""
     each.end = each.end if words.tries == 1 else "the command is not run again"
     try:
@@ -853,8 +857,8 @@ def give(words: Words, each: Each, before: Outcome) -> None:
     except (Fault, OSError) as fault:
         if words.tries == 1 and not ended_by():
             raise
-        # (without what it advises)
-        raise Fault(f"{text_of(fault)}; {state_of(before).partition(': ')[0]}")
+        state = MAYBE_CHANGED if CHANGING & earlier else UNCHANGED
+        raise Fault(f"{text_of(fault)}; {state}{', and may be in programming mode' * is_held}")
 
 
 def wait_for(device: str | None) -> None:
