@@ -400,7 +400,7 @@ class Rows:
         self.enter()
         changed, unread = self.difference(self.chip), found.count(None)
         fault, self.chip = fault or changed, self.whole() if changed else self.chip
-        seen = f"before ENTER {unread} of {len(found)} readings had no good reply, the others are true"
+        seen = f"before ENTER {unread} of {len(found)} readings had no good reply, and none was wrong"
         self.row("restart", fault, seen)
 
     def erase(self) -> bool:
