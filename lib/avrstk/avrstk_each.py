@@ -124,7 +124,7 @@ class Counter:
 
     def replace(self, text: bytes) -> None:
         """Replaces the file, and syncs it and its folder."""
-        spare = f"{self.file}.new"
+        spare = f"{self.file}.avrstk-new"
         file = os.open(spare, os.O_WRONLY | os.O_CREAT | os.O_TRUNC | os.O_CLOEXEC | os.O_NOFOLLOW, 0o666)
         try:
             if os.path.exists(self.file):
@@ -274,8 +274,8 @@ def joined(update: Update, content: bytes | None, pieces: list[Run], end: str) -
     if update.is_image and content is None:
         raise Fault(f"{update.file}: cannot be opened: {end}")
     if not update.is_image or content is None:
-        why = f"--each needs a file in place of values, or no -U that writes {update.memory}"
-        raise Fault(f"-U {update.given}: {why}: {end}")
+        # (values are given, or --restore has them for flash that is FF)
+        raise Fault(f"{update.given}: --each goes into the image of a file, not into values: {end}")
     one, whole = copy.copy(update), bytes(content)
     begins = RECORD.match(whole[:1024])
     detected = ("i" if b":" in begins[0] else "s") if begins else "r"
