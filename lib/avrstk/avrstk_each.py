@@ -4,7 +4,7 @@ given twice: the counter's file has the next one, and is on the disk before a nu
 from __future__ import annotations
 
 from avrstk_common import Fault, ended_by
-from avrstk_elf import Run, hex_rows
+from avrstk_elf import AREAS, Run, hex_rows
 from avrstk_words import RECORD, UNOPENED, Update, Words
 
 import copy
@@ -34,6 +34,8 @@ class Spec:
             raise Fault(f"--each {given}: give flash@ADDRESS=TEXT or eeprom@ADDRESS=TEXT, such as eeprom@0={{n:06}}")
         self.given, self.memory, self.text = given, found[1], found[3]
         self.address = int(found[2], 16 if found[2][:2].lower() == "0x" else 10)
+        if self.address >= AREAS["flash"][1]:
+            raise Fault(f"--each {given}: no memory has this address")
         fields = {field[1] for field in FIELD.finditer(self.text)}
         if re.search("[{}]", FIELD.sub("", self.text)):
             raise Fault(f"--each {given}: fields are like {{n}}, {{n:06}}, {{n:04X}}, or {{COLUMN}} of --rows")
