@@ -513,6 +513,23 @@ def numbers_without_room():
         check_equal(f"{words}: the report", runs, [(0, "", "done"), (1, "device", "unchanged")])
 
 
+def with_a_restore():
+    """A restore takes a text for EEPROM. It has values for flash that is FF, and takes no text there. A file beside the
+    counter that is the user's stays."""
+    board = ["-q", "-p", "m328p", "-P", "emu:chip.bin"]
+    check_equal("a backup", run([*board, "--backup", "kept"])[0], 0)
+    room.put("counter.new", b"mine")
+    restore = [*board, "--restore", "kept", "--counter", "counter", "--from", "7", "--each"]
+    end = "nothing was sent, and the device was not opened"
+    line = f"avrstk-serial: flash:w:0xFF:m: --each goes into the image of a file, not into values: {end}"
+    check_equal("flash", run([*restore, "flash@0={n}"]), (1, "", [line]))
+    check_equal(
+        "EEPROM", (run([*restore, "eeprom@0={n}"])[0], room.read("chip.bin")[EEPROM : EEPROM + 2]), (0, b"7\xff")
+    )
+    check_equal("the files", (room.read("counter"), room.read("counter.new")), (b"8\n", b"mine"))
+    shutil.rmtree(room.folder / "kept")
+
+
 def busy(words, count, what=b"chip erased"):
     """Starts the script, and returns it once so many boards have printed this."""
     file = (room.folder / "messages").open("w+b")
@@ -588,7 +605,7 @@ def ordinary_user():
 
 CASES = named(
     *(twenty_doubles, refused, into_images, numbers_given_once, one_command, a_full_output, all_devices),
-    *(retried, signals, waits_for_a_number, numbers_without_room),
+    *(retried, signals, waits_for_a_number, numbers_without_room, with_a_restore),
     *(progress, ordinary_user),
 )
 

@@ -4,7 +4,7 @@ given twice: the counter's file has the next one, and is on the disk before a nu
 from __future__ import annotations
 
 from avrstk_common import Fault, ended_by
-from avrstk_elf import Run, hex_rows
+from avrstk_elf import AREAS, Run, hex_rows
 from avrstk_words import RECORD, UNOPENED, Update, Words
 
 import copy
@@ -34,6 +34,8 @@ class Spec:
             raise Fault(f"--each {given}: give flash@ADDRESS=TEXT or eeprom@ADDRESS=TEXT, such as eeprom@0={{n:06}}")
         self.given, self.memory, self.text = given, found[1], found[3]
         self.address = int(found[2], 16 if found[2][:2].lower() == "0x" else 10)
+        if self.address >= AREAS["flash"][1]:
+            raise Fault(f"--each {given}: no memory has this address")
         fields = {field[1] for field in FIELD.finditer(self.text)}
         if re.search("[{}]", FIELD.sub("", self.text)):
             raise Fault(f"--each {given}: fields are like {{n}}, {{n:06}}, {{n:04X}}, or {{COLUMN}} of --rows")
@@ -124,7 +126,7 @@ class Counter:
 
     def replace(self, text: bytes) -> None:
         """Replaces the file, and syncs it and its folder."""
-        spare = f"{self.file}.new"
+        spare = f"{self.file}.avrstk-new"
         file = os.open(spare, os.O_WRONLY | os.O_CREAT | os.O_TRUNC | os.O_CLOEXEC | os.O_NOFOLLOW, 0o666)
         try:
             if os.path.exists(self.file):
@@ -274,8 +276,8 @@ def joined(update: Update, content: bytes | None, pieces: list[Run], end: str) -
     if update.is_image and content is None:
         raise Fault(f"{update.file}: cannot be opened: {end}")
     if not update.is_image or content is None:
-        why = f"--each needs a file in place of values, or no -U that writes {update.memory}"
-        raise Fault(f"-U {update.given}: {why}: {end}")
+        # (values are given, or --restore has them for flash that is FF)
+        raise Fault(f"{update.given}: --each goes into the image of a file, not into values: {end}")
     one, whole = copy.copy(update), bytes(content)
     begins = RECORD.match(whole[:1024])
     detected = ("i" if b":" in begins[0] else "s") if begins else "r"

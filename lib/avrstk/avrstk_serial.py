@@ -11,12 +11,12 @@ from avrstk_faults import xor
 from avrstk_report import Report, fault_of, write
 from avrstk_rows import try_rows
 from avrstk_hints import CHANGING, ENTER, LEAVE, MAYBE_CHANGED, NO_CHIP, NO_SIGNATURES, ONE_IMAGE, OPEN_LOCK
-from avrstk_hints import erases
 from avrstk_hints import (
     POWER_CYCLE,
     SIGN_ON,
     UNCHANGED,
     Outcome,
+    erases,
     hint,
     may_erase_kept,
     may_lock,
