@@ -30,7 +30,8 @@ ar x "$(dirname "$(rt doc)")/c/liblibc_c.a" heap.pic.o
 # one object, in which all other names are local, so that a program can also link another Rattle library
 ld -r -o avr_records.o --whole-archive "$proved" --no-whole-archive heap.pic.o
 objcopy --wildcard --keep-global-symbol='avr_records_*' avr_records.o
-rm -f libavr_records.a
+# (without a C compiler no older shared library stays)
+rm -f libavr_records.a libavr_records.so "$shared"
 ar rcsD libavr_records.a avr_records.o
 rm heap.pic.o avr_records.o
 cat >avr_records.pc <<END
