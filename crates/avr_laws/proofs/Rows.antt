@@ -19,4 +19,5 @@ pub mod PageCounter
 pub mod WrongRows
 pub mod Mistakes
 pub mod HostMistakes
+pub mod ToolMistakes
 pub mod Bootloader

@@ -424,7 +424,7 @@ pause_made_up truly =
 abbrev address : Bytes
 address = codes "here:1"
 
-abbrev network : Networks ℕ (List ℕ) ℕ
+abbrev pub network : Networks ℕ (List ℕ) ℕ
 network = record {
   reaches = λ side name. name ≡ address;
   misses = λ name. ⊥;
@@ -545,7 +545,7 @@ pub over_emulator : (At : ConnectionState) → KeepsPlanAt Any At (Emulated file
 over_emulator At = (refl, (None, (plan, [], refl, plan_asked WasOpened, chip_saved)))
 
 -- a part that nobody knows
-abbrev unknown : Settings
+abbrev pub unknown : Settings
 unknown = record worked_settings { part = codes "none" }
 
 pub part_unknown : (At : ConnectionState) (during : Transcript) (old new : Record)
