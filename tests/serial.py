@@ -792,6 +792,16 @@ def retries():
     state = "; the chip may be erased or partly written, and may be in programming mode"
     is_right = own[-1].startswith("--counter counter has to ") and own[-1].endswith(state)
     check("no number for the second attempt", is_right, own)
+    room.put("counter", b"7\n")
+    programmer = Boards({"vanish": 8})
+    started = start([*words, "-P", str(programmer.device)])
+    while b"trying again" not in started.stderr.readline():
+        pass
+    started.send_signal(signal.SIGINT)
+    own = started.communicate(timeout=PATIENCE)[1].decode().splitlines()
+    programmer.end()
+    check_equal("a signal between attempts", (len(own), room.read("counter")), (1, b"8\n"))
+    check("a signal between attempts: its line", " ended by SIGINT: the chip may be erased or partly" in own[0], own)
 
 
 def retries_that_are_refused():
