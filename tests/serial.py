@@ -842,6 +842,16 @@ def retries():
     state = "; the chip may be erased or partly written, and may be in programming mode"
     is_right = own[-1].startswith("--counter counter has to ") and own[-1].endswith(state)
     check("no number for the second attempt", is_right, own)
+    room.put("counter", b"7\n")
+    programmer = Boards({"vanish": 8})
+    started = start([*words, "-P", str(programmer.device)])
+    while b"trying again" not in started.stderr.readline():
+        pass
+    started.send_signal(signal.SIGINT)
+    own = started.communicate(timeout=PATIENCE)[1].decode().splitlines()
+    programmer.end()
+    check_equal("a signal between attempts", (len(own), room.read("counter")), (1, b"8\n"))
+    check("a signal between attempts: its line", " ended by SIGINT: the chip may be erased or partly" in own[0], own)
 
 
 def retries_that_are_refused():
@@ -1270,6 +1280,16 @@ def images_in_pipes():
     check_equal("a shell's pipe, twice", (status, own, board.end() == wanted), (0, again, True))
 
 
+def names_of_images(text):
+    """No line names a format of a file that isn't there. A file may have the name of a port."""
+    for name in ("no.hex:i", "no.hex"):
+        found = run([*NO_CHIP, "-U", f"flash:w:{name}"])[1:]
+        check_equal(f"no such file: {name}", found, (b"", lines("error: no.hex: cannot be opened"), []))
+    room.put("emu:no.bin", text)
+    found = run([*NO_CHIP, "-U", "flash:w:emu:no.bin:i"])[::3]
+    check_equal("a file with the name of a port", found, (0, []))
+
+
 def images_that_are_read_once():
     """An image is read once, also from a pipe, and may have several memories. Messages name the user's files."""
     images_in_pipes()
@@ -1281,12 +1301,7 @@ def images_that_are_read_once():
         (text[: text.rindex(b":")], "warning: -: no end record"),
     ]:
         check_equal(wanted, piped([*NO_CHIP, "-U", "flash:w:-"], content)[2].splitlines(True)[0], lines(wanted))
-    for name in ("no.hex:i", "no.hex"):
-        found = run([*NO_CHIP, "-U", f"flash:w:{name}"])[1:]
-        check_equal(f"no such file: {name}", found, (b"", lines("error: no.hex: cannot be opened"), []))
-    room.put("emu:no.bin", text)
-    found = run([*NO_CHIP, "-U", "flash:w:emu:no.bin:i", "-l", "all"])[::3]
-    check_equal("a file with the name of a port", found, (0, []))
+    names_of_images(text)
     why = f"-P stdio: needs standard input, so no image comes from it: {UNOPENED}"
     check_equal("no image from frames", run(["-p", "m328p", "-P", "stdio:", "-U", "flash:w:-"])[3], [why])
     # (a file that grows no further: what is judged isn't passed on in part)

@@ -847,6 +847,9 @@ def ran(words: Words, put: Callable[[bytes], None] = messages.put, earlier: froz
             return outcome
         words.note(f"{outcome.error}: trying again, {words.tries} of {count}")
         wait_for(words.device)
+        if ended_by():
+            # (no number is taken for a run that isn't made)
+            return outcome
 
 
 def give(words: Words, each: Each, earlier: frozenset[int], is_held: bool) -> None:
