@@ -646,6 +646,12 @@ def what_is_missing():
     check_equal(
         "no avrstk", run([*FLASH, "-P", device], env={"AVRSTK": "/nowhere/it"})[::3], (1, [f"/nowhere/it {needed}"])
     )
+    # (the system's fault is of no file)
+    fails = (
+        "import runpy, socket, sys\nsys.argv[:1] = []\ndef fail(*_):\n    raise OSError(24, 'Too many open files')\n"
+    )
+    fails += "socket.create_server = fail\nrunpy.run_path(sys.argv[0], run_name='__main__')\n"
+    check_equal("no socket", run([*FLASH, "-P", device], front=["-c", fails])[::3], (1, ["Too many open files"]))
     os.close(line)
     with tempfile.TemporaryDirectory() as folder:
         front, link = Path(folder, "bin/avrstk"), Path(folder, "a link")
