@@ -545,6 +545,7 @@ def no_firmware():
         other = f"{words[1].partition(':a')[0]}:i" if why[name].endswith("give ") else ""
         check_equal(f"{words} {name}", found, (1, b"", b"", [f"{shown} {why[name]}{other}: {UNOPENED}"]))
     texts_and_firmware()
+    check_equal("a missing file is not read as a format", run([*NO_CHIP, "-U", "flash:w:nosuch.hex"])[3], [])
     wanted = [f"/dev/zero has more than 67,108,864 bytes: {UNOPENED}"]
     check_equal("what never ends", run([*NO_CHIP, "-U", "flash:w:/dev/zero:r"]), (1, b"", b"", wanted))
 

@@ -118,7 +118,8 @@ class Words:
     def __init__(self, given: list[str], report: Report) -> None:
         self.unproved = given[:1] == ["--unproved"]
         # (getopt knows no option whose value may be left out)
-        given = [{"--try-rows": "--try-rows=safe"}.get(word, word) for word in given[self.unproved :]]
+        bare = [word for word in given if len(word) > 2 and "--try-rows".startswith(word)]
+        given = ["--try-rows=safe" if word in bare else word for word in given[self.unproved :]]
         options, others = getopt.gnu_getopt(given, SHORT, LONG)
         self.last = last = dict(options)
         judge_words(options, others)
