@@ -899,7 +899,7 @@ def prepare(words: Words) -> None:
     if words.left_out:
         words.note(f"ignored: {', '.join(words.left_out)}")
     for update in words.updates if "-q" not in words.flags else []:
-        if update.named and words.contents.get(update.file) is not None:
+        if update.named and update.front:
             print_line(f"{update.file} is read as {FORMATS[update.named]} (:{update.named})")
 
 
