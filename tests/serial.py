@@ -500,6 +500,8 @@ def texts_and_firmware():
         )
     found = piped([*NO_CHIP, "-U", "eeprom:w:-"], raw)
     check_equal("a text in EEPROM", (found[0], room.read("no.bin")[32_768:][: len(raw)]), (0, raw))
+    noted = room.read("blink.hex") + b"S1 is the button that resets the board\n"
+    check_equal("a note after the end record", piped([*NO_CHIP, "-U", "flash:w:-"], noted)[0], 0)
     check_equal("a fuse as one raw byte", piped([*NO_CHIP, "-U", "lfuse:w:-"], b"\xe2")[0], 0)
     status, *_ = run([*NO_CHIP, "-U", "eeprom:w:m.c:r"])
     check_equal("a text as raw bytes", (status, room.read("no.bin")[32_768:][: len(TEXTS["m.c"])]), (0, TEXTS["m.c"]))

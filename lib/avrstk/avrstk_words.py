@@ -398,7 +398,8 @@ class Update:
         if not held or begins and self.format != "r" and not (DATA.search(held) or MARKED.search(held)):
             return "is empty (did its build fail?)"
         end = END.search(held) if begins and self.format != "r" else None
-        if end and DATA.search(held, end.end()):
+        # (a note may be after the end, too)
+        if end and any(RECORD.match(held, found.start()) for found in DATA.finditer(held, end.end())):
             return "has data after its end record, which are never read: give each of the joined files a -U of its own"
         if self.format == "e" or is_detected and not packed_as(front) and self.file.lower().endswith(OF_ELF):
             form = form_of(held)
