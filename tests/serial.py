@@ -514,6 +514,8 @@ def texts_and_firmware():
         )
     found = piped([*NO_CHIP, "-U", "eeprom:w:-"], raw)
     check_equal("a text in EEPROM", (found[0], room.read("no.bin")[32_768:][: len(raw)]), (0, raw))
+    noted = room.read("blink.hex") + b"S1 is the button that resets the board\n"
+    check_equal("a note after the end record", piped([*NO_CHIP, "-U", "flash:w:-"], noted)[0], 0)
     check_equal("a fuse as one raw byte", piped([*NO_CHIP, "-U", "lfuse:w:-"], b"\xe2")[0], 0)
     status, *_ = run([*NO_CHIP, "-U", "eeprom:w:m.c:r"])
     check_equal("a text as raw bytes", (status, room.read("no.bin")[32_768:][: len(TEXTS["m.c"])]), (0, TEXTS["m.c"]))
@@ -559,6 +561,7 @@ def no_firmware():
         other = f"{words[1].partition(':a')[0]}:i" if why[name].endswith("give ") else ""
         check_equal(f"{words} {name}", found, (1, b"", b"", [f"{shown} {why[name]}{other}: {UNOPENED}"]))
     texts_and_firmware()
+    check_equal("a missing file is not read as a format", run([*NO_CHIP, "-U", "flash:w:nosuch.hex"])[3], [])
     wanted = [f"/dev/zero has more than 67,108,864 bytes: {UNOPENED}"]
     check_equal("what never ends", run([*NO_CHIP, "-U", "flash:w:/dev/zero:r"]), (1, b"", b"", wanted))
 

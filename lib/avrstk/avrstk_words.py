@@ -118,7 +118,8 @@ class Words:
     def __init__(self, given: list[str], report: Report) -> None:
         self.unproved = given[:1] == ["--unproved"]
         # (getopt knows no option whose value may be left out)
-        given = [{"--try-rows": "--try-rows=safe"}.get(word, word) for word in given[self.unproved :]]
+        bare = [word for word in given if len(word) > 2 and "--try-rows".startswith(word)]
+        given = ["--try-rows=safe" if word in bare else word for word in given[self.unproved :]]
         options, others = getopt.gnu_getopt(given, SHORT, LONG)
         self.last = last = dict(options)
         judge_words(options, others)
@@ -396,7 +397,8 @@ class Update:
         if not held or begins and self.format != "r" and not (DATA.search(held) or MARKED.search(held)):
             return "is empty (did its build fail?)"
         end = END.search(held) if begins and self.format != "r" else None
-        if end and DATA.search(held, end.end()):
+        # (a note may be after the end, too)
+        if end and any(RECORD.match(held, found.start()) for found in DATA.finditer(held, end.end())):
             return "has data after its end record, which are never read: give each of the joined files a -U of its own"
         if self.format == "e" or is_detected and not packed_as(front) and self.file.lower().endswith(OF_ELF):
             form = form_of(held)
