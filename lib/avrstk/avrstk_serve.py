@@ -475,7 +475,7 @@ def main(help_text: str) -> int:
 def judge(options: Mapping[str, str], client: list[str]) -> str:
     """Refuses options that don't fit each other. Returns the name of the chip file."""
     chip, parts = options.get("--chip"), options.get("--parts")
-    if chip is None:
+    if not chip:
         raise Fault("no chip file given (--chip)")
     if re.search(r"[\udc80-\udcff]", chip):
         raise Fault(f"--chip {chip}: the name is not UTF-8")
