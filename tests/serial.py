@@ -854,8 +854,7 @@ def retries():
     room.put("counter", b"7\n")
     programmer = Boards({"vanish": 8})
     started = start([*words, "-P", str(programmer.device)])
-    while b"trying again" not in started.stderr.readline():
-        pass
+    next(line for line in iter(started.stderr.readline, b"") if b"trying again" in line)
     started.send_signal(signal.SIGINT)
     own = started.communicate(timeout=PATIENCE)[1].decode().splitlines()
     programmer.end()
