@@ -462,7 +462,11 @@ def no_trial():
     """Nothing is tried without a chip, after corrupt frames, or if the memories can't be saved. The line says why."""
     small = {"preexec_fn": lambda: serial.resource.setrlimit(serial.resource.RLIMIT_FSIZE, (0, 0))}
     cases = [
-        ("the programmer finds no chip: check the wires and the power", pretends(b"\x1b", b"\x1b\0\xff\0"), {}),
+        (
+            "a signature of 00 or FF often means that no chip replies: check the wires and the power",
+            pretends(b"\x1b", b"\x1b\0\xff\0"),
+            {},
+        ),
         ("1A 04 58 00 00 00 was answered B0 C1", pretends(b"\x1a", b"\xb0\xc1"), {}),
         ("the memories can't be saved in this folder: File too large", lambda body, ask: ask(body), small),
     ]

@@ -449,12 +449,14 @@ REFUSALS: Table = {
     rf"update (\d+): ({'|'.join(KINDS)})$": unparsed,
     ".*: not a number$": "a value is written as 0xE2, 0b11100010, 0342 or 226",
     "(.*): cannot be opened$": unopened,
-    "no part ": lambda run, found: no_part(run.words, found),
     r"(.*?): (?:line (\d+): )?(bad |line too long|no record mark|address (\w{8}) out of range)": unread,
+    "no part ": lambda run, found: no_part(run.words, found),
 }
 
-# and after it was opened
+# and after it was opened. (A file may have the name of an error's beginning.)
 REPLIED: Table = {
+    "-: cannot be (created|written)$": "standard output is closed or full; {state}",
+    ".*: cannot be (created|written)$": "check the folder and free space; {state}",
     r"(\w+): address (\w+): (\w+) expected, (\w+) found": differs,
     r"signature is (\w\w \w\w \w\w)": another_part,
     r"command \w\w refused with status C1": "{noisy}: {state}; if it refuses again, use another programmer",
@@ -467,6 +469,4 @@ REPLIED: Table = {
     "programmer doesn't keep to STK500v2; {state}",
     "link ": "the device is gone: check the cable; {state}",
     "command ": "the device refused the command: {state}; if it refuses again, use another programmer",
-    "-: cannot be (created|written)$": "standard output is closed or full; {state}",
-    ".*: cannot be (created|written)$": "check the folder and free space; {state}",
 }
