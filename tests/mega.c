@@ -122,9 +122,10 @@ int main(int many, char **words) {
         /* a reply's bytes are sent one by one, without waiting for more */
         setsockopt(caller, IPPROTO_TCP, TCP_NODELAY, &(int){1}, sizeof(int));
         meet(avr);
+        /* (whoever waits for the end of the connection finds the whole flash) */
+        save(avr, words[2]);
         close(caller);
         caller = -1;
-        save(avr, words[2]);
         puts("saved");
         fflush(stdout);
     }
