@@ -1448,7 +1448,7 @@ def hints():
     wanted = [f"standard output is closed or full; {stays}"]
     check_equal("a closed output", (status, b"-: cannot be written" in printed, own), (1, True, wanted))
     (room.folder / "link x").symlink_to("/dev/full")
-    status, _, _, own, _ = over(["-p", "m328p", "-U", "lfuse:r:link x:h"])
+    *_, own, _ = over(["-p", "m328p", "-U", "lfuse:r:link x:h"])
     check_equal("a file named as an error begins", own, [f"check the folder and free space; {stays}"])
 
 
