@@ -510,7 +510,7 @@ def numbers_without_room():
         check_equal(f"{words}: a line", (status, len(own)), (1, 1))
         check_equal(f"{words}: the next number", room.read(words[-1]), left)
         runs = sorted((board["status"], board["kind"] or "", board["chip"]) for board in report()["runs"])
-        check_equal(f"{words}: the report", runs, [(0, "", "done"), (1, "device", "unchanged")])
+        check_equal(f"{words}: the report", runs, [(0, "", "done"), (1, "file", "unchanged")])
 
 
 def with_a_restore():
