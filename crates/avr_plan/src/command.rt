@@ -28,8 +28,9 @@ Examples:
 From AVRDUDE: for a serial device (-P /dev/ttyACM0) use avrstk-serial with the same options.
 There is no -C (no configuration file), no -B (the programmer has its own clock) and no -t
 (use -U). Long part names (atmega328p) and more parts need --parts parts/classic.toml in a
-clone, --parts /usr/share/avrstk/classic.toml from the package (PREFIX/share by install.sh).
-Values in place of a file need the format m. Manual: man avrstk. This is avrstk 0.9.0.";
+clone, or PREFIX/share/avrstk/classic.toml if installed (the package's PREFIX is /usr).
+Values in place of a file need the format m. The manual is man avrstk if installed, and
+docs/USAGE.md in a clone. This is avrstk 0.9.0.";
 
 /// How the values of an option are read.
 #[derive(Clone, Copy)]
