@@ -1449,7 +1449,11 @@ def hints():
     check_equal("a closed output", (status, b"-: cannot be written" in printed, own), (1, True, wanted))
     (room.folder / "link x").symlink_to("/dev/full")
     *_, own, _ = over(["-p", "m328p", "-U", "lfuse:r:link x:h"])
-    check_equal("a file named as an error begins", own, [f"check the folder and free space; {stays}"])
+    check_equal(
+        "a file named as an error begins",
+        own,
+        [f"check its name, its folder and free space; a pipe needs a reader; {stays}"],
+    )
 
 
 def without(words, *left_out):
@@ -1774,7 +1778,7 @@ FOLLOWED = [
     (r"^signature has 3 bytes|^calibration has 1 byte", lambda *_: None),
     (r"the memories are flash, eeprom, lfuse", changed("^fuse", "lfuse")),
     (
-        r"the operations are w \(write\)|the formats are i, s, r, e, a and m to write|a file comes third, as MEMORY:",
+        r"the operations are w \(write\)|the formats are i, s, r, e, a and m to write|a file, or with :m values, comes",
         changed("^flash:.*", "flash:w:blink.hex:i"),
     ),
     (
@@ -1820,7 +1824,10 @@ FOLLOWED = [
         mended,
     ),
     (r"only the session's end failed. Power-cycle the board", mended),
-    (r"^check the folder and free space|^standard output is closed", changed(":(/dev/full|-):h", ":read.txt:h")),
+    (
+        r"^check its name, its folder and free space|^standard output is closed",
+        changed(":(/dev/full|-):h", ":read.txt:h"),
+    ),
     (r"run the same command again( with -D)?(,? without .*)?$", repeated),
     (
         r"holds something else than [^;]*$|: use a programmer$|: power-cycle the board$|may be worn$"
@@ -2544,6 +2551,15 @@ def devices_that_go():
     check("it is gone", printed[-1].startswith(wanted), printed)
 
 
+def another_reader():
+    """A board of version 1 whose bytes another program reads, such as a serial monitor, isn't called gone."""
+    board = Board(server=Version1())
+    with subprocess.Popen(["cat", board.device], stdout=subprocess.DEVNULL) as monitor:
+        _, _, printed, own = run([*FLASH, "-c", "arduino", "-D", "-P", board.device])
+        monitor.kill()
+    check("it isn't called gone", own and not any("is gone" in line for line in own), (printed, own))
+
+
 def strangers():
     """If another program connects to the port that the script opens for avrstk, it receives nothing from the board."""
     wanted = flashed()
@@ -2696,7 +2712,8 @@ CASES = named(
         over_a_bootloader,
     ),
     *(files_of_one_command, reports, places_of_reports, signals, cut_lines, closed_streams),
-    *(messages_that_nobody_reads, one_run_at_a_time, settings_that_are_kept, devices_that_go, strangers),
+    *(messages_that_nobody_reads, one_run_at_a_time, settings_that_are_kept, devices_that_go, another_reader),
+    strangers,
     *(names_and_interrupts, recipe_of_the_script, recipe_of_a_plain_bridge, recipe_of_ser2net),
 )
 

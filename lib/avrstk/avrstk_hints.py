@@ -435,7 +435,7 @@ KINDS = {
     "no such memory": f"the memories are {', '.join(MEMORIES)}",
     "no such operation": "the operations are w (write), v (compare) and r (read)",
     "no such format here": "the formats are i, s, r, e, a and m to write and compare, i, s, r, h, d, o and b to read",
-    "no file named": "a file comes third, as MEMORY:OP:FILE:FORMAT",
+    "no file named": "a file, or with :m values, comes third: MEMORY:OP:FILE:FORMAT",
 }
 
 
@@ -456,7 +456,7 @@ REFUSALS: Table = {
 # and after it was opened. (A file may have the name of an error's beginning.)
 REPLIED: Table = {
     "-: cannot be (created|written)$": "standard output is closed or full; {state}",
-    ".*: cannot be (created|written)$": "check the folder and free space; {state}",
+    ".*: cannot be (created|written)$": "check its name, its folder and free space; a pipe needs a reader; {state}",
     r"(\w+): address (\w+): (\w+) expected, (\w+) found": differs,
     r"signature is (\w\w \w\w \w\w)": another_part,
     r"command \w\w refused with status C1": "{noisy}: {state}; if it refuses again, use another programmer",

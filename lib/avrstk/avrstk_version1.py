@@ -81,7 +81,11 @@ class Line:
         """Returns the next `count` bytes, or fewer if none came for `silence` seconds."""
         held = b""
         while len(held) < count and ready({self.device: READ}, time.monotonic() + silence):
-            piece = os.read(self.device.fileno(), count - len(held))
+            try:
+                piece = os.read(self.device.fileno(), count - len(held))
+            except BlockingIOError:
+                # (another program has read the bytes)
+                continue
             if not piece:
                 raise OSError("the device is gone")
             held += piece
