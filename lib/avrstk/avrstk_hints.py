@@ -354,11 +354,11 @@ def unlike(run: Outcome, memory: str, address: int, wanted: int, held: int) -> s
     if may_lock(run.done()):
         return lock_last(words)
     keeps = not erases(words) and not words.is_bootloader
-    if memory == "flash" and keeps and not held & ~wanted:
-        return remains(run)
     writes = [update for update in words.updates[: run.begun()] if update.writes_flash()]
     if memory == "flash" and sum(update.may_have(address) for update in writes) > 1:
         cause = "two images may overlap (give one of them), or "
+    elif memory == "flash" and keeps and not held & ~wanted:
+        return remains(run)
     else:
         # (a restore, and version 1, need a programmer)
         is_far = memory == "eeprom" and address > 0xFF and words.restore is None and not words.is_version1
