@@ -28,9 +28,9 @@ Examples:
 From AVRDUDE: for a serial device (-P /dev/ttyACM0) use avrstk-serial with the same options.
 There is no -C (no configuration file), no -B (the programmer has its own clock) and no -t
 (use -U). Long part names (atmega328p) and more parts need --parts parts/classic.toml in a
-clone, or PREFIX/share/avrstk/classic.toml if installed (the package's PREFIX is /usr).
-Values in place of a file need the format m. The manual is man avrstk if installed, and
-docs/USAGE.md in a clone. This is avrstk 0.9.0.";
+clone, --parts /usr/share/avrstk/classic.toml from the package. With install.sh the file is
+in PREFIX/share/avrstk. Values in place of a file need the format m. The manual is man
+avrstk if installed, and docs/USAGE.md in a clone. This is avrstk 0.9.0.";
 
 /// How the values of an option are read.
 #[derive(Clone, Copy)]
@@ -88,7 +88,7 @@ static OPTIONS: [CommandOption; 16] = [
     CommandOption {
         id: "keep-flash",
         kind: OptionKind::Flag('D', ArgAction::SetTrue),
-        help: "Don't erase the chip before flash is written",
+        help: "Don't erase the chip for a write of flash",
     },
     CommandOption {
         id: "no-verify",
@@ -98,7 +98,7 @@ static OPTIONS: [CommandOption; 16] = [
     CommandOption {
         id: "dry",
         kind: OptionKind::Flag('n', ArgAction::SetTrue),
-        help: "Write and erase nothing",
+        help: "Write and erase nothing on the chip",
     },
     CommandOption {
         id: "force",
