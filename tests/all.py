@@ -92,7 +92,7 @@ PROVED_LINE = re.compile(r"rt: (\w+) (?:proved|is kept)\b")
 
 # the crate whose first check is the measure of a machine, and the whole in such checks that --all may take
 MEASURE = "stk_frame"
-MOST = 62
+MOST = 54
 
 # how many scripts may be run again, and what their names then end with
 AGAIN = " (again, alone)"
