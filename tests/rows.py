@@ -228,7 +228,7 @@ def faults_of_the_line():
 
 
 def faults_of_a_chip():
-    """A bootloader that refuses much meets the rows, and fails one that does what it doesn't say. Nothing is tried
+    """A bootloader meets the rows of commands that it refuses, and fails that of a write that also erases. Nothing is tried
     without a chip, or if it is locked."""
     served(ALL, ["--bootloader"], failing=["writes flash"], promise=COMPARED)
     served(SAFE, ["--bootloader"], left=WRITING, promise=COMPARED)

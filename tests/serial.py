@@ -1142,12 +1142,14 @@ def warnings():
         f'{name} = {{ {fields}, signature = "{digits}" }}\n'
         for name, digits in [("m328p", "1e950F"), ("b-chip", "1E9500"), ("'d-chip'", "1E950F")]
     ]
+    inline = f'parts = {{ i-chip = {{ {fields}, signature = "1E950F" }}, none = 1 }}\n'
     dotted = "".join(f"g-chip.{field}\n" for field in [*fields.split(", "), "'signature' = '1E950F'"])
     fields = fields.replace(", ", "\n")
     for name, own in [("a-chip", ""), ("'e-chip'", '# signature = "1E9500"\n')]:
         mine.append(f'[parts.{name}]\n{own}signature = "1E950F"\n{fields}\n')
     for part, words, wanted in table("warnings"):
         room.put("mine.toml", ("[parts]\n" + dotted + "".join(mine)).encode())
+        room.put("inline.toml", inline.encode())
         room.put("h59.hex", hex_of([(0, b"\x59")]))
         room.put("h59.srec", b"S104000059A2\nS9030000FC\n")
         room.put("h59.bin", b"\x59")
