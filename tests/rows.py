@@ -228,8 +228,8 @@ def faults_of_the_line():
 
 
 def faults_of_a_chip():
-    """A bootloader meets the rows of commands that it refuses, and fails that of a write that also erases. Nothing is tried
-    without a chip, or if it is locked."""
+    """A bootloader meets the rows of commands that it refuses, and fails that of a write that also erases. Nothing is
+    tried without a chip, or if it is locked."""
     served(ALL, ["--bootloader"], failing=["writes flash"], promise=COMPARED)
     served(SAFE, ["--bootloader"], left=WRITING, promise=COMPARED)
     for option, why in ("--no-chip", "10 C8 64 19 20 00 53 03 AC 53 00 00 was answered 10 C0"), (
