@@ -536,7 +536,7 @@ def refused():
         f"{at} --try-rows --json report": "--try-rows tries a programmer, and takes no --json",
         "-P emu:chip.bin -p m328p --try-rows": "--try-rows is for a serial device, not -P emu:chip.bin",
         "-P /dev/null -p nosuch --try-rows": "no part nosuch: -p '?' lists the parts; others with ISP need a part file",
-        "-P /dev/null --try-rows": "no part given (-p): -p '?' lists the parts, and -p auto takes whichever is there;",
+        "-P /dev/null --try-rows": "no part given (-p): -p '?' lists the parts, and -p auto finds one whose signature",
         "-P /dev/null --parts one.toml -p c-chip --try-rows": f"{lacks}c-chip in one.toml: give a file with these in a "
         "table [parts.c-chip]: nothing was sent",
         "-P /dev/null --parts nosuch.toml -p m328p --try-rows": f"{lacks}m328p in nosuch.toml: give a file with these ",
@@ -545,7 +545,8 @@ def refused():
     }
     room.put("less.toml", boards.TINY.replace("eesave_bit", "bit").encode())
     fields = "signature = '1E950F', flash_size = 0x8000, flash_page = 0x80, eeprom_size = 1_024, eeprom_page = 4"
-    room.put("one.toml", f"parts = {{ c-chip = {{ {fields}, eesave_bit = 3 }} }}\n".encode())
+    # (a new line in an inline table is TOML 1.1)
+    room.put("one.toml", f"parts = {{ c-chip = {{\n{fields}, eesave_bit = 3 }} }}\n".encode())
     for words, why in cases.items():
         status, output, _, own = serial.run(words.split())
         check_equal(words, (status, output, own[0][: len(why)]), (1, b"", why))

@@ -536,7 +536,7 @@ def no_firmware():
         **dict.fromkeys(EMPTY, "is empty (did its build fail?)"),
     }
     why.update({name: f"is {what}, not firmware" for name, (_, what) in PACKED.items()})
-    joined = "has data after its end record, which are never read: give each of the joined files a -U of its own"
+    joined = "has data after its end record, which are never read: join files by srec_cat, not one after the other"
     why.update(dict.fromkeys(JOINED, joined))
     why.update(
         {"lib.elf": "is an ar archive, not firmware"},

@@ -109,7 +109,7 @@ def checked_place(name: str, section: Header, segments: list[Segment], left: int
     if section.kind not in KINDS or section.flags & ~FLAGS:
         raise ValueError(f"has a section {name} of a kind that isn't read")
     if section.size > left:
-        raise ValueError(f"has a section {name} that is too long: with it all have more bytes than the file")
+        raise ValueError(f"has a section {name} that is too long: with it the sections have more bytes than the file")
     place = place_of(segments, section) if segments else section.address
     if place is None:
         raise ValueError(f"has a section {name} that isn't in one segment")

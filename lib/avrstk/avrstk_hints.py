@@ -177,7 +177,7 @@ def other_kinds(words: Words) -> str:
     other = "To write another chip by an Uno or Nano give -c arduino_as_isp"
     if not words.is_version1:
         return ". ".join([*loaders(words), other])
-    speeds = ["Without -b each speed is tried"] * (words.is_bootloader and "-b" in words.last)
+    speeds = ["Without -b 115200 and 57600 are tried"] * (words.is_bootloader and "-b" in words.last)
     stk500v2 = f"For a programmer of STK500v2 leave out -c {words.programmer}"
     return ". ".join([*speeds, stk500v2, *loaders(words), *[other] * words.is_bootloader])
 
@@ -231,7 +231,7 @@ def no_part(words: Words, _: Match[str] | None) -> str:
     if re.match(r"(uno|nano|pro|mega(2560)?|leonardo|micro)(?!\d|.*(every|wifi|r4|esp|rp2040))", name):
         boards = "mostly m328p for Uno, Nano and Pro Mini, m2560 for Mega 2560, m32u4 for Leonardo, Micro and Pro Micro"
         return f"-p takes the chip's name, not the board's: {boards}"
-    auto = "" if words.part or words.has_port else ", and -p auto takes whichever is there"
+    auto = "" if words.part or words.has_port else ", and -p auto finds one whose signature no other has"
     return f"-p '?' lists the parts{auto}; others with ISP need a part file (--parts)"
 
 

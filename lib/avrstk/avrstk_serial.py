@@ -197,13 +197,13 @@ def no_device(device: str) -> str:
 
 def no_right(state: os.stat_result) -> str:
     """Returns how to get the right to use a device, or who has it."""
-    # (a number may have no name)
+    # (a number may have no name, and in a container a device's group may be nobody's)
     owner, group = str(state.st_uid), str(state.st_gid)
     with contextlib.suppress(KeyError):
         owner = pwd.getpwuid(state.st_uid).pw_name
     with contextlib.suppress(KeyError):
         group = grp.getgrgid(state.st_gid).gr_name
-    if state.st_gid != 0 and state.st_mode & 0o60 == 0o60 and not group.isdigit():
+    if state.st_gid != 0 and state.st_mode & 0o60 == 0o60 and not re.fullmatch(r"\d+|nogroup|nobody", group):
         return f"often: sudo usermod -aG {shlex.quote(group)} $USER, and log in again"
     return f"its owner is {owner}, its group {group}, its mode {stat.S_IMODE(state.st_mode):o}"
 

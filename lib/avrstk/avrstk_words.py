@@ -414,7 +414,9 @@ class Update:
         end = END.search(held) if begins and self.format != "r" else None
         # (a note may be after the end, too)
         if end and any(RECORD.match(held, found.start()) for found in DATA.finditer(held, end.end())):
-            return "has data after its end record, which are never read: give each of the joined files a -U of its own"
+            return (
+                "has data after its end record, which are never read: join files by srec_cat, not one after the other"
+            )
         if self.format == "e" or is_detected and not packed_as(front) and self.file.lower().endswith(OF_ELF):
             form = form_of(held)
             cure = f": it has {FORMATS[form]}: give {self.given_as(form)}" if form else ""
