@@ -545,8 +545,7 @@ def refused():
     }
     room.put("less.toml", boards.TINY.replace("eesave_bit", "bit").encode())
     fields = "signature = '1E950F', flash_size = 0x8000, flash_page = 0x80, eeprom_size = 1_024, eeprom_page = 4"
-    # (a new line in an inline table is TOML 1.1)
-    room.put("one.toml", f"parts = {{ c-chip = {{\n{fields}, eesave_bit = 3 }} }}\n".encode())
+    room.put("one.toml", f"parts = {{ c-chip = {{ {fields}, eesave_bit = 3 }} }}\n".encode())
     for words, why in cases.items():
         status, output, _, own = serial.run(words.split())
         check_equal(words, (status, output, own[0][: len(why)]), (1, b"", why))

@@ -461,6 +461,7 @@ def refused():
     room.put("257.hex", hex_of([(250, b"1234567")]))
     room.put("257.bin", bytes(257))
     room.put("colon.bin", b":\1\2\3")
+    room.put("mark.hex", b"\xef\xbb\xbf" + room.read("blink.hex"))
     room.put("zeros.bin", bytes(2000))
     room.put("above.hex", hex_of([(0x810000, b"x")]))
     room.put("arm.hex", hex_of([(0x8000000, b"x")]))
@@ -1142,14 +1143,12 @@ def warnings():
         f'{name} = {{ {fields}, signature = "{digits}" }}\n'
         for name, digits in [("m328p", "1e950F"), ("b-chip", "1E9500"), ("'d-chip'", "1E950F")]
     ]
-    inline = f'parts = {{ i-chip = {{ {fields}, signature = "1E950F" }}, none = 1 }}\n'
     dotted = "".join(f"g-chip.{field}\n" for field in [*fields.split(", "), "'signature' = '1E950F'"])
     fields = fields.replace(", ", "\n")
     for name, own in [("a-chip", ""), ("'e-chip'", '# signature = "1E9500"\n')]:
         mine.append(f'[parts.{name}]\n{own}signature = "1E950F"\n{fields}\n')
     for part, words, wanted in table("warnings"):
         room.put("mine.toml", ("[parts]\n" + dotted + "".join(mine)).encode())
-        room.put("inline.toml", inline.encode())
         room.put("h59.hex", hex_of([(0, b"\x59")]))
         room.put("h59.srec", b"S104000059A2\nS9030000FC\n")
         room.put("h59.bin", b"\x59")
@@ -1735,7 +1734,7 @@ def changed(before, after):
 # a hint without a next command the walk ends.
 FOLLOWED = [
     (r"damaged, cut short or edited: build or download it again", another_file),
-    (r"if it is a comment, else build or download the file again|it is not Intel HEX", another_file),
+    (r"delete that, or build or download the file again|it is not Intel HEX", another_file),
     (
         r"give the ELF file itself, as (\w+:w:)NAME.elf",
         lambda words, _, found: [*words[:3], f"{found[1]}main.elf", *words[4:]],

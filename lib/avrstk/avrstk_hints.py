@@ -251,8 +251,8 @@ def unread(run: Outcome, found: Match[str]) -> str:
     if form and (form != "e" or update.memory in AREAS):
         return f"it has {FORMATS[form]}: give {update.given_as(form)}"
     if re.search(rb"^" + RECORD.pattern, held, re.M):
-        cure = "delete that if it is a comment, else build or download the file again"
-        return f"something is above its first record: {cure}"
+        mark = "such as a comment, a blank or a byte order mark"
+        return f"something ({mark}) is in front of its first record: delete that, or build or download the file again"
     return f"it is not {FORMATS.get(update.format or '')}"
 
 
@@ -352,7 +352,7 @@ def unlike(run: Outcome, memory: str, address: int, wanted: int, held: int) -> s
     """Returns the hint if flash or EEPROM holds another byte than the one that was written."""
     words = run.words
     if may_lock(run.done()):
-        return lock_last(words)
+        return lock_last(run)
     keeps = not erases(words) and not words.is_bootloader
     writes = [update for update in words.updates[: run.begun()] if update.writes_flash()]
     if memory == "flash" and sum(update.may_have(address) for update in writes) > 1:
@@ -380,10 +380,11 @@ def may_lock(updates: list[Update]) -> bool:
     return any(value is None or value & 3 != 3 for value in values)
 
 
-def lock_last(words: Words) -> str:
+def lock_last(run: Outcome) -> str:
     """Returns the hint after a memory that the lock protected, since it was written first."""
-    removes = f". {REMOVES[0].upper()}{REMOVES[1:]}" * (not erases(words))
-    return f"-U lock was given before: give it last{removes}"
+    removes = f"{REMOVES[0].upper()}{REMOVES[1:]}"
+    clears = "The next erase clears EEPROM, too, unless the fuse bit EESAVE is 0"
+    return f"-U lock was given before: give it last. {clears if erases(run.words) else removes}"
 
 
 def unlike_fuse(run: Outcome, memory: str, wanted: int, held: int) -> str:
@@ -393,7 +394,7 @@ def unlike_fuse(run: Outcome, memory: str, wanted: int, held: int) -> str:
         return "the lock is given twice: give one value"
     cause = "check the wires, the power and the clock, or try another chip" if erases(words) else LOCKED
     if is_after:
-        cause = lock_last(words)
+        cause = lock_last(run)
     if memory == "lock" and words.restore is None and not words.is_version1:
         cause = "a bootloader can't write the lock: use a programmer"
     # (a bit that a part doesn't have reads 1)

@@ -8,17 +8,15 @@ from avrstk_elf import AREAS, SIGNATURE, Run, hex_rows, sections_of
 from avrstk_version1 import SPEEDS
 
 import codecs
-import contextlib
 import copy
 import functools
 import getopt
-import importlib
 import os
 import re
 import shlex
 import subprocess
 from pathlib import Path
-from typing import TYPE_CHECKING, Any, Mapping, NamedTuple, Sequence
+from typing import TYPE_CHECKING, Mapping, NamedTuple, Sequence
 
 if TYPE_CHECKING:
     from avrstk_each import Each
@@ -222,15 +220,9 @@ class Words:
         """Returns a field of the part in the part file of one's own."""
         if self.parts_file is None or not os.path.isfile(self.parts_file):
             return None
-        with open(self.parts_file, encoding="utf-8", errors="replace") as file:
-            text = file.read(65_536)
-        known: Any = toml_of(text)
-        for key in ("parts", self.part or "", name):
-            known = known.get(key) if isinstance(known, dict) else None
-        if known is not None:
-            return str(known)
         # (names and values may be in quotes, and a comment may have fields, too)
-        text = re.sub("#.*|[\"']", "", text)
+        with open(self.parts_file, encoding="utf-8", errors="replace") as file:
+            text = re.sub("#.*|[\"']", "", file.read(65_536))
         entry = rf"^\s*\[?\s*(?:parts\s*\.\s*)?{re.escape(self.part or '')}\s*[]=.][^\[}}]*?\b{name}\s*=\s*(\w+)"
         found = re.search(entry, text, re.M)
         return found[1] if found else None
@@ -307,13 +299,6 @@ def judge_words(options: Sequence[tuple[str, str]], others: Sequence[str]) -> No
         raise Fault(f"{other.partition('=')[0]} is after --, which ends the options")
     cure = "is one, such as -U, missing before it, or quotes around a name with blanks?"
     raise Fault(f"{other} belongs to no option: {cure}")
-
-
-def toml_of(text: str) -> dict[str, Any]:
-    """Returns what TOML says, if this Python reads TOML (3.11 does) and the text is TOML; else nothing."""
-    with contextlib.suppress(ImportError, ValueError):
-        return dict(importlib.import_module("tomllib").loads(text))
-    return {}
 
 
 class Update:
