@@ -105,11 +105,8 @@ pub no_memory_for_a_write : (after : Progress) → EndsCall false (writing m328p
     (Err Memory) after → ⊥
 no_memory_for_a_write after ends = search rules
 
--- nothing is received before a frame is sent whole, or after its reply (`calls` of stk_host's `close`)
-pub not_before_the_end : InTurn closing sixth (Sent (0x1B ∷ 0x06 ∷ []) ∷ Got (Silence ∷ []) ∷ []) → ⊥
-unfolding answer exchange attempt attempts_or_fault closing
-not_before_the_end in_turn = let all : leaving ≡ 0x1B ∷ 0x06 ∷ [] = in_turn.0.all_sent in absurd (cc)
-
+-- nothing is received after a reply (`calls` of stk_host's `close`). Before a frame is sent whole: `not_early` of
+-- stk_host's Rows/Ends
 pub not_after_the_reply : InTurn closing sixth
     (Sent leaving ∷ Got (on_tape (frame 6 (0x11 ∷ 0x00 ∷ []))) ∷ Got (Silence ∷ []) ∷ []) → ⊥
 unfolding answer exchange attempt attempts_or_fault closing
