@@ -264,7 +264,7 @@ if [ -f "$top/tools/site.py" ]; then
             add 644 "$site/$file" "$html/$file"
         done < <(cd "$site" && find . -type f -printf '%P\n' | LC_ALL=C sort)
     else
-        echo "the documents are not installed as a site, which needs python3, mandoc, and Sphinx with MyST, furo and sphinx-copybutton"
+        echo "this time the documents are not installed as a site, which needs python3, mandoc, and Sphinx with MyST, furo and sphinx-copybutton"
     fi
 fi
 library=(lib/libavr_records.a include/avr_records.h lib/pkgconfig/avr_records.pc lib/libavr_records.so "lib/$shared")
