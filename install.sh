@@ -1,17 +1,19 @@
 #!/usr/bin/env bash
 # Installs the built program, avrstk-serial, avrstk-serve, the part file, the man pages and the completions, or removes
-# them again. The program is the proved one, or else the one without proofs, and then a line reports that. The documents
-# are installed as a site, if Sphinx, MyST, furo, sphinx-copybutton and mandoc are there to make it. With --with-c the
-# library for C is installed too: archive, header, pkg-config's file, and the shared library if there is a C compiler.
+# them again. The program is the proved one, or else the one without proofs, and then a line reports that. But if the
+# environment variable AVRSTK names a program, that one is installed, and no line reports whether it is proved. The
+# documents are installed as a site, if Sphinx, MyST, furo, sphinx-copybutton and mandoc are there to make it. With
+# --with-c the library for C is installed too, which needs rt of Rattle's kit and ar: archive, header, pkg-config's
+# file, and the shared library if there is a C compiler.
 #
 #     ./install.sh [--with-c] [PREFIX]      PREFIX is /usr/local by default, which mostly needs root; ~/.local doesn't
-#     ./install.sh --remove [PREFIX]        removes what any version of this script installed there, and the folders that
-#                                           it made if they are empty, by the manifest share/avrstk/manifest
+#     ./install.sh --remove [PREFIX]        removes what the manifest share/avrstk/manifest there names (all versions of
+#                                           this script add to it), the folders that it names if they are empty, and it
 #     ./install.sh --help                   prints this text
 #
-# A file that the manifest doesn't name is never replaced or removed, and nothing outside PREFIX is installed or removed:
-# links that lead out of it are refused. The environment variable AVRSTK names another program to install.
-# With DESTDIR, for packages, all files go under $DESTDIR/PREFIX, without the manifest, and replace those there.
+# Of other files only the manifest is replaced or removed. Nothing outside PREFIX is installed or removed: links that
+# lead out of it are refused. With DESTDIR, for packages, all files go under $DESTDIR/PREFIX, without the manifest, and
+# replace those there.
 set -euo pipefail
 
 top=$(dirname "$(readlink -f "$0")")
@@ -153,7 +155,8 @@ put() {
 # Removes the files that the manifest names, and those of its folders that are empty then. Fails if a file is left.
 remove() {
     local name status=0 names=()
-    if [ ! -f "$manifest" ] || [ -L "$manifest" ]; then
+    [ ! -L "$manifest" ] || fail "$manifest is a link, and no manifest of this script: nothing is removed"
+    if [ ! -f "$manifest" ]; then
         [ ! -e "$prefix/bin/avrstk" ] || fail "$prefix/bin/avrstk is there, but no file $manifest: nothing is removed"
         echo "there is no file $manifest: nothing is removed"
         return 0
@@ -261,7 +264,7 @@ if [ -f "$top/tools/site.py" ]; then
             add 644 "$site/$file" "$html/$file"
         done < <(cd "$site" && find . -type f -printf '%P\n' | LC_ALL=C sort)
     else
-        echo "the documents are not installed as a site, which needs python3, mandoc, and Sphinx with MyST, furo and sphinx-copybutton"
+        echo "this time the documents are not installed as a site, which needs python3, mandoc, and Sphinx with MyST, furo and sphinx-copybutton"
     fi
 fi
 library=(lib/libavr_records.a include/avr_records.h lib/pkgconfig/avr_records.pc lib/libavr_records.so "lib/$shared")

@@ -59,7 +59,7 @@ end
 for command in avrstk avrstk-serial
     complete -c $command -s U -x -a '(__avrstk_updates)' -d update
     for flag in e:'erase the chip' D:'erase it only with -e' V:"don't read back" n:"don't change the chip" \
-            F:'ignore the signature' A:'keep trailing FF' q:quiet v:'no effect'
+            F:'go on despite a wrong signature' A:'keep trailing FF' q:quiet v:'no effect'
         complete -c $command -s (string split -f 1 : -- $flag) -d (string split -f 2 : -- $flag)
     end
 end

@@ -347,7 +347,10 @@ def installed():
         ).stdout
         # (as tools/site.py needs them)
         needs = "python3, mandoc, and Sphinx with MyST, furo and sphinx-copybutton"
-        check("what the site needs", f"the documents are not installed as a site, which needs {needs}\n" in printed)
+        check(
+            "what the site needs",
+            f"this time the documents are not installed as a site, which needs {needs}\n" in printed,
+        )
         script = Path(folder, "bin/avrstk-serve")
         served = ran(["0", "-p", "atmega32u4", "--chip", "chip.bin", "--", "true"], script, AVRSTK="")
         check_equal("it serves", served, (0, "", ""))

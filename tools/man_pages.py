@@ -38,13 +38,14 @@ def escaped(text):
 
 def inline(text):
     """Returns a text with code and strong words bold, and emphasized words underlined."""
+    # (a link's words may have code)
+    text = re.sub(r"\[((?:`[^`]*`|[^]`])*)\]\([^)]*\)", r"\1", text)
     pieces = re.split(r"(``? .*? ``?|`[^`]*`)", text)
     made = []
     for piece in pieces:
         if piece.startswith("`"):
             made.append(f"\\fB{escaped(piece.strip('`').strip())}\\fR")
         else:
-            piece = re.sub(r"\[([^]]*)\]\([^)]*\)", r"\1", piece)
             made.append(escaped(piece).replace("\\(ga", ""))
 
     def strong(found):
