@@ -685,7 +685,9 @@ def what_is_missing():
         put_program(front, "#!/bin/sh\necho $0 $1\n")
         check_equal("the one beside it", ran(), (0, f"{front} -P\n", ""))
         check_equal("--unproved", ran("--unproved"), (0, f"{front} --unproved\n", ""))
-        no_file = "the part file classic.toml is not there, or names no part (install.sh puts it under share/avrstk)"
+        no_file = (
+            "the part file classic.toml is not there, or not the one of avrstk (install.sh puts it under share/avrstk)"
+        )
         check_equal("no part file", ran(part="atmega328p"), (1, "", f"avrstk-serial: atmega328p: {no_file}\n"))
         line, device = terminal()
         for file in [None, "[parts.atmega328p]\n"]:
@@ -1173,6 +1175,17 @@ def warnings():
         is_hidden = reply[5] == 0x14 and 0x19 in done
         return frame(reply[1], b"\x14\0" + b"\xff" * (len(reply) - 9) + b"\0") if is_hidden else reply
 
+    def once(reply):
+        is_hidden = reply[5] == 0x14
+        hidden = frame(reply[1], b"\x14\0" + b"\xff" * (len(reply) - 9) + b"\0") if is_hidden else reply
+        return b"" if reply[5] == 0x18 else hidden
+
+    room.put("full.bin", flashed())
+    programmer = Boards({"answer": once}, {}, chip="full.bin")
+    words = ["-U", "flash:r:none.hex:i", "-U", "lfuse:r:fuse.txt:h", "--retry", "1"]
+    own = run(["-p", "m328p", "-P", str(programmer.device), *words])[3]
+    programmer.end()
+    check_equal("flash that reads as FF before a retry", own, ["no answer: trying again, 1 of 1"])
     locks += ["-U", "lock:w:0xFC:m", "-U", "flash:r:none.hex:i"]
     check_equal("hidden", over(["-p", "m328p", *locks], {"answer": hiding})[3], [hides])
 

@@ -27,7 +27,7 @@ READ, WRITE = selectors.EVENT_READ, selectors.EVENT_WRITE
 
 # avrstk has these parts without a part file; the others are in one that comes with it
 BUILT_IN = {"m328p", "t85", "m2560"}
-NO_PARTS = "the part file classic.toml is not there, or names no part (install.sh puts it under share/avrstk)"
+NO_PARTS = "the part file classic.toml is not there, or not the one of avrstk (install.sh puts it under share/avrstk)"
 
 
 class Fault(Exception):

@@ -1039,7 +1039,7 @@ def execute(words: Words) -> int:
     outcome = ran(words, earlier=frozenset(sent))
     if outcome.status and not words.has_port:
         raise Fault(hint(outcome, ended_by()))
-    if not outcome.status and words.backup is None and "flash: 0 bytes read" in words.report.lines:
+    if not outcome.status and words.backup is None and "flash: 0 bytes read" in words.report.last_lines():
         hidden = f": it may be erased, or the lock may hide it ({OPEN_LOCK})"
         words.note("all of flash read as FF" + hidden * (not words.is_bootloader))
     return outcome.status
