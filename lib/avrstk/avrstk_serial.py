@@ -77,7 +77,7 @@ NONE_HERE = "no /dev/ttyACM* or /dev/ttyUSB* is found now"
 # Linux's tcgets2 and tcsets2. Their 44 bytes: four words of flags, a byte, 19 control characters, two speeds
 TCGETS2, TCSETS2, BOTHER = 0x802C542A, 0x402C542B, 0x1000
 
-FAR = "a Mega's bootloader reads other addresses above 255"
+FAR = "a Mega's bootloader reads EEPROM above 255 at other addresses"
 OWN_PAGES = "a bootloader of version 1 erases each page that it writes, and two of these images share a page"
 ONE_WRITE = "a Mega's bootloader erases pages from 0 on, so one command writes flash once, from 0 on without gaps"
 
