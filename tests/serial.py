@@ -664,8 +664,8 @@ def what_is_missing():
         # (a link to the script finds all, too)
         link.symlink_to("bin/avrstk-serial")
 
-        def ran(*words, part="m328p"):
-            command = [sys.executable, str(link), *words, "-p", part, "-P", "emu:x"]
+        def ran(*words, part="m328p", device="emu:x"):
+            command = [sys.executable, str(link), *words, "-p", part, "-P", device]
             finished = subprocess.run(command, capture_output=True, text=True, env=own_environment(), timeout=PATIENCE)
             return finished.returncode, finished.stdout, finished.stderr
 
@@ -685,10 +685,18 @@ def what_is_missing():
         put_program(front, "#!/bin/sh\necho $0 $1\n")
         check_equal("the one beside it", ran(), (0, f"{front} -P\n", ""))
         check_equal("--unproved", ran("--unproved"), (0, f"{front} --unproved\n", ""))
-        no_file = "the part file classic.toml is not there or empty (install.sh puts it under share/avrstk)"
+        no_file = (
+            "the part file classic.toml is not there, or not the one of avrstk (install.sh puts it under share/avrstk)"
+        )
         check_equal("no part file", ran(part="atmega328p"), (1, "", f"avrstk-serial: atmega328p: {no_file}\n"))
-        none_to_list = "the part file classic.toml is not there or empty (install.sh puts it under share/avrstk)"
-        check_equal("no part file to list", ran(part="?"), (1, "", f"avrstk-serial: {none_to_list}\n"))
+        line, device = terminal()
+        for file in [None, "[parts.atmega328p]\n"]:
+            if file is not None:
+                Path(folder, "share/avrstk").mkdir(parents=True)
+                Path(folder, "share/avrstk/classic.toml").write_text(file)
+            check_equal("no part file to list", ran(part="?"), (1, "", f"avrstk-serial: {no_file}\n"))
+            check_equal("nor for -p auto", ran(part="auto", device=device), (1, "", f"avrstk-serial: {no_file}\n"))
+        os.close(line)
         check_equal("no file is written", [*Path(folder).rglob("*.pyc")], [])
     # (2: Python keeps no docstrings)
     for words, level in [([], "0"), (["--help"], "0"), (["-h"], "0"), (["-?"], "0"), (["--help"], "2")]:
@@ -1062,8 +1070,8 @@ def backups_that_fail():
     odd = ["--parts", "odd.toml", "-p", "odd", "--restore", "a backup"]
     fails.append(({"part": "t85", "answer": written}, odd, "signature holds something else than 0x1E,0x95,0x0F"))
     room.put("locked.bin", b"\xff" * 33_795 + b"\xfc")
-    locked = "locked, so its flash and EEPROM can't be read"
-    fails.append(({"chip": "locked.bin"}, ["--backup", "gone"], f"the chip is {locked}: no backup is kept"))
+    locked = "the lock reads as one that hides flash and EEPROM: no backup is kept"
+    fails.append(({"chip": "locked.bin"}, ["--backup", "gone"], locked))
     for board, words, why in fails:
         status, own = status_and_lines(words, board)
         check(f"{words}: {why}", status == 1 and own[-1].startswith(why) and not (room.folder / "gone").exists(), own)
@@ -1157,8 +1165,8 @@ def warnings():
         own = run(["-p", part, "-P", "emu:no.bin", *words.split()])[3]
         room.clear()
         check(f"{part} {words}", bool(own) == bool(wanted) and all(line.startswith(wanted) for line in own), own)
-    why = "it was erased, or the lock hid it (then -U lock:r:-:h prints a lock whose bit 1 is 0)"
-    hides, locks, done = f"all of flash was FF when it was read: {why}", ["-U", "flash:w:blink.hex:i"], set()
+    why = "it may be erased, or the lock may hide it (then -U lock:r:-:h prints a lock whose bit 1 is 0)"
+    hides, locks, done = f"all of flash read as FF: {why}", ["-U", "flash:w:blink.hex:i"], set()
     for words, shown in ("", [hides]), ("-A", []), ("-q -q", []):
         check_equal(f"erased {words}", over(["-p", "m328p", *words.split(), "-U", "flash:r:none.hex:i"])[3], shown)
 
@@ -1167,6 +1175,17 @@ def warnings():
         is_hidden = reply[5] == 0x14 and 0x19 in done
         return frame(reply[1], b"\x14\0" + b"\xff" * (len(reply) - 9) + b"\0") if is_hidden else reply
 
+    def once(reply):
+        is_hidden = reply[5] == 0x14
+        hidden = frame(reply[1], b"\x14\0" + b"\xff" * (len(reply) - 9) + b"\0") if is_hidden else reply
+        return b"" if reply[5] == 0x18 else hidden
+
+    room.put("full.bin", flashed())
+    programmer = Boards({"answer": once}, {}, chip="full.bin")
+    words = ["-U", "flash:r:none.hex:i", "-U", "lfuse:r:fuse.txt:h", "--retry", "1"]
+    own = run(["-p", "m328p", "-P", str(programmer.device), *words])[3]
+    programmer.end()
+    check_equal("flash that reads as FF before a retry", own, ["no answer: trying again, 1 of 1"])
     locks += ["-U", "lock:w:0xFC:m", "-U", "flash:r:none.hex:i"]
     check_equal("hidden", over(["-p", "m328p", *locks], {"answer": hiding})[3], [hides])
 
@@ -1347,8 +1366,11 @@ def over_a_bootloader():
         room.put(name, hex_of(runs))
     held = {name: image_of(room.read(name)) for name in images}
     room.put("c d.srec", b"S10402007A7F\nS9030000FC\n")
+    # (srec_cat takes the second name for a number)
     room.put("e.bin", bytes(130))
-    held.update({"c d.srec": {0x200: ord("z")}, "e.bin": dict.fromkeys(range(130), 0)})
+    room.put("0x7F", bytes(130))
+    zeros = dict.fromkeys(range(130), 0)
+    held.update({"c d.srec": {0x200: ord("z")}, "e.bin": zeros, "0x7F": zeros})
     for words, wanted in table("bootloader"):
         words = ["-c", "wiring", *shlex.split(words)]
         board = Board(talk=b".")

@@ -49,7 +49,7 @@ def back_up(words: Words, folder: str, runs: Callable[[], int]) -> int:
             raise Fault(f"{fault}; no backup is kept")
         if not status and not bytes_of(folder, "lock")[0] & 2:
             words.report.stage = "refused"
-            raise Fault("the chip is locked, so its flash and EEPROM can't be read: no backup is kept")
+            raise Fault("the lock reads as one that hides flash and EEPROM: no backup is kept")
         is_whole = not status
     finally:
         if not is_whole:

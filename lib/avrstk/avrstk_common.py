@@ -27,6 +27,7 @@ READ, WRITE = selectors.EVENT_READ, selectors.EVENT_WRITE
 
 # avrstk has these parts without a part file; the others are in one that comes with it
 BUILT_IN = {"m328p", "t85", "m2560"}
+NO_PARTS = "the part file classic.toml is not there, or not the one of avrstk (install.sh puts it under share/avrstk)"
 
 
 class Fault(Exception):
@@ -232,8 +233,7 @@ def part_words(part: str | None, file: str | None) -> list[str]:
         part = next((name for name in (part, part.lower()) if name in BUILT_IN or name in known), part)
         if part not in BUILT_IN:
             if not known:
-                missing = "the part file classic.toml is not there or empty"
-                raise Fault(f"{part}: {missing} (install.sh puts it under share/avrstk)")
+                raise Fault(f"{part}: {NO_PARTS}")
             file = data_file("classic.toml")
     given = {"--parts": file, "-p": part}
     return [word for name, value in given.items() if value is not None for word in (name, value)]

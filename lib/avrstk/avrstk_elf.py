@@ -112,7 +112,7 @@ def checked_place(name: str, section: Header, segments: list[Segment], left: int
         raise ValueError(f"has a section {name} that is too long: with it the sections have more bytes than the file")
     place = place_of(segments, section) if segments else section.address
     if place is None:
-        raise ValueError(f"has a section {name} that isn't in one segment")
+        raise ValueError(f"has a section {name} that isn't in exactly one segment")
     homes = [memory for memory, (low, high) in KNOWN.items() if low <= place and place + section.size <= high]
     where = f"{section.size} bytes at {place:08X}"
     if not homes:

@@ -1,8 +1,8 @@
 """avrstk-serve --mega: what the bootloader of an Arduino Mega 2560 does, over the emulated programmer and its chip.
 
-The loader works on copies of flash and EEPROM, whose blocks are read once they are needed. At the session's end what
-has changed is written into the chip. (The programmer can't erase a single page: after such an erase it erases the chip,
-and writes all that is left.)"""
+The loader works on copies of flash and EEPROM, whose blocks are read when they are first needed. At the session's end
+what has changed is written into the chip. (The programmer can't erase a single page. So if a bit of flash has become 1,
+it erases the chip first, and then writes all that is left.)"""
 
 from avrstk_faults import framed
 

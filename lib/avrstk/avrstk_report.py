@@ -54,9 +54,13 @@ class Report:
         self.runs.append(outcome)
         self.before = len(self.lines)
 
+    def last_lines(self) -> list[str]:
+        """Returns the lines of avrstk's last run."""
+        return self.lines[self.before :]
+
     def error(self) -> str | None:
         """Returns the first error of avrstk's last run, or what the script reported."""
-        return next((line[7:] for line in self.lines[self.before :] if line.startswith("error: ")), self.fault)
+        return next((line[7:] for line in self.last_lines() if line.startswith("error: ")), self.fault)
 
     def sent(self) -> set[int]:
         return {command for run in self.runs for command in run.commands}
@@ -92,8 +96,7 @@ class Report:
         compared = "v" if {"-V", "-n"} & set(words.flags) else "wv"
         makes = {"written": "w", "verified": compared, "read": "r"}[what]
         own = [other for other in words.updates if other.memory == update.memory and other.operation in makes]
-        lines = self.lines[self.before :]
-        found = (re.fullmatch(rf"{update.memory}: (\d+) bytes {what}", line) for line in lines)
+        found = (re.fullmatch(rf"{update.memory}: (\d+) bytes {what}", line) for line in self.last_lines())
         counts = [int(line[1]) for line in found if line]
         return next((count for other, count in zip(own, counts) if other is update), None)
 

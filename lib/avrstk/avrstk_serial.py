@@ -2,7 +2,7 @@
 
 from __future__ import annotations
 
-from avrstk_common import BUILT_IN, READ, WRITE, Fault, Frames, Source, Way, brief, came, data_file, ended_by
+from avrstk_common import BUILT_IN, NO_PARTS, READ, WRITE, Fault, Frames, Source, Way, brief, came, data_file, ended_by
 from avrstk_common import build_unproved, heed_signals, is_frame, messages, parts, print_line, ready, reported_session
 from avrstk_common import show, text_of, version, wait
 from avrstk_backup import asking, back_up, restored
@@ -26,7 +26,7 @@ from avrstk_hints import (
 )
 from avrstk_station import made, station
 from avrstk_version1 import SPEEDS, Bridge
-from avrstk_words import FORMATS, FUSES, UNOPENED, Update, Words, is_port, long_name, parts_of
+from avrstk_words import FORMATS, FUSES, MEMORIES, UNOPENED, Update, Words, is_port, long_name, parts_of
 
 import contextlib
 import copy
@@ -77,7 +77,7 @@ NONE_HERE = "no /dev/ttyACM* or /dev/ttyUSB* is found now"
 # Linux's tcgets2 and tcsets2. Their 44 bytes: four words of flags, a byte, 19 control characters, two speeds
 TCGETS2, TCSETS2, BOTHER = 0x802C542A, 0x402C542B, 0x1000
 
-FAR = "a Mega's bootloader reads other addresses above 255"
+FAR = "a Mega's bootloader reads EEPROM above 255 at other addresses"
 OWN_PAGES = "a bootloader of version 1 erases each page that it writes, and two of these images share a page"
 ONE_WRITE = "a Mega's bootloader erases pages from 0 on, so one command writes flash once, from 0 on without gaps"
 
@@ -125,7 +125,7 @@ def list_parts() -> None:
             proper = re.sub("^at(mega|tiny|)(.*)", lambda found: f"AT{found[1]}{found[2].upper()}", long_name(name))
             rows.append(f"  {name:8} = {proper:13} {bytes.fromhex(part['signature']).hex(' ').upper()}")
     if not rows:
-        raise Fault("the part file classic.toml is not there or empty (install.sh puts it under share/avrstk)")
+        raise Fault(NO_PARTS)
     show("\n".join(rows))
 
 
@@ -135,7 +135,7 @@ def unrepaired(words: Words) -> str | None:
     is_dry = "-n" in words.flags
     for update in words.updates:
         if update.is_stream():
-            return f"a second one writes to {'standard output' if update.file == '-' else update.file} again"
+            return f"a second one may write to {'standard output' if update.file == '-' else update.file} again"
         if update.operation == "v" and update.memory not in written:
             return f"it compares {update.memory}, which it didn't write before"
         if update.operation == "w" and not is_dry:
@@ -152,11 +152,13 @@ def unrepaired(words: Words) -> str | None:
         return None
     lost = overwritten(words)
     if lost:
-        return f"a second one overwrites {lost[0]}, and may read what this one wrote"
+        return f"a second one may overwrite {lost[0]} with what this one wrote"
     if may_erase_kept(words, words.updates):
         return "a second one may erase EEPROM that this one keeps"
     is_used = any(update.memory in ("flash", "eeprom") for update in words.updates)
-    return "a second one may find it locked" if may_lock(words.updates) and is_used and not erases(words) else None
+    return (
+        "a second one may find the chip locked" if may_lock(words.updates) and is_used and not erases(words) else None
+    )
 
 
 def overlaps(pages: list[tuple[int, int]]) -> bool:
@@ -168,7 +170,7 @@ def overlaps(pages: list[tuple[int, int]]) -> bool:
 def judge_device(device: str | None) -> str:
     """Checks a device without opening it: opening can reset a board. Returns its name."""
     if not device:
-        raise Fault(f"no device given (-P); {'there are ' + ', '.join(DEVICES) if DEVICES else NONE_HERE}")
+        raise Fault(f"no device given (-P); {'found now: ' + ', '.join(DEVICES) if DEVICES else NONE_HERE}")
     if re.match(r"usb(:|$)", device):
         raise Fault(f"-P {device} is for programmers without a serial device: use avrdude. For others see -P '?'")
     try:
@@ -696,8 +698,9 @@ def judge_bootloader(words: Words) -> None:
     cures += ["use -D"] if writes and "-D" not in words.flags else []
     if cures and not is_dry:
         raise Fault(f"{is_for}, which can't erase the chip: {', and '.join(cures)}. {programmer}; {UNOPENED}")
+    # (avrstk refuses what is no memory)
     for update in words.updates if words.is_version1 else []:
-        if update.memory not in ("flash", "signature"):
+        if update.memory in MEMORIES and update.memory not in ("flash", "signature"):
             why = f"{is_for}, and only for its flash and signature: use a programmer"
             raise Fault(f"{options_of(words, update)}: {why}; {UNOPENED}")
     judge_pieces(words, UNOPENED)
@@ -734,8 +737,8 @@ def joined(writes: list[Update], pages: list[tuple[int, int]]) -> str:
     formats = {"i": "-Intel", "s": "-Motorola", "r": "-Binary"}
     is_file = [os.path.isfile(update.file) and update.file != "-" for update in writes]
     kinds = [formats.get(update.kind() or "") if known else None for update, known in zip(writes, is_file)]
-    # (- begins an option of srec_cat, and other signs mean something to it, too)
-    names = [re.sub(r"^(?![\w./])", "./", update.file) for update in writes]
+    # (- begins an option of srec_cat; other signs, and a number, mean something to it, too)
+    names = [re.sub(r"^(?![\w./])|^(?=(0[xX][0-9A-Fa-f]+|[0-9]+)$)", "./", update.file) for update in writes]
     words = [word for name, kind in zip(names, kinds) for word in (name, kind or "")]
     # (what is below the images isn't known: a placeholder, so that nothing below is lost)
     begin = min(pages or [(0, 0)])[0]
@@ -909,6 +912,8 @@ def detect(words: Words) -> set[int]:
     """Takes the part of the chip's signature for -p auto. Returns the commands that were sent."""
     if words.has_port or words.parts_file is not None:
         raise Fault("-p auto is for a serial device, and without --parts")
+    if not parts():
+        raise Fault(NO_PARTS)
     outcome, lines = ask(words, ["-F", "-n"], [], "m328p")
     (signature,) = re.findall(r"^avrstk: device signature = ((?:\w\w ?){3})$", lines, re.M)
     names = parts_of(signature)
@@ -1034,9 +1039,9 @@ def execute(words: Words) -> int:
     outcome = ran(words, earlier=frozenset(sent))
     if outcome.status and not words.has_port:
         raise Fault(hint(outcome, ended_by()))
-    if not outcome.status and words.backup is None and "flash: 0 bytes read" in words.report.lines:
-        hidden = f": it was erased, or the lock hid it ({OPEN_LOCK})"
-        words.note("all of flash was FF when it was read" + hidden * (not words.is_bootloader))
+    if not outcome.status and words.backup is None and "flash: 0 bytes read" in words.report.last_lines():
+        hidden = f": it may be erased, or the lock may hide it ({OPEN_LOCK})"
+        words.note("all of flash read as FF" + hidden * (not words.is_bootloader))
     return outcome.status
 
 

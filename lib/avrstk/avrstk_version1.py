@@ -1,9 +1,9 @@
 """Programmers that speak STK500 version 1, in place of one that speaks version 2.
 
-avrstk sends frames of version 2. Here each frame becomes commands of version 1 for the device, and what the device
-returns becomes the reply. Version 1 has neither checksums nor sequence numbers. So after an unexpected reply the device
-is brought into step again, and avrstk is told that its frame was corrupt: avrstk repeats the whole step, at most four
-times, and compares the chip at the end as ever. Each access to flash sends its own address.
+avrstk sends frames of version 2. Here a frame becomes commands of version 1 for the device, and what the device returns
+becomes the reply. Version 1 has neither checksums nor sequence numbers. So after an unexpected reply the device is
+brought into step again, and avrstk is told that its frame was corrupt. (If that fails, avrstk gets no reply.) Then
+avrstk sends the whole step again, up to four times in all. Each access to flash sends its own address.
 """
 
 from __future__ import annotations
