@@ -172,7 +172,7 @@ class Each:
     def last(self) -> tuple[int, str]:
         """Returns the greatest number, and what is wrong with a later one."""
         if self.rows is None:
-            return MOST, f"--counter {self.counter.given}: all numbers up to {MOST} are given"
+            return MOST, f"--counter {self.counter.given}: the next number is above {MOST}"
         return len(self.rows), f"--rows {self.file} has {len(self.rows)} rows, and the next number is greater"
 
     def judge(self, words: Words) -> None:
@@ -252,7 +252,7 @@ def table_of(file: str) -> tuple[list[str], list[list[str]]]:
     except (csv.Error, UnicodeDecodeError) as fault:
         raise Fault(f"--rows {file}: {fault}")
     if not names:
-        raise Fault(f"--rows {file}: the first line has to have the names of the columns")
+        raise Fault(f"--rows {file} has no line with the names of the columns")
     if len(set(names)) < len(names) or "n" in names:
         raise Fault(f"--rows {file}: each column needs a name of its own, other than n")
     if not rows:

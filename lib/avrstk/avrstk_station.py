@@ -94,10 +94,10 @@ class Board:
         """Waits for its process, and completes the outcome of one that was killed."""
         _, status = os.waitpid(self.number, 0)
         if self.outcome is None:
-            report, name = Report(), ""
+            report, how = Report(), "ended too early"
             if os.WIFSIGNALED(status):
-                name = f" by {signal.Signals(os.WTERMSIG(status)).name}"
-            report.stage, report.fault = "interrupted", f"its process was ended{name}"
+                how = f"was ended by {signal.Signals(os.WTERMSIG(status)).name}"
+            report.stage, report.fault = "interrupted", f"its process {how}"
             changes = self.words.changes()
             state = MAYBE_CHANGED if changes else UNCHANGED
             state += f", and may be in programming mode: {POWER_CYCLE}" * (not self.words.has_port)
@@ -244,17 +244,18 @@ def name_of(device: str) -> str:
 def judge_outputs(words: Words) -> None:
     """Refuses outputs that several boards would write into."""
     reads = [update for update in words.updates if update.operation == "r"]
-    names = [update.file for update in reads if update.file not in ("-", os.devnull)] + [words.backup or MARK]
-    for name in names:
+    names = [(update.file, "file") for update in reads if update.file not in ("-", os.devnull)]
+    names += [] if words.backup is None else [(words.backup, "folder")]
+    for name, what in names:
         if MARK not in name:
-            raise Fault(f"{name}: each board needs a name of its own: give {MARK} in it: {UNOPENED}")
+            raise Fault(f"{name}: each board needs a {what} of its own, whose name has {MARK}: {UNOPENED}")
     if MARK in (words.restore or ""):
         raise Fault(f"--restore: several boards get one backup. For one of its own give each board alone: {UNOPENED}")
     for update in reads:
         if update.file == "-" and (update.format or "r") not in "dhob":
             raise Fault(f"-U {update.given}: of several boards only lists go to standard output (:h): {UNOPENED}")
     boards = [name_of(device) for device in words.devices]
-    for board in boards if names != [MARK] else []:
+    for board in boards if names else []:
         if boards.count(board) > 1:
             raise Fault(f"two boards have the name {board}, so {MARK} can't tell them apart: {UNOPENED}")
 
@@ -265,9 +266,11 @@ def devices_of(words: Words, here: list[str]) -> list[str]:
         raise Fault(f"-P all: no /dev/ttyACM* or /dev/ttyUSB* is found now: {UNOPENED}")
     found = [name for device in words.devices for name in (here if device == "all" else [device])]
     paths = [os.path.realpath(name) for name in found]
-    for name, path in zip(found, paths):
-        if paths.count(path) > 1:
-            raise Fault(f"-P {name} is given twice: {UNOPENED}")
+    for at, (name, path) in enumerate(zip(found, paths)):
+        if path in paths[:at]:
+            first = found[paths.index(path)]
+            what = "is given twice" if first == name else f"is {first}, which is given, too"
+            raise Fault(f"-P {name} {what}: {UNOPENED}")
     if any(name.startswith("stdio:") for name in found):
         raise Fault(f"-P stdio: is for one board: {UNOPENED}")
     return found
