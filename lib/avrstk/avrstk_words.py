@@ -395,7 +395,7 @@ class Update:
             return f"is ELF, not the bytes of a memory{cure}"
         # (avrstk reports where records are that it can't read)
         if not held or begins and self.format != "r" and not (DATA.search(held) or MARKED.search(held)):
-            return "is empty (did its build fail?)"
+            return "has no data (did its build fail?)"
         end = END.search(held) if begins and self.format != "r" else None
         # (a note may be after the end, too)
         if end and any(RECORD.match(held, found.start()) for found in DATA.finditer(held, end.end())):
