@@ -537,7 +537,7 @@ def no_firmware():
         **dict.fromkeys(EMPTY, "has no data (did its build fail?)"),
     }
     why.update({name: f"is {what}, not firmware" for name, (_, what) in PACKED.items()})
-    joined = "has data after its end record, which are never read: join files by srec_cat, not one after the other"
+    joined = "has data after its end record, which would not be read; to join files use srec_cat"
     why.update(dict.fromkeys(JOINED, joined))
     why.update(
         {"lib.elf": "is an ar archive, not firmware"},

@@ -38,7 +38,8 @@ class Spec:
             raise Fault(f"--each {given}: no memory has this address")
         fields = {field[1] for field in FIELD.finditer(self.text)}
         if re.search("[{}]", FIELD.sub("", self.text)):
-            raise Fault(f"--each {given}: fields are like {{n}}, {{n:06}}, {{n:04X}}, or {{COLUMN}} of --rows")
+            fields_are = "fields are like {n}, {n:06}, {n:04X}, or {COLUMN} of --rows (a name without colon or braces)"
+            raise Fault(f"--each {given}: {fields_are}")
         if not fields:
             raise Fault(f"--each {given}: without a field such as {{n}} all boards get the same")
         unknown = sorted(fields - set(names))

@@ -17,7 +17,7 @@ import re
 import signal
 import time
 import traceback
-from typing import Any, Callable, NoReturn
+from typing import Any, Callable, NoReturn, Sized
 
 # what a name of a file has where each board's own name is put
 MARK = "{board}"
@@ -222,6 +222,10 @@ def side_by_side(boards: list[Board], live: Callable[[Words], int]) -> int:
     return 0 if all(board.outcome and board.outcome["status"] == 0 for board in boards) else 1
 
 
+def count_of(boards: Sized) -> str:
+    return f"{len(boards)} board{'s' * (len(boards) != 1)}"
+
+
 def table(words: Words, boards: list[Board]) -> None:
     """Prints what became of each board."""
     rows = [["board", *["number"] * bool(words.each), "time", "result"]]
@@ -233,7 +237,7 @@ def table(words: Words, boards: list[Board]) -> None:
     for row in rows:
         words.note("  ".join(cell.ljust(wide) for cell, wide in zip(row, widths)).rstrip())
     failed = sum(bool(board.outcome is None or board.outcome["status"]) for board in boards)
-    words.note(f"{len(boards)} boards: {len(boards) - failed} done, {failed} failed")
+    words.note(f"{count_of(boards)}: {len(boards) - failed} done, {failed} failed")
 
 
 def name_of(device: str) -> str:
@@ -317,7 +321,7 @@ def station(words: Words, here: list[str], prepare: Callable[[Words], None], liv
     try:
         devices, words.devices = words.devices, devices_of(words, here)
         if "all" in devices:
-            words.note(f"{len(words.devices)} boards: {', '.join(words.devices)}")
+            words.note(f"{count_of(words.devices)}: {', '.join(words.devices)}")
         boards = boards_of(words, prepare)
         heed_signals()
         if "--json" in words.last:
