@@ -40,7 +40,8 @@ READING = [f"reads {memory}" for memory in ("signature", "calibration", "fuses",
 WRITING = ["erases", "writes flash", "writes fuses", "writes lock"]
 SAFE, ALL = ["--try-rows"], ["--try-rows=all", "--yes"]
 BY_A_GOOD_LINE = " while the line changes no byte (version 1 has no checksums)"
-FIRMWARE = "under README's conditions, after a verified run with status 0 the chip holds the images"
+FIRMWARE = "under README's conditions, after a verified run with status 0 the chip holds the images "
+FIRMWARE += "(the last of overlapping ones)"
 COMPARED = "under README's conditions, after a run with status 0, each image that it compared after its last write is "
 COMPARED += "in the chip"
 UNTRIED = " if the programmer obeys no damaged frame, which was not tried"
@@ -361,6 +362,21 @@ def babbles():
     check("a board that prints without end: why", any("no valid reply to 01" in line for line in own), str(own))
 
 
+def read_along():
+    """Bytes that another program has read count as lost, and end no trial."""
+
+    def sent():
+        ours, _ = ends = serial.socket.socketpair()
+        ours.setblocking(False)
+        # (the bytes are there when the script waits for them, and gone when it reads)
+        found = iter([{ours}])
+        avrstk_rows.ready = lambda *_: next(found, set())
+        programmer = avrstk_rows.Programmer(lambda: ours)
+        return programmer.send(b"\1"), [end.close() for end in ends]
+
+    check_equal("no reply", boards.apart(sent)[0], None)
+
+
 def ends_early():
     """If the device goes away or no reply comes while something is changed, the last line has a command that restores
     it. After Ctrl-C the page is written back."""
@@ -644,7 +660,18 @@ def version1():
 
 CASES = named(
     *(emulated, faults_of_the_line, faults_of_a_chip, wrong, unseen),
-    *(babbles, ends_early, unreadable, no_trial, not_put_back, unreadable_later, refused, mega_2560, version1),
+    *(
+        babbles,
+        read_along,
+        ends_early,
+        unreadable,
+        no_trial,
+        not_put_back,
+        unreadable_later,
+        refused,
+        mega_2560,
+        version1,
+    ),
 )
 
 

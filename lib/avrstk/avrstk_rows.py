@@ -95,7 +95,11 @@ class Programmer:
                 raise Ended("a signal came")
             if not found:
                 break
-            piece = os.read(self.file.fileno(), 4096)
+            try:
+                piece = os.read(self.file.fileno(), 4096)
+            except BlockingIOError:
+                # (another program has read the bytes)
+                continue
             if not piece:
                 raise Ended("the device is gone")
             held += len(piece)
@@ -503,7 +507,8 @@ class Rows:
         if not self.chip or any(name in failed for name in KEPT) or len(unread) == len(READING):
             return "none"
         if not failed and None not in self.results.values() and not self.words.is_version1:
-            return "under README's conditions, after a verified run with status 0 the chip holds the images"
+            images = "the chip holds the images (the last of overlapping ones)"
+            return f"under README's conditions, after a verified run with status 0 {images}"
         limit = f" (not {', '.join(unread)})" if unread else ""
         limit += " while the line changes no byte (version 1 has no checksums)" * self.words.is_version1
         is_untried = self.results["damaged frame"] is None and not self.words.is_version1
