@@ -40,10 +40,11 @@ READING = [f"reads {memory}" for memory in ("signature", "calibration", "fuses",
 WRITING = ["erases", "writes flash", "writes fuses", "writes lock"]
 SAFE, ALL = ["--try-rows"], ["--try-rows=all", "--yes"]
 BY_A_GOOD_LINE = " while the line changes no byte (version 1 has no checksums)"
-FIRMWARE = "under README's conditions, after a verified run with status 0 the chip holds the images"
+FIRMWARE = "under README's conditions, after a verified run with status 0 the chip holds the images "
+FIRMWARE += "(the last of overlapping ones)"
 COMPARED = "under README's conditions, after a run with status 0, each image that it compared after its last write is "
 COMPARED += "in the chip"
-UNTRIED = " if it obeys no damaged frame, which was not tried"
+UNTRIED = " if the programmer obeys no damaged frame, which was not tried"
 TINY, FLASH, EEPROM = ["--parts", "tiny.toml", "-p", "tiny"], 2_048, 64
 room.keep("tiny.toml", boards.TINY.encode())
 # (the same sizes in hexadecimal)
@@ -361,6 +362,21 @@ def babbles():
     check("a board that prints without end: why", any("no valid reply to 01" in line for line in own), str(own))
 
 
+def read_along():
+    """Bytes that another program has read count as lost, and end no trial."""
+
+    def sent():
+        ours, _ = ends = serial.socket.socketpair()
+        ours.setblocking(False)
+        # (the bytes are there when the script waits for them, and gone when it reads)
+        found = iter([{ours}])
+        avrstk_rows.ready = lambda *_: next(found, set())
+        programmer = avrstk_rows.Programmer(lambda: ours)
+        return programmer.send(b"\1"), [end.close() for end in ends]
+
+    check_equal("no reply", boards.apart(sent)[0], None)
+
+
 def ends_early():
     """If the device goes away or no reply comes while something is changed, the last line has a command that restores
     it. After Ctrl-C the page is written back."""
@@ -458,8 +474,15 @@ def trying(what, act, words, status=1, **more):
     return rows_of(output), own
 
 
+def corrupt_and_silent(front, count):
+    """Returns a wrong programmer, which calls a command corrupt so often, and then gives it no reply."""
+    left = [b"\xb0\xc1"] * count
+    return lambda body, ask: (left.pop() if left else None) if body.startswith(front) else ask(body)
+
+
 def no_trial():
-    """Nothing is tried without a chip, after corrupt frames, or if the memories can't be saved. The line says why."""
+    """Nothing is tried without a chip, without its signature, after corrupt frames, or if the memories can't be saved.
+    The line says why."""
     small = {"preexec_fn": lambda: serial.resource.setrlimit(serial.resource.RLIMIT_FSIZE, (0, 0))}
     cases = [
         (
@@ -467,7 +490,10 @@ def no_trial():
             pretends(b"\x1b", b"\x1b\0\xff\0"),
             {},
         ),
+        ("the chip's signature can't be read, so nothing is tried", pretends(b"\x1b", b"\x1b\xc0"), {}),
         ("1A 04 58 00 00 00 was answered B0 C1", pretends(b"\x1a", b"\xb0\xc1"), {}),
+        ("1A 04 58 00 00 00 was answered B0 C1", corrupt_and_silent(b"\x1a", 3), {}),
+        ("no valid reply to 1A 04 58 00 00 00", corrupt_and_silent(b"\x1a", 0), {}),
         ("the memories can't be saved in this folder: File too large", lambda body, ask: ask(body), small),
     ]
     for why, act, more in cases:
@@ -517,7 +543,7 @@ def unreadable_later():
         return b"\x18\xc0" if body[:4] == b"\x18\4\x50\x08" else ask(body)
 
     found, _ = trying("no efuse", no_efuse, ALL, 0)
-    check_equal("no efuse: the row", found["writes fuses"], ("not tried", "what is written can't be read"))
+    check_equal("no efuse: the row", found["writes fuses"], ("not tried", "efuse can't be read"))
     check_equal("no efuse: what is read", found["reads fuses"][1], "62, D9, 18 04 50 08 00 00 was answered 18 C0")
     check_equal("no efuse: no fuse is written", (written, room.read("wrong.bin")), ([], CHIP))
 
@@ -634,7 +660,18 @@ def version1():
 
 CASES = named(
     *(emulated, faults_of_the_line, faults_of_a_chip, wrong, unseen),
-    *(babbles, ends_early, unreadable, no_trial, not_put_back, unreadable_later, refused, mega_2560, version1),
+    *(
+        babbles,
+        read_along,
+        ends_early,
+        unreadable,
+        no_trial,
+        not_put_back,
+        unreadable_later,
+        refused,
+        mega_2560,
+        version1,
+    ),
 )
 
 

@@ -534,10 +534,10 @@ def no_firmware():
     bytes (:r) is not."""
     why = {
         **dict.fromkeys(TEXTS, LIKE_TEXT),
-        **dict.fromkeys(EMPTY, "is empty (did its build fail?)"),
+        **dict.fromkeys(EMPTY, "has no data (did its build fail?)"),
     }
     why.update({name: f"is {what}, not firmware" for name, (_, what) in PACKED.items()})
-    joined = "has data after its end record, which are never read: join files by srec_cat, not one after the other"
+    joined = "has data after its end record, which would not be read; to join files use srec_cat"
     why.update(dict.fromkeys(JOINED, joined))
     why.update(
         {"lib.elf": "is an ar archive, not firmware"},

@@ -132,8 +132,8 @@ def listens():
         check_equal("it ends", server.end(), (0, ""))
     kept = kept_port()
     port = str(port_of(kept))
-    for part in ["m328p", "atmega328p", "ATmega328P"]:
-        with Serving(port=port, chip=["-p", part, "--chip", "chip.bin"]) as server:
+    for part, given in [("m328p", port), ("atmega328p", port), ("ATmega328P", port.zfill(12))]:
+        with Serving(port=given, chip=["-p", part, "--chip", "chip.bin"]) as server:
             check_equal("a port that is given", server.printed, f"serving at 127.0.0.1:{port}\n".encode())
             check_equal(f"the part {part}", server.writes_fuse(0x63), 0)
             check_equal("it ends too", server.end(), (0, ""))

@@ -38,7 +38,8 @@ class Spec:
             raise Fault(f"--each {given}: no memory has this address")
         fields = {field[1] for field in FIELD.finditer(self.text)}
         if re.search("[{}]", FIELD.sub("", self.text)):
-            raise Fault(f"--each {given}: fields are like {{n}}, {{n:06}}, {{n:04X}}, or {{COLUMN}} of --rows")
+            fields_are = "fields are like {n}, {n:06}, {n:04X}, or {COLUMN} of --rows (a name without colon or braces)"
+            raise Fault(f"--each {given}: {fields_are}")
         if not fields:
             raise Fault(f"--each {given}: without a field such as {{n}} all boards get the same")
         unknown = sorted(fields - set(names))
@@ -172,7 +173,7 @@ class Each:
     def last(self) -> tuple[int, str]:
         """Returns the greatest number, and what is wrong with a later one."""
         if self.rows is None:
-            return MOST, f"--counter {self.counter.given}: all numbers up to {MOST} are given"
+            return MOST, f"--counter {self.counter.given}: the next number is above {MOST}"
         return len(self.rows), f"--rows {self.file} has {len(self.rows)} rows, and the next number is greater"
 
     def judge(self, words: Words) -> None:
@@ -252,7 +253,7 @@ def table_of(file: str) -> tuple[list[str], list[list[str]]]:
     except (csv.Error, UnicodeDecodeError) as fault:
         raise Fault(f"--rows {file}: {fault}")
     if not names:
-        raise Fault(f"--rows {file}: the first line has to have the names of the columns")
+        raise Fault(f"--rows {file} has no line with the names of the columns")
     if len(set(names)) < len(names) or "n" in names:
         raise Fault(f"--rows {file}: each column needs a name of its own, other than n")
     if not rows:

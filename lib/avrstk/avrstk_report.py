@@ -168,7 +168,9 @@ def fault_of(place: str) -> str | None:
         return "is a folder"
     if not os.path.isdir(folder):
         return f"cannot be created: no folder {folder} can be reached"
-    return None if os.access(folder if is_file else place, os.W_OK) else "cannot be written"
+    if is_file:
+        return None if os.access(folder, os.W_OK) else f"cannot be written, since no file can be made in {folder}"
+    return None if os.access(place, os.W_OK) else "cannot be written"
 
 
 def write(place: str, report: dict[str, object]) -> bool:

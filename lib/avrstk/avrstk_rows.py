@@ -95,7 +95,11 @@ class Programmer:
                 raise Ended("a signal came")
             if not found:
                 break
-            piece = os.read(self.file.fileno(), 4096)
+            try:
+                piece = os.read(self.file.fileno(), 4096)
+            except BlockingIOError:
+                # (another program has read the bytes)
+                continue
             if not piece:
                 raise Ended("the device is gone")
             held += len(piece)
@@ -106,7 +110,7 @@ class Programmer:
 
     def ask(self, *step: bytes) -> bytes:
         """Sends a step at most four times, as avrstk does. Returns the last reply, or an earlier bad one."""
-        reply: Optional[bytes] = None
+        bad: Optional[bytes] = None
         for attempt in range(4):
             self.repeated += attempt > 0
             for body in step:
@@ -115,7 +119,8 @@ class Programmer:
                     break
             if reply is not None and reply != CORRUPT:
                 return reply
-        raise Ended(f"{hexed(*step)} was answered {hexed(reply)}" if reply else f"no valid reply to {hexed(*step)}")
+            bad = reply or bad
+        raise Ended(f"{hexed(*step)} was answered {hexed(bad)}" if bad else f"no valid reply to {hexed(*step)}")
 
 
 def sizes_of(words: Words) -> Dict[str, int]:
@@ -127,7 +132,7 @@ def sizes_of(words: Words) -> Dict[str, int]:
     if not lacking:
         return {name: int(value, 0) for name, value in found.items()}
     if words.parts_file is None and not parts():
-        raise Fault(f"--try-rows finds no sizes, because classic.toml is not there: {UNOPENED}")
+        raise Fault(f"--try-rows finds no sizes, because classic.toml is not there or empty: {UNOPENED}")
     if words.parts_file is None or not words.part:
         what = f"no part {words.part}" if words.part else "no part given (-p)"
         raise Fault(f"{what}: {no_part(words, None)}: {UNOPENED}")
@@ -269,7 +274,9 @@ class Rows:
         found, lock = b"".join(self.read("signature", at, 1) or b"" for at in range(3)), self.read("lock", 0, 1)
         if hexed(found) in NO_SIGNATURES:
             raise Ended(NO_CHIP)
-        if len(found) == 3 and found.hex() != (self.words.of_part("signature") or "").lower():
+        if len(found) < 3:
+            raise Ended("the chip's signature can't be read, so nothing is tried")
+        if found.hex() != (self.words.of_part("signature") or "").lower():
             raise Ended(f"the chip's signature is {hexed(found)}: is -p right?")
         if lock and lock[0] & 3 != 3:
             raise Ended(f"the chip is locked ({hexed(lock)}), so nothing is tried")
@@ -279,7 +286,7 @@ class Rows:
             self.save_all()
         except OSError as fault:
             raise Ended(f"the memories can't be saved in this folder: {fault.strerror}")
-        print_line(f"all memories that can be read are saved in {self.folder}")
+        print_line(f"each memory that was read whole is saved, as it was read, in {self.folder}")
 
     def lost_by_erase(self) -> List[str]:
         """Returns the memories that can't be restored after an erase, because they can't be read."""
@@ -358,8 +365,9 @@ class Rows:
         """Inverts bits of all but one byte of a page, and puts them back twice. Both ways of reading see the same."""
         held, fault, seen, unlike = self.chip["eeprom"], None, "", None
         if held is None or "reads EEPROM" in self.results:
-            self.leave_out("damaged frame", UNREAD)
-            return self.leave_out("writes EEPROM", UNREAD)
+            why = "eeprom can't be read" if held is None else UNREAD
+            self.leave_out("damaged frame", why)
+            return self.leave_out("writes EEPROM", why)
         old = held[self.cell : self.cell + self.part["eeprom_page"]]
         self.begin_to_change()
         self.damaged(self.writing("eeprom", self.cell, bytes(byte ^ 0x5A for byte in old))[-1])
@@ -424,7 +432,9 @@ class Rows:
         self.writes("writes flash", [("flash", page) for page in (one, one, other)], "twice, and another page over it")
         # (a part of which nothing is known may have no extended fuse)
         fuses = FUSES if self.words.parts_file is None or self.words.bits() else FUSES[:2]
-        self.writes("writes fuses", [(fuse, self.chip[fuse]) for fuse in fuses], "each with its own byte")
+        self.writes(
+            "writes fuses", [(fuse, self.chip[fuse]) for fuse in fuses], f"{', '.join(fuses)}, each with its own byte"
+        )
         # (a bit of the lock is cleared only if an erase has set it, or a bootloader can't clear it)
         values = [b"\xff", b"\xfe"] if is_erased or self.words.is_bootloader else [b"\xff"]
         self.writes("writes lock", [("lock", value) for value in values], f"with {hexed(*values)}")
@@ -432,8 +442,9 @@ class Rows:
 
     def writes(self, name: str, given: Sequence[Tuple[str, Optional[bytes]]], what: str) -> None:
         """Writes these bytes, one after another, up to the first fault."""
-        if any(self.chip[memory] is None for memory, _ in given):
-            return self.leave_out(name, "what is written can't be read")
+        unread = dict.fromkeys(memory for memory, _ in given if self.chip[memory] is None)
+        if unread:
+            return self.leave_out(name, f"{' and '.join(unread)} can't be read")
         fault, seen = None, ""
         for memory, data in given:
             if not fault:
@@ -460,7 +471,7 @@ class Rows:
             self.chip = self.whole()
             if self.chip == self.saved:
                 self.undo = ""
-                print_line("all memories that can be read are as before")
+                print_line("each memory that was read whole reads as before")
                 break
 
     def try_all(self) -> None:
@@ -496,11 +507,12 @@ class Rows:
         if not self.chip or any(name in failed for name in KEPT) or len(unread) == len(READING):
             return "none"
         if not failed and None not in self.results.values() and not self.words.is_version1:
-            return "under README's conditions, after a verified run with status 0 the chip holds the images"
+            images = "the chip holds the images (the last of overlapping ones)"
+            return f"under README's conditions, after a verified run with status 0 {images}"
         limit = f" (not {', '.join(unread)})" if unread else ""
         limit += " while the line changes no byte (version 1 has no checksums)" * self.words.is_version1
         is_untried = self.results["damaged frame"] is None and not self.words.is_version1
-        limit += " if it obeys no damaged frame, which was not tried" * is_untried
+        limit += " if the programmer obeys no damaged frame, which was not tried" * is_untried
         images = "each image that it compared after its last write is in the chip"
         return f"under README's conditions, after a run with status 0, {images}{limit}"
 

@@ -408,7 +408,7 @@ def door_of(places: list[str], options: Mapping[str, str], idle: float | None, c
         return Link(os.path.abspath(options["--pty"]) if command else options["--pty"])
     if len(places) != 1:
         raise Fault("one port is needed: avrstk-serve PORT -p PART --chip FILE")
-    if not re.fullmatch("[0-9]{1,9}", places[0]) or int(places[0]) > 65_535:
+    if not re.fullmatch("0*[0-9]{1,9}", places[0]) or int(places[0]) > 65_535:
         raise Fault(f"{places[0]}: not a port from 0 to 65535")
     return Port(options.get("--listen", "127.0.0.1"), int(places[0]), idle)
 
@@ -480,7 +480,7 @@ def judge(options: Mapping[str, str], client: list[str]) -> str:
     if re.search(r"[\udc80-\udcff]", chip):
         raise Fault(f"--chip {chip}: the name is not UTF-8")
     if parts is not None and not os.path.isfile(parts):
-        raise Fault(f"--parts {parts}: not a file that each client can read")
+        raise Fault(f"--parts {parts}: not a regular file that can be reached")
     if "--timeout" in options and not client:
         raise Fault("--timeout: no command after --")
     others = [option for option in REFUSED if option in options]

@@ -17,7 +17,7 @@ import re
 import signal
 import time
 import traceback
-from typing import Any, Callable, NoReturn
+from typing import Any, Callable, NoReturn, Sized
 
 # what a name of a file has where each board's own name is put
 MARK = "{board}"
@@ -94,10 +94,10 @@ class Board:
         """Waits for its process, and completes the outcome of one that was killed."""
         _, status = os.waitpid(self.number, 0)
         if self.outcome is None:
-            report, name = Report(), ""
+            report, how = Report(), "ended too early"
             if os.WIFSIGNALED(status):
-                name = f" by {signal.Signals(os.WTERMSIG(status)).name}"
-            report.stage, report.fault = "interrupted", f"its process was ended{name}"
+                how = f"was ended by {signal.Signals(os.WTERMSIG(status)).name}"
+            report.stage, report.fault = "interrupted", f"its process {how}"
             changes = self.words.changes()
             state = MAYBE_CHANGED if changes else UNCHANGED
             state += f", and may be in programming mode: {POWER_CYCLE}" * (not self.words.has_port)
@@ -222,6 +222,10 @@ def side_by_side(boards: list[Board], live: Callable[[Words], int]) -> int:
     return 0 if all(board.outcome and board.outcome["status"] == 0 for board in boards) else 1
 
 
+def count_of(boards: Sized) -> str:
+    return f"{len(boards)} board{'s' * (len(boards) != 1)}"
+
+
 def table(words: Words, boards: list[Board]) -> None:
     """Prints what became of each board."""
     rows = [["board", *["number"] * bool(words.each), "time", "result"]]
@@ -233,7 +237,7 @@ def table(words: Words, boards: list[Board]) -> None:
     for row in rows:
         words.note("  ".join(cell.ljust(wide) for cell, wide in zip(row, widths)).rstrip())
     failed = sum(bool(board.outcome is None or board.outcome["status"]) for board in boards)
-    words.note(f"{len(boards)} boards: {len(boards) - failed} done, {failed} failed")
+    words.note(f"{count_of(boards)}: {len(boards) - failed} done, {failed} failed")
 
 
 def name_of(device: str) -> str:
@@ -244,17 +248,18 @@ def name_of(device: str) -> str:
 def judge_outputs(words: Words) -> None:
     """Refuses outputs that several boards would write into."""
     reads = [update for update in words.updates if update.operation == "r"]
-    names = [update.file for update in reads if update.file not in ("-", os.devnull)] + [words.backup or MARK]
-    for name in names:
+    names = [(update.file, "file") for update in reads if update.file not in ("-", os.devnull)]
+    names += [] if words.backup is None else [(words.backup, "folder")]
+    for name, what in names:
         if MARK not in name:
-            raise Fault(f"{name}: each board needs a name of its own: give {MARK} in it: {UNOPENED}")
+            raise Fault(f"{name}: each board needs a {what} of its own, whose name has {MARK}: {UNOPENED}")
     if MARK in (words.restore or ""):
         raise Fault(f"--restore: several boards get one backup. For one of its own give each board alone: {UNOPENED}")
     for update in reads:
         if update.file == "-" and (update.format or "r") not in "dhob":
             raise Fault(f"-U {update.given}: of several boards only lists go to standard output (:h): {UNOPENED}")
     boards = [name_of(device) for device in words.devices]
-    for board in boards if names != [MARK] else []:
+    for board in boards if names else []:
         if boards.count(board) > 1:
             raise Fault(f"two boards have the name {board}, so {MARK} can't tell them apart: {UNOPENED}")
 
@@ -265,9 +270,11 @@ def devices_of(words: Words, here: list[str]) -> list[str]:
         raise Fault(f"-P all: no /dev/ttyACM* or /dev/ttyUSB* is found now: {UNOPENED}")
     found = [name for device in words.devices for name in (here if device == "all" else [device])]
     paths = [os.path.realpath(name) for name in found]
-    for name, path in zip(found, paths):
-        if paths.count(path) > 1:
-            raise Fault(f"-P {name} is given twice: {UNOPENED}")
+    for at, (name, path) in enumerate(zip(found, paths)):
+        if path in paths[:at]:
+            first = found[paths.index(path)]
+            what = "is given twice" if first == name else f"is {first}, which is given, too"
+            raise Fault(f"-P {name} {what}: {UNOPENED}")
     if any(name.startswith("stdio:") for name in found):
         raise Fault(f"-P stdio: is for one board: {UNOPENED}")
     return found
@@ -314,7 +321,7 @@ def station(words: Words, here: list[str], prepare: Callable[[Words], None], liv
     try:
         devices, words.devices = words.devices, devices_of(words, here)
         if "all" in devices:
-            words.note(f"{len(words.devices)} boards: {', '.join(words.devices)}")
+            words.note(f"{count_of(words.devices)}: {', '.join(words.devices)}")
         boards = boards_of(words, prepare)
         heed_signals()
         if "--json" in words.last:

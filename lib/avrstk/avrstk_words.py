@@ -395,16 +395,14 @@ class Update:
             return f"is ELF, not the bytes of a memory{cure}"
         # (avrstk reports where records are that it can't read)
         if not held or begins and self.format != "r" and not (DATA.search(held) or MARKED.search(held)):
-            return "is empty (did its build fail?)"
+            return "has no data (did its build fail?)"
         end = END.search(held) if begins and self.format != "r" else None
         # (a note may be after the end, too)
         if end and any(RECORD.match(held, found.start()) for found in DATA.finditer(held, end.end())):
-            return (
-                "has data after its end record, which are never read: join files by srec_cat, not one after the other"
-            )
+            return "has data after its end record, which would not be read; to join files use srec_cat"
         if self.format == "e" or is_detected and not packed_as(front) and self.file.lower().endswith(OF_ELF):
             form = form_of(held)
-            cure = f": it has {FORMATS[form]}: give {self.given_as(form)}" if form else ""
+            cure = f": it has {FORMATS[form]}: give {self.given_as(form)}" if form and self.memory in MEMORIES else ""
             return f"is not ELF{', despite its name' * (self.format != 'e')}{cure}"
         return self.fault_of_detected(front) if is_detected else None
 
