@@ -9,6 +9,7 @@ Not proved: No proof covers avrstk-serial, which is Python.
 """
 
 import copy
+import functools
 import os
 import random
 import re
@@ -24,10 +25,14 @@ from cases import TOP, check, named, run_cases
 given, sys.argv[0] = sys.argv[0], str(TOP / "avrstk-serial")
 sys.path.insert(0, str(TOP / "lib/avrstk"))
 import avrstk_hints as hints  # noqa: E402
+import avrstk_words  # noqa: E402
 from avrstk_report import Report  # noqa: E402
 from avrstk_words import FUSES, Words  # noqa: E402
 
 sys.argv[0] = given
+# (files are read once)
+avrstk_words.rows_of = functools.lru_cache(avrstk_words.rows_of)
+Words.of_file = functools.lru_cache(Words.of_file)
 
 # the memories, each with its length here, values to write, and the command that writes it (none if it is read-only)
 MEMORIES = {
@@ -71,6 +76,11 @@ class Chip:
         self.lost, self.is_done, self.fault, self.is_in_mode, self.count = 0, False, FAULTS[0], False, 0
         # why memories may not hold what was written last
         self.why = {}
+
+    def copied(self):
+        other = copy.copy(self)
+        other.held = dict(self.held)
+        return other
 
     def reply(self, outcome, command, act=lambda: None):
         """Does a command, unless that fails."""
@@ -177,11 +187,16 @@ def drawn(draw):
     return words
 
 
-def words_of(given):
+@functools.lru_cache(64)
+def parsed(given):
     words = Words(["-p", "m328p", "-P", "/dev/ttyACM0", *given], Report())
     # (each image begins at 0)
     words.flash_pages = lambda: [(0, 128) for update in words.updates if update.writes_flash()]
     return words
+
+
+def words_of(given):
+    return parsed(tuple(given))
 
 
 def without(given, named):
@@ -215,7 +230,9 @@ def advised(given, plan, text):
         return without(plan, " and ".join("the first " * (lock == locks[-1]) + f"-U {lock}" for lock in locks[:-1]))
     if "leave out -D, and give all that is to be written" in text:
         return [word for word in plan if word != "-D"]
-    return [*["-D"] * bool(again[1]), *without(given, again[2] or "")] if again else None
+    if again:
+        return [*["-D"] * bool(again[1]), *without(given, again[2] or "")]
+    return [*given, "-e"] if "nly an erase (-e) removes a lock" in text else None
 
 
 def parted(hint):
@@ -278,7 +295,7 @@ def untrue(hint, outcome, before, files, chip, whole):
 def asked(given, old, is_warned, held):
     """Whether the chip holds what a command asks for, and else what it held before. If a hint warned that an erase may
     clear EEPROM, either will do."""
-    words, wanted = words_of(given), copy.deepcopy(old)
+    words, wanted = words_of(given), old.copied()
     wanted.why = {}
     if hints.erases(words):
         wanted.erase()
@@ -297,10 +314,10 @@ def asked(given, old, is_warned, held):
 
 def followed(given, old, whole, fault):
     """Makes a run with a fault, and follows the hints. Returns how it ended, and how many hints were judged."""
-    chip, files, said, plan = copy.deepcopy(old), {}, [], given
+    chip, files, said, plan = old.copied(), {}, [], given
     chip.lost, chip.is_done, chip.fault = fault
     for _ in range(6):
-        before = copy.deepcopy(chip.held)
+        before = dict(chip.held)
         outcome = chip.run(words_of(given), files)
         if not outcome.status:
             break
@@ -317,6 +334,8 @@ def followed(given, old, whole, fault):
         if re.search("give it last|give all that is to be written|give one value", text):
             # (the order, and the erase, are those of the hint)
             plan, whole = given, None
+        elif "nly an erase (-e) removes a lock" in text:
+            plan, whole = [*with_lock_last(plan), "-e"], None
     else:
         return f"no end: {said}", said
     if whole is not None:
@@ -330,13 +349,13 @@ def followed(given, old, whole, fault):
 
 def each_fault():
     """Draws commands, and gives each command of a run a fault in turn, before or after the command is done."""
-    seed, ends = random.randrange(1_000_000), time.monotonic() + float(os.environ.get("SECONDS", 3))
+    seed, ends = random.randrange(1_000_000), time.process_time() + float(os.environ.get("SECONDS", 3))
     seed = int(os.environ.get("SEED", seed))
     draw, count, kinds = random.Random(seed), 0, set()
     print(f"SEED {seed}", flush=True)
-    while time.monotonic() < ends:
+    while time.process_time() < ends:
         given, old, files = drawn(draw), Chip(draw), {}
-        chip = copy.deepcopy(old)
+        chip = old.copied()
         is_whole = not chip.run(words_of(given), files).status
         whole = (chip.held, files) if is_whole else None
         cases = [(lost, done, fault) for lost in range(1, chip.count + 1) for done in (False, True) for fault in FAULTS]

@@ -534,13 +534,18 @@ def no_firmware():
     bytes (:r) is not."""
     why = {
         **dict.fromkeys(TEXTS, LIKE_TEXT),
-        **dict.fromkeys(EMPTY, "is empty (did its build fail?)"),
+        **dict.fromkeys(EMPTY, "has no data (did its build fail?)"),
     }
-    why.update({name: f"is {what}, not firmware" for name, (_, what) in PACKED.items()})
+    why.update(
+        {
+            name: f"begins like {what}: give it as raw bytes (:r) only if its bytes are meant"
+            for name, (_, what) in PACKED.items()
+        }
+    )
     joined = "has data after its end record, which are never read: join files by srec_cat, not one after the other"
     why.update(dict.fromkeys(JOINED, joined))
     why.update(
-        {"lib.elf": "is an ar archive, not firmware"},
+        {"lib.elf": "begins like an ar archive: give it as raw bytes (:r) only if its bytes are meant"},
         **{
             "a.out": "is not ELF, despite its name",
             "note.ELF": "is not ELF, despite its name: it has Intel HEX: give ",

@@ -110,7 +110,10 @@ def again(run: Outcome) -> str:
     repeats = erases(words) and not loses
     left = [one for at, one in enumerate(run.done()) if not repeats or at < first.get(one.memory, 0)]
     base = updates if words.each is None or words.each.base is None else words.each.base
-    is_each = any(update not in base for update in left)
+    own = [update for update in updates if update not in base]
+    # (one number is for all of them)
+    is_each = bool(own) and all(update in left for update in own)
+    left = [update for update in left if is_each or update not in own]
     # (the same may be given once more, later)
     later = {update.given for update in updates if update not in left}
     given = [

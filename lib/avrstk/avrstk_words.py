@@ -395,7 +395,7 @@ class Update:
             return f"is ELF, not the bytes of a memory{cure}"
         # (avrstk reports where records are that it can't read)
         if not held or begins and self.format != "r" and not (DATA.search(held) or MARKED.search(held)):
-            return "is empty (did its build fail?)"
+            return "has no data (did its build fail?)"
         end = END.search(held) if begins and self.format != "r" else None
         # (a note may be after the end, too)
         if end and any(RECORD.match(held, found.start()) for found in DATA.finditer(held, end.end())):
@@ -416,7 +416,7 @@ class Update:
         """Returns why a file whose format is detected is no image, by its first bytes; None if it is one."""
         packed = packed_as(front)
         if packed:
-            return f"is {packed}, not firmware"
+            return f"begins like {packed}: give it as raw bytes (:r) only if its bytes are meant"
         if RECORD.match(front) or not (is_text(front, 20) or self.memory == "flash" and is_text(front.strip(b"\0"), 2)):
             return None
         cure = "give it as raw bytes (:r) only if its characters are meant"
