@@ -174,7 +174,8 @@ def hint(run: Outcome, number: int | None) -> str:
     speed, others = f"the speed (-b {words.baud})", f"{other_kinds(words)}. USBasp needs avrdude"
     # (Arduino as ISP and other programmers need no reset)
     needs_reset = words.is_bootloader or not words.is_version1
-    resets = "that the board resets when the port opens (else press reset right after starting)" * needs_reset
+    resets = "that a bootloader's board resets when the port opens (else press reset right after starting)"
+    resets = resets * needs_reset
     if run.is_noisy:
         why = f"the device sends data, but no valid reply: often its application is running, or {speed} is wrong"
         return f"{why}. Check {resets}. {others}" if resets else f"{why}. {others}"
@@ -274,7 +275,7 @@ def too_far(words: Words, update: Update, address: int) -> str:
     if update.memory in ("signature", "calibration"):
         return f"{update.memory} has {'3 bytes' if update.memory == 'signature' else '1 byte'}"
     if 0x810000 <= address < SIGNATURE + 3:
-        return f"it has an address that ELF gives to another memory: give the ELF file itself, as {own}:NAME.elf"
+        return f"it has an address as ELF files have: give the ELF file itself, as {own}:NAME.elf"
     if update.memory in FUSES:
         return f"{update.memory} has 1 byte: give its value, as {own}:0xNN:m"
     size = words.field(f"{update.memory}_size")
