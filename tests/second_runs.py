@@ -5,7 +5,7 @@ run does, or the chip as the command asks for if a whole run fails.
 
 Not proved: No proof covers avrstk-serial, which is Python.
 
-    tests/second_runs.py [CASE ..]        needs no built program; SECONDS=N draws for N seconds
+    tests/second_runs.py [CASE ..]        needs no built program; SECONDS=N draws for N seconds of CPU; SEED=N
 """
 
 import copy
