@@ -561,7 +561,7 @@ def refused():
         f"{at} --try-rows -U lfuse:r:-:h": "--try-rows tries a programmer, and takes no -U",
         f"{at} --try-rows --json report": "--try-rows tries a programmer, and takes no --json",
         "-P emu:chip.bin -p m328p --try-rows": "--try-rows is for a serial device, not -P emu:chip.bin",
-        "-P /dev/null -p nosuch --try-rows": "no part nosuch: -p '?' lists the parts; others with ISP need a part file",
+        "-P /dev/null -p nosuch --try-rows": "no part nosuch: -p '?' lists the parts; others need a part file",
         "-P /dev/null --try-rows": "no part given (-p): -p '?' lists the parts, and -p auto finds one whose signature",
         "-P /dev/null --parts one.toml -p c-chip --try-rows": f"{lacks}c-chip in one.toml: give a file with these in a "
         "table [parts.c-chip]: nothing was sent",

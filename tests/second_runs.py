@@ -1,18 +1,22 @@
 #!/usr/bin/env python3
-"""Follows what avrstk-serial advises after a lost reply, on a small model of a chip. The second run has to leave the
-chip and the files as one whole run does.
+"""Follows what avrstk-serial advises after a failed run, on a small model of a chip and its programmer. What a hint
+says of the chip has to be true of the model. The runs that it advises have to leave the chip and the files as one whole
+run does, or the chip as the command asks for if a whole run fails.
 
 Not proved: No proof covers avrstk-serial, which is Python.
 
-    tests/second_runs.py [CASE ..]        needs no built program; SECONDS=N draws for N seconds
+    tests/second_runs.py [CASE ..]        needs no built program; SECONDS=N draws for N seconds of CPU; SEED=N
 """
 
 import copy
+import functools
 import os
 import random
 import re
 import shlex
+import signal
 import sys
+import tempfile
 import time
 
 from cases import TOP, check, named, run_cases
@@ -21,110 +25,178 @@ from cases import TOP, check, named, run_cases
 given, sys.argv[0] = sys.argv[0], str(TOP / "avrstk-serial")
 sys.path.insert(0, str(TOP / "lib/avrstk"))
 import avrstk_hints as hints  # noqa: E402
+import avrstk_words  # noqa: E402
 from avrstk_report import Report  # noqa: E402
-from avrstk_words import Words  # noqa: E402
+from avrstk_words import FUSES, Words  # noqa: E402
 
 sys.argv[0] = given
+# (files are read once)
+avrstk_words.rows_of = functools.lru_cache(avrstk_words.rows_of)
+Words.of_file = functools.lru_cache(Words.of_file)
 
-# the memories, each with its length here, values to write, and the command that writes it
+# the memories, each with its length here, values to write, and the command that writes it (none if it is read-only)
 MEMORIES = {
     "flash": (3, [0xFF, 0x5A, 0x50, 0xAA], 0x13),
     "eeprom": (3, [0xFF, 0x11, 0x5A, 0xAA], 0x15),
     "lfuse": (1, [0x62, 0xE2], 0x17),
     "hfuse": (1, [0xD9, 0xD1], 0x17),
     "lock": (1, [0xFF, 0xFE, 0xFC, 0xFD], 0x19),
+    "calibration": (1, [0x9A], 0),
 }
 # what a locked chip reads
 HIDDEN = 0xAA
+# a part file of one's own, with which less is known
+PARTS = tempfile.NamedTemporaryFile("w", suffix=".toml")
+print('[parts]\nm328p = { signature = "1E950F", flash_size = 32768, eesave_bit = 3 }', file=PARTS, flush=True)
+
+# what goes wrong with a command: the error of avrstk, and whether the programmer replies to LEAVE then (None if it is
+# not sent). A signal ends the run without an error
+FAULTS = [
+    ("no answer", True),
+    ("no answer", False),
+    ("link ended", None),
+    ("", None),
+    ("command {:02X} refused with status C0", True),
+    ("command {:02X} refused with status C1", True),
+]
 
 
-class Lost(Exception):
-    """A reply didn't come."""
-
-
-class Unlike(Exception):
-    """A comparison failed."""
+class Stopped(Exception):
+    """The run stops, with this error."""
 
 
 class Chip:
-    """A chip and its programmer. The reply to command number `lost` is lost; then it was done or not, by `is_done`."""
+    """A chip and its programmer. Command number `lost` has this fault; then it was done or not, by `is_done`."""
 
     def __init__(self, draw):
         self.held = {
             memory: [draw.choice(values) for _ in range(size)] for memory, (size, values, _) in MEMORIES.items()
         }
         self.held["lock"] = [draw.choice([0xFF, 0xFF, 0xFE, 0xFC])]
-        self.lost, self.is_done, self.commands, self.count = 0, False, {0x01, 0x10, 0x1B}, 0
+        self.lost, self.is_done, self.fault, self.is_in_mode, self.count = 0, False, FAULTS[0], False, 0
+        # why memories may not hold what was written last
+        self.why = {}
 
-    def reply(self, command, act):
+    def copied(self):
+        other = copy.copy(self)
+        other.held = dict(self.held)
+        return other
+
+    def reply(self, outcome, command, act=lambda: None):
         """Does a command, unless that fails."""
         self.count += 1
-        self.commands.add(command)
+        outcome.commands.add(command)
+        outcome.is_held |= command == hints.ENTER
         if self.count != self.lost or self.is_done:
             act()
         if self.count == self.lost:
-            raise Lost
+            raise Stopped(self.fault[0].format(command))
+
+    def enter(self):
+        self.is_in_mode = True
+
+    def leave(self):
+        self.is_in_mode = False
+
+    def keeps(self):
+        return self.held["hfuse"][0] & 8 == 0
 
     def erase(self):
-        keeps = self.held["hfuse"][0] & 8 == 0
-        self.held.update({"flash": [0xFF] * 3, "lock": [0xFF]}, **{} if keeps else {"eeprom": [0xFF] * 3})
+        eeprom = self.held["eeprom"] if self.keeps() else [0xFF] * 3
+        self.held.update({"flash": [0xFF] * 3, "lock": [0xFF], "eeprom": eeprom})
 
-    def write(self, memory, values):
-        lock = self.held["lock"][0]
-        if memory == "lock" and lock & 2:
-            self.held["lock"] = [lock & values[0]]
-        elif memory != "lock" and lock & 1:
-            old = self.held[memory]
-            new = [one & other for one, other in zip(old, values)] if memory == "flash" else values
-            self.held[memory] = [*new, *old[len(new) :]]
+    def write(self, memory, at, value):
+        lock, old = self.held["lock"][0], self.held[memory][at]
+        new = old & value if memory in ("flash", "lock") else value
+        if not lock & (2 if memory == "lock" else 1):
+            new, self.why[memory] = old, "a lock"
+        elif new != value:
+            self.why[memory] = "a lock" if memory == "lock" else "old bits"
+        self.held[memory] = [*self.held[memory][:at], new, *self.held[memory][at + 1 :]]
 
     def read(self, memory):
         is_hidden = memory in ("flash", "eeprom") and not self.held["lock"][0] & 2
+        if is_hidden:
+            self.why[memory] = "a lock"
         return [HIDDEN] * 3 if is_hidden else self.held[memory]
 
-    def compare(self, update, values):
+    def compare(self, outcome, update, values):
         """Reads a memory, and compares it with values."""
-        self.reply(0x14, lambda: None)
-        if self.read(update.memory)[: len(values)] != values:
-            raise Unlike
+        self.reply(outcome, 0x14)
+        for at, (wanted, held) in enumerate(zip(values, self.read(update.memory))):
+            if wanted != held:
+                raise Stopped(f"{update.memory}: address {at:08X}: {wanted:02X} expected, {held:02X} found")
+
+    def update(self, outcome, update, files):
+        """Does an update."""
+        words, memory = outcome.words, update.memory
+        values = [] if update.operation == "r" else values_of(update)
+        is_dry = update.operation == "w" and "-n" in words.flags
+        if update.operation == "r":
+            self.reply(outcome, 0x14, lambda: files.update({update.file: self.read(memory)}))
+        elif update.operation == "v":
+            self.compare(outcome, update, values)
+        elif not is_dry:
+            for at, value in enumerate(values):
+                self.reply(outcome, MEMORIES[memory][2], lambda: self.write(memory, at, value))
+            if "-V" not in words.flags:
+                outcome.steps += 1
+                self.compare(outcome, update, values)
+        outcome.steps += 1
 
     def run(self, words, files):
-        """Makes a run. Returns whether no reply was lost, and how many lines report the erase and what updates did."""
-        steps, verifies = 0, "-V" not in words.flags
+        """Makes a run. Returns what the script knows of it; the status is 0 if all was done."""
+        outcome, is_left = hints.Outcome(words, was_opened=True), True
+        self.why = {}
         try:
+            self.reply(outcome, hints.SIGN_ON)
+            self.reply(outcome, hints.ENTER, self.enter)
+            self.reply(outcome, 0x1B)
             if hints.erases(words):
-                self.reply(0x12, self.erase)
-                steps += 1
+                self.reply(outcome, 0x12, self.erase)
+                outcome.steps += 1
             for update in words.updates:
-                values = [] if update.operation == "r" else [int(value, 0) for value in update.file.split(",")]
-                if update.operation == "r":
-                    self.reply(0x14, lambda: files.update({update.file: self.read(update.memory)}))
-                elif update.operation == "v":
-                    self.compare(update, values)
-                else:
-                    self.reply(MEMORIES[update.memory][2], lambda: self.write(update.memory, values))
-                    steps += verifies
-                    if verifies:
-                        self.compare(update, values)
-                steps += 1
-        except Lost:
-            return False, steps
-        return True, steps
+                self.update(outcome, update, files)
+            outcome.status = 0
+        except Stopped as fault:
+            outcome.error = str(fault)
+            is_left = self.fault[1] if self.count == self.lost else True
+        try:
+            if is_left is not None:
+                self.reply(outcome, hints.LEAVE, self.leave if is_left else lambda: None)
+                outcome.is_held &= not is_left
+        except Stopped as fault:
+            outcome.error, outcome.left_at_error, outcome.status = str(fault), bool(str(fault)), 1
+        return outcome
+
+
+def values_of(update):
+    return [int(value, 0) for value in update.file.split(",")]
 
 
 def drawn(draw):
-    """Returns the options of a command with one to four updates, some of them equal."""
-    words = [option for option in ("-e", "-D", "-V") if draw.random() < 0.3]
-    for number in range(draw.randint(1, 4)):
-        memory, operation = draw.choice(list(MEMORIES)), draw.choice("wwwvr")
-        size, values, _ = MEMORIES[memory]
+    """Returns the options of a command with up to four updates, some of them equal."""
+    words = [option for option in ("-e", "-D", "-V") if draw.random() < 0.3] + ["-n"] * (draw.random() < 0.05)
+    words += draw.choice([[], [], [], ["-c", "arduino_as_isp"], ["--parts", PARTS.name]])
+    for number in range(draw.randint(0 if "-e" in words else 1, 4)):
+        memory = draw.choice([*MEMORIES, "flash", "eeprom", "hfuse", "lock"])
+        size, values, command = MEMORIES[memory]
+        operation = draw.choice("wwwvr" if command else "vr")
         held = ",".join(f"0x{draw.choice(values):02X}" for _ in range(draw.randint(1, size)))
         words += ["-U", f"{memory}:r:{number}:h" if operation == "r" else f"{memory}:{operation}:{held}:m"]
     return words
 
 
+@functools.lru_cache(64)
+def parsed(given):
+    words = Words(["-p", "m328p", "-P", "/dev/ttyACM0", *given], Report())
+    # (each image begins at 0)
+    words.flash_pages = lambda: [(0, 128) for update in words.updates if update.writes_flash()]
+    return words
+
+
 def words_of(given):
-    return Words(["-p", "m328p", "-P", "/dev/ttyACM0", *given], Report())
+    return parsed(tuple(given))
 
 
 def without(given, named):
@@ -140,48 +212,160 @@ def without(given, named):
     return left
 
 
-def followed(given, chip, lost, is_done):
-    """Loses a reply, and follows the hint. Returns the chip and the files then; None if there was no such command, or
-    no hint to run the command again."""
-    words, files = words_of(given), {}
-    chip.lost, chip.is_done = lost, is_done
-    is_whole, steps = chip.run(words, files)
-    outcome = hints.Outcome(words, commands={*chip.commands, 0x11}, steps=steps, error="no answer", was_opened=True)
-    hint = hints.hint(outcome, None)
-    if is_whole or hint.startswith("everything was done") or hint.endswith("the chip is unchanged"):
-        return None
-    again = re.search(r"run the same command again( with -D)?(?:,? without (.*))?$", hint)
-    if not check(f"{given}: it may be run again: {hint}", again):
-        return None
-    chip.lost = 0
-    chip.run(words_of([*["-D"] * bool(again[1]), *without(given, again[2] or "")]), files)
-    return chip.held, files
+def with_lock_last(given):
+    """Returns the command with its locks at the end."""
+    locks = [word for word in given if word.startswith("lock:w:")]
+    left = without(given, " and ".join(f"-U {lock}" for lock in locks))
+    return [*left, *[word for lock in locks for word in ("-U", lock)]]
 
 
-def each_lost_reply():
-    """Draws commands, and loses each reply of a run in turn, before or after the command is done."""
-    seed, ends = random.randrange(1_000_000), time.monotonic() + float(os.environ.get("SECONDS", 3))
-    draw, count = random.Random(seed), 0
+def advised(given, plan, text):
+    """Returns the command that a hint advises for a programmer; None if it advises none. `plan` is the whole command,
+    which has what was left out, too."""
+    again = re.search(r"run the same command again( with -D)?(?:,? without (.*))?$", text)
+    if "give it last" in text or "With -e give all that is to be written, the lock last" in text:
+        return [*with_lock_last(plan), *["-e"] * ("nly an erase (-e)" in text)]
+    if "given twice: give one value" in text:
+        locks = [word for word in plan if word.startswith("lock:w:")]
+        return without(plan, " and ".join("the first " * (lock == locks[-1]) + f"-U {lock}" for lock in locks[:-1]))
+    if "leave out -D, and give all that is to be written" in text:
+        return [word for word in plan if word != "-D"]
+    if again:
+        return [*["-D"] * bool(again[1]), *without(given, again[2] or "")]
+    return [*given, "-e"] if "nly an erase (-e) removes a lock" in text else None
+
+
+def parted(hint):
+    """Returns what a hint says to do, and what to do if that fails again."""
+    now, _, later = re.split(
+        r"(; if it (?:fails again|always fails at the same address|refuses again), |$)", hint, maxsplit=1
+    )
+    return now, later
+
+
+def untrue(hint, outcome, before, files, chip, whole):
+    """Returns what of a hint isn't true of the model; None if all is. `before` is the chip before the run, and `whole`
+    the chip and the files after a whole run, None if that fails."""
+    words, updates = outcome.words, outcome.words.updates
+    lacks, held = re.match(r"(\w+): address (\w+): (\w+) exp", outcome.error), chip.held
+    writes = [update for update in updates if update.operation == "w"]
+    locks = [at for at, update in enumerate(updates) if update.writes("lock")]
+    says = {
+        "the chip is unchanged": held == before,
+        "nothing was written": held == before,
+        "nothing was sent": not outcome.commands,
+        "the device was not opened": False,
+        "everything was done": whole is None or (held, files) == whole,
+        "only the session's end failed": hints.LEAVE in outcome.commands or outcome.begun() > len(updates),
+        "may be erased or partly written": hints.CHANGING & outcome.commands,
+        "no valid reply": outcome.commands <= {hints.SIGN_ON, hints.LEAVE},
+        "no further valid reply": hints.SIGN_ON in outcome.commands,
+        "flash was not erased": 0x12 not in outcome.commands,
+        "since another erase": hints.erases(words) and any(update.writes("hfuse") for update in updates),
+        "another erase": hints.erases(words),
+        "The next erase": hints.erases(words),
+        "-U lock": not re.search("-U lock (comes|was given)", hint) or locks and locks[0] < len(updates) - 1,
+        "given twice": len(locks) > 1,
+        "two images": sum(update.writes_flash() for update in updates) > 1,
+        "only bits that": False,
+        "bits that this part lacks": False,
+        "programming mode": outcome.is_held,
+        # (a bootloader does nothing of these)
+        "can't erase the chip: ": not [one for one in writes if one.memory in FUSES]
+        and not [one for one in updates if one.memory == "calibration"],
+        "leave out -e": "-e" in words.flags,
+        "use -D": any(update.writes_flash() for update in writes) and "-D" not in words.flags or "-e" in words.flags,
+    }
+    for text, is_so in says.items():
+        if text in hint and not is_so:
+            return text
+    if chip.is_in_mode and not re.search("programming mode|ower-cycle", hint):
+        return "it doesn't say that the chip is in programming mode"
+    if not lacks:
+        return None
+    memory, at = lacks[1], int(lacks[2], 16)
+    other = f"{memory} holds something else than "
+    if other in hint and held[memory][at] == int(lacks[3], 16) and "or the lock hides it" not in hint:
+        return other
+    causes = {"a lock": "lock", "old bits": "old bytes may remain|two images may overlap"}
+    why = chip.why.get(memory)
+    return None if other in hint or not why or re.search(causes[why], hint) else f"it doesn't name the cause, {why}"
+
+
+def asked(given, old, is_warned, held):
+    """Whether the chip holds what a command asks for, and else what it held before. If a hint warned that an erase may
+    clear EEPROM, either will do."""
+    words, wanted = words_of(given), old.copied()
+    wanted.why = {}
+    if hints.erases(words):
+        wanted.erase()
+    for update in words.updates:
+        if update.operation == "w" and "-n" not in words.flags:
+            values = values_of(update)
+            wanted.held[update.memory] = [*values, *wanted.held[update.memory][len(values) :]]
+    either = [wanted.held]
+    for eeprom in [[0xFF] * 3, old.held["eeprom"]] if is_warned else []:
+        for update in words.updates:
+            if update.writes("eeprom"):
+                eeprom = [*values_of(update), *eeprom[len(values_of(update)) :]]
+        either.append({**wanted.held, "eeprom": eeprom})
+    return held in either
+
+
+def followed(given, old, whole, fault):
+    """Makes a run with a fault, and follows the hints. Returns how it ended, and how many hints were judged."""
+    chip, files, said, plan = old.copied(), {}, [], given
+    chip.lost, chip.is_done, chip.fault = fault
+    for _ in range(6):
+        before = dict(chip.held)
+        outcome = chip.run(words_of(given), files)
+        if not outcome.status:
+            break
+        hint = hints.hint(outcome, None if outcome.error else signal.SIGINT)
+        false = untrue(hint, outcome, before, files, chip, whole)
+        if false:
+            return f"not true: {false}: {hint}", said
+        now, later = parted(hint)
+        text, chip.lost = [now, later, ""][min(said.count(hint), 2)], 0
+        said.append(hint)
+        given = advised(given, plan, text) if text else None
+        if given is None:
+            return (f"no way on: {said}" if re.search("the same command again", text) or not text else None), said
+        if re.search("give it last|give all that is to be written|give one value", text):
+            # (the order, and the erase, are those of the hint)
+            plan, whole = given, None
+        elif "nly an erase (-e) removes a lock" in text:
+            plan, whole = [*with_lock_last(plan), "-e"], None
+    else:
+        return f"no end: {said}", said
+    if whole is not None:
+        return (None if (chip.held, files) == whole else f"{said}: {chip.held}, {files} in place of {whole}"), said
+    is_warned = any(re.search("clears EEPROM, too|and EEPROM unless", hint) for hint in said)
+    # (without comparisons nothing shows that a lock protects a memory)
+    is_shown = "-V" not in plan and not [word for word in plan if re.match("lock:w", word)][1:]
+    is_right = not is_shown or asked(plan, old, is_warned, chip.held)
+    return (None if is_right else f"{said}: {chip.held} is not what {plan} asks for"), said
+
+
+def each_fault():
+    """Draws commands, and gives each command of a run a fault in turn, before or after the command is done."""
+    seed, ends = random.randrange(1_000_000), time.process_time() + float(os.environ.get("SECONDS", 3))
+    seed = int(os.environ.get("SEED", seed))
+    draw, count, kinds = random.Random(seed), 0, set()
     print(f"SEED {seed}", flush=True)
-    while time.monotonic() < ends:
+    while time.process_time() < ends:
         given, old, files = drawn(draw), Chip(draw), {}
-        whole = copy.deepcopy(old)
-        try:
-            whole.run(words_of(given), files)
-        except Unlike:
-            continue
-        for lost in range(1, whole.count + 1):
-            for is_done in (False, True):
-                case = f"{given} {old.held}, reply {lost}, {is_done}"
-                try:
-                    found = followed(given, copy.deepcopy(old), lost, is_done)
-                except Unlike:
-                    found = "a comparison failed"
-                if found:
-                    check(case, found == (whole.held, files), (found, whole.held, files))
-                    count += 1
-    check(f"{count} second runs", count > 100)
+        chip = old.copied()
+        is_whole = not chip.run(words_of(given), files).status
+        whole = (chip.held, files) if is_whole else None
+        cases = [(lost, done, fault) for lost in range(1, chip.count + 1) for done in (False, True) for fault in FAULTS]
+        for fault in [*draw.sample(cases, min(len(cases), 12)), (0, False, FAULTS[0])]:
+            found, said = followed(given, old, whole, fault)
+            check(f"{given} {old.held}, {fault}", not found, found)
+            kinds.update(re.sub(r"0x\w+|[-\w]+:[rwv]:\S+|\w+ holds", "X", hint) for hint in said)
+            count += len(said)
+    check(f"{count} hints of {len(kinds)} kinds", count > 100)
 
 
 if __name__ == "__main__":
-    sys.exit(run_cases(named(each_lost_reply), __doc__))
+    sys.exit(run_cases(named(each_fault), __doc__))

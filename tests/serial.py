@@ -536,11 +536,16 @@ def no_firmware():
         **dict.fromkeys(TEXTS, LIKE_TEXT),
         **dict.fromkeys(EMPTY, "has no data (did its build fail?)"),
     }
-    why.update({name: f"is {what}, not firmware" for name, (_, what) in PACKED.items()})
+    why.update(
+        {
+            name: f"begins like {what}: give it as raw bytes (:r) only if its bytes are meant"
+            for name, (_, what) in PACKED.items()
+        }
+    )
     joined = "has data after its end record, which would not be read; to join files use srec_cat"
     why.update(dict.fromkeys(JOINED, joined))
     why.update(
-        {"lib.elf": "is an ar archive, not firmware"},
+        {"lib.elf": "begins like an ar archive: give it as raw bytes (:r) only if its bytes are meant"},
         **{
             "a.out": "is not ELF, despite its name",
             "note.ELF": "is not ELF, despite its name: it has Intel HEX: give ",
@@ -1762,7 +1767,7 @@ FOLLOWED = [
         lambda words, _, found: [*words[:3], f"{found[1]}main.elf", *words[4:]],
     ),
     (
-        r"leave out -D: the erase clears all of flash \(a bootloader, too\), and EEPROM unless",
+        r"leave out -D, and give all that is to be written: the erase clears all of flash \(a bootloader, too\)",
         lambda words, case, _: on_a_bootloader(words, case) if "loads" in case else without(words, "-D"),
     ),
     (
@@ -1829,10 +1834,13 @@ FOLLOWED = [
         r"^(?:only bits that the part doesn't have differ|bit 5 \(SPIEN\) stays 0 at most parts): give (\S+)",
         lambda words, _, found: valued(words, found[1]),
     ),
-    (r"bits ([\d, ]+) stay 1. If the part has none of them, give (\S+)\. If it has any of them, (.*)", stays),
+    (
+        r"these bits read 1, not 0: ([\d, ]+)\. If the part has none of them, give (\S+)\. If it has any of them, (.*)",
+        stays,
+    ),
     (r"only an erase \(-e\) removes a lock, and clears all of", lambda words, *_: [*words, "-e"]),
     (
-        r"^-U lock was given before: give it last(\. Only an erase \(-e\) removes a lock, and clears all of flash)?",
+        r"-U lock comes before other updates: give it last(\. Only an erase \(-e\) removes a lock, and clears)?",
         lambda words, _, found: [*lock_last(words), *["-e"] * bool(found[1])],
     ),
     (r"give one value$|two images may overlap \(give one of them\)", lambda words, *_: words[:-2]),
@@ -1842,8 +1850,8 @@ FOLLOWED = [
     ),
     (r"^ended by SIG|^no valid reply; the chip is unchanged. Check|^the device sends data, but no valid reply", mended),
     (
-        r"^a signature of 00 or FF|^the programmer can't reach the chip|^no further valid reply|^the device is gone"
-        r"|^something else sends data",
+        r"^a signature of 00 or FF|^the programmer can't reach the chip|^no further valid reply"
+        r"|^the connection to the device broke|^often something else sends data",
         mended,
     ),
     (r"only the session's end failed. Power-cycle the board", mended),
@@ -2570,7 +2578,7 @@ def devices_that_go():
         started.returncode == 1 and len(printed) == 2 and printed[0] == "avrstk: error: link ended",
         printed,
     )
-    wanted = "avrstk-serial: the device is gone: check the cable; the chip is unchanged"
+    wanted = "avrstk-serial: the connection to the device broke: check the cable; the chip is unchanged"
     check("it is gone", printed[-1].startswith(wanted), printed)
 
 

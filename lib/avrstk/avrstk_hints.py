@@ -30,9 +30,14 @@ MAYBE_CHANGED = "the chip may be erased or partly written"
 TAKES = "flash (a bootloader, too), and EEPROM unless the fuse bit EESAVE is 0"
 OPEN_LOCK = "then -U lock:r:-:h prints a lock whose bit 1 is 0"
 HIDDEN = f"or the lock hides it ({OPEN_LOCK})"
-REMOVES = f"only an erase (-e) removes a lock, and clears all of {TAKES}"
+NOISE = "or the line changed a byte"
+FAR = "a Mega's bootloader reads other addresses above 255 (use a programmer)"
+# (a command that leaves out what was done doesn't have all)
+ALL = "give all that is to be written"
+REMOVES = f"only an erase (-e) removes a lock, and clears all of {TAKES}. With -e {ALL}, the lock last"
 LOCKED = f"a lock may protect it: {REMOVES}"
 LOADER = "a bootloader can't erase the chip"
+LACKS = "may refuse to write fuses and the lock, and to read the calibration"
 
 
 @dataclass
@@ -96,12 +101,19 @@ def again(run: Outcome) -> str:
     """Advises to run the same command again. It leaves out what was done, unless an erase clears that; then only reads
     and comparisons of what was changed later. (A lock that was written may protect what was done before.)"""
     words, updates, loses = run.words, run.words.updates, may_lose(run)
+    rest = [update for update in updates[len(run.done()) :] if update.operation == "w" and update.memory != "lock"]
+    if loses and rest and may_lock(run.done()):
+        # (without an erase the chip takes nothing more)
+        return lock_last(run)
     begun = [*enumerate(updates[: run.begun()])]
     first = {update.memory: at for at, update in reversed(begun) if update.operation == "w"}
     repeats = erases(words) and not loses
     left = [one for at, one in enumerate(run.done()) if not repeats or at < first.get(one.memory, 0)]
     base = updates if words.each is None or words.each.base is None else words.each.base
-    is_each = any(update not in base for update in left)
+    own = [update for update in updates if update not in base]
+    # (one number is for all of them)
+    is_each = bool(own) and all(update in left for update in own)
+    left = [update for update in left if is_each or update not in own]
     # (the same may be given once more, later)
     later = {update.given for update in updates if update not in left}
     given = [
@@ -162,7 +174,8 @@ def hint(run: Outcome, number: int | None) -> str:
     speed, others = f"the speed (-b {words.baud})", f"{other_kinds(words)}. USBasp needs avrdude"
     # (Arduino as ISP and other programmers need no reset)
     needs_reset = words.is_bootloader or not words.is_version1
-    resets = "that the board resets when the port opens (else press reset right after starting)" * needs_reset
+    resets = "that a bootloader's board resets when the port opens (else press reset right after starting)"
+    resets = resets * needs_reset
     if run.is_noisy:
         why = f"the device sends data, but no valid reply: often its application is running, or {speed} is wrong"
         return f"{why}. Check {resets}. {others}" if resets else f"{why}. {others}"
@@ -174,10 +187,10 @@ def hint(run: Outcome, number: int | None) -> str:
 
 def other_kinds(words: Words) -> str:
     """Returns what -c to give if the device is of another kind than -c names."""
-    other = "To write another chip by an Uno or Nano give -c arduino_as_isp"
+    other = "For an Arduino with the sketch ArduinoISP give -c arduino_as_isp"
     if not words.is_version1:
         return ". ".join([*loaders(words), other])
-    speeds = ["Without -b 115200 and 57600 are tried"] * (words.is_bootloader and "-b" in words.last)
+    speeds = ["Without -b the speeds 115200 and 57600 are tried"] * (words.is_bootloader and "-b" in words.last)
     stk500v2 = f"For a programmer of STK500v2 leave out -c {words.programmer}"
     return ". ".join([*speeds, stk500v2, *loaders(words), *[other] * words.is_bootloader])
 
@@ -187,11 +200,11 @@ def loaders(words: Words) -> list[str]:
     memories = {Update(given).memory for given in words.given} | {each.partition("@")[0] for each in words.each_given}
     if memories - {"flash", "signature"} or {"-e", "--backup", "--restore", "--try-rows"} & set(words.last):
         return []
-    is_auto, is_mega = words.last.get("-p") == "auto", words.chip() == "atmega2560"
+    chip = "auto" if words.last.get("-p") == "auto" else words.chip()
     uno = "To write an Uno or Nano itself give -c arduino -D"
     mega = "To write a Mega 2560 itself give -c wiring -D"
-    return [uno] * (words.programmer.lower() != "arduino" and (is_auto or not is_mega)) + [mega] * (
-        not words.is_wiring and (is_auto or is_mega)
+    return [uno] * (words.programmer.lower() != "arduino" and chip in ("auto", "atmega328p")) + [mega] * (
+        not words.is_wiring and chip in ("auto", "atmega2560")
     )
 
 
@@ -232,7 +245,7 @@ def no_part(words: Words, _: Match[str] | None) -> str:
         boards = "mostly m328p for Uno, Nano and Pro Mini, m2560 for Mega 2560, m32u4 for Leonardo, Micro and Pro Micro"
         return f"-p takes the chip's name, not the board's: {boards}"
     auto = "" if words.part or words.has_port else ", and -p auto finds one whose signature no other has"
-    return f"-p '?' lists the parts{auto}; others with ISP need a part file (--parts)"
+    return f"-p '?' lists the parts{auto}; others need a part file (--parts) or avrdude"
 
 
 def unread(run: Outcome, found: Match[str]) -> str:
@@ -247,7 +260,7 @@ def unread(run: Outcome, found: Match[str]) -> str:
     held = update.held(65_536) if update else b""
     form, is_at_begin = form_of(held), line == "1" and fault in ("no record mark", "line too long")
     if not update or form and update.format in (None, "a", form) or not is_at_begin and form != "e":
-        return "the file is damaged, cut short or edited: build or download it again"
+        return "the file seems damaged, cut short or edited: build or download it again"
     if form and (form != "e" or update.memory in AREAS):
         return f"it has {FORMATS[form]}: give {update.given_as(form)}"
     if re.search(rb"^" + RECORD.pattern, held, re.M):
@@ -262,7 +275,7 @@ def too_far(words: Words, update: Update, address: int) -> str:
     if update.memory in ("signature", "calibration"):
         return f"{update.memory} has {'3 bytes' if update.memory == 'signature' else '1 byte'}"
     if 0x810000 <= address < SIGNATURE + 3:
-        return f"it has addresses of EEPROM or fuses, as ELF has: give the ELF file itself, as {own}:NAME.elf"
+        return f"it has an address as ELF files have: give the ELF file itself, as {own}:NAME.elf"
     if update.memory in FUSES:
         return f"{update.memory} has 1 byte: give its value, as {own}:0xNN:m"
     size = words.field(f"{update.memory}_size")
@@ -279,7 +292,7 @@ def unopened(run: Outcome, found: Match[str]) -> str:
         update = f"{own.memory}:{own.operation}"
         # (letters alone may be a file's name, but not for a fuse)
         form = r"(0[xb])?[0-9A-Fa-f, \t]+" if own.memory in FUSES else r"(0[xb])?[A-Fa-f, \t]*[0-9][0-9A-Fa-f, \t]*"
-        if own.operation in "wv" and re.fullmatch(form, file):
+        if own.operation in "wv" and re.fullmatch(form, file) and is_missing(file):
             if not re.fullmatch("[1-9][0-9]", file):
                 return f"a value needs :m after it, as {update}:{as_value(file)}:m"
             base = f"{update}:0x{file}:m if it is hexadecimal, {update}:{file}:m if it is decimal"
@@ -344,7 +357,9 @@ def differs(run: Outcome, found: Match[str]) -> str:
         return f"only bits that the part doesn't have differ: give {own}"
     if update.operation == "v":
         is_hidden = memory in ("flash", "eeprom") and not words.is_bootloader
-        return f"{memory} holds something else than {update.file}" + f", {HIDDEN}" * is_hidden
+        # (version 1 has no checksums)
+        others = [NOISE] * words.is_version1 + [f"or {FAR}"] * is_far(run, memory, address) + [HIDDEN] * is_hidden
+        return ", ".join([f"{memory} holds something else than {update.file}", *others])
     return unlike_fuse(run, memory, wanted, held) if memory in FUSES else unlike(run, memory, address, wanted, held)
 
 
@@ -360,12 +375,15 @@ def unlike(run: Outcome, memory: str, address: int, wanted: int, held: int) -> s
     elif memory == "flash" and keeps and not held & ~wanted:
         return remains(run)
     else:
-        # (a restore, and version 1, need a programmer)
-        is_far = memory == "eeprom" and address > 0xFF and words.restore is None and not words.is_version1
-        cause = "a Mega's bootloader reads other addresses above 255 (use a programmer), " * is_far
+        cause = f"{FAR}, " * is_far(run, memory, address)
     worn = "a page may be worn" + f", or {LOCKED}" * keeps
     always = f"{again(run)}; if it always fails at the same address, " * (not may_lose(run))
     return f"{always}{cause}{worn}"
+
+
+def is_far(run: Outcome, memory: str, address: int) -> bool:
+    """Whether a bootloader may read this byte at another address. (A restore, and version 1, need a programmer.)"""
+    return memory == "eeprom" and address > 0xFF and run.words.restore is None and not run.words.is_version1
 
 
 def erases(words: Words) -> bool:
@@ -384,24 +402,25 @@ def lock_last(run: Outcome) -> str:
     """Returns the hint after a memory that the lock protected, since it was written first."""
     removes = f"{REMOVES[0].upper()}{REMOVES[1:]}"
     clears = "The next erase clears EEPROM, too, unless the fuse bit EESAVE is 0"
-    return f"-U lock was given before: give it last. {clears if erases(run.words) else removes}"
+    return f"-U lock comes before other updates: give it last. {clears if erases(run.words) else removes}"
 
 
 def unlike_fuse(run: Outcome, memory: str, wanted: int, held: int) -> str:
     """Returns the hint if a fuse or the lock holds another value than the one that was written."""
     words, is_after = run.words, memory != "lock" and may_lock(run.done())
-    if memory == "lock" and wanted & ~held and any(update.writes("lock") for update in run.done()):
+    if memory == "lock" and any(update.writes("lock") for update in run.done()):
         return "the lock is given twice: give one value"
     cause = "check the wires, the power and the clock, or try another chip" if erases(words) else LOCKED
     if is_after:
         cause = lock_last(run)
     if memory == "lock" and words.restore is None and not words.is_version1:
-        cause = "a bootloader can't write the lock: use a programmer"
+        cause = "a bootloader may ignore bits of the lock: use a programmer"
     # (a bit that a part doesn't have reads 1)
     if words.restore is None and memory not in words.bits() and memory in ("efuse", "lock") and not wanted & ~held:
         stay = ", ".join(str(bit) for bit in range(8) if (held & ~wanted) >> bit & 1)
         update = f"{memory}:w:0x{held:02X}:m"
-        return f"bits {stay} stay 1. If the part has none of them, give {update}. If it has any of them, {cause}"
+        found = f"these bits read 1, not 0: {stay}. If the part has none of them, give {update}"
+        return f"{found}. If it has any of them, {cause}"
     if memory == "hfuse" and wanted & ~held == 0x20 and not held & ~wanted:
         return f"bit 5 (SPIEN) stays 0 at most parts: give hfuse:w:0x{held:02X}:m"
     if memory == "lock" and wanted & ~held and not erases(words):
@@ -412,22 +431,25 @@ def unlike_fuse(run: Outcome, memory: str, wanted: int, held: int) -> str:
 
 def remains(run: Outcome) -> str:
     """Returns the hint after flash that may have kept zeros of before, since nothing erased it."""
-    programmer = f"With a programmer leave out -D: the erase clears all of {TAKES}"
+    programmer = f"With a programmer leave out -D, and {ALL}: the erase clears all of {TAKES}"
     cure = again(run) if run.words.is_whole() else f"{ONE_IMAGE}, since a Mega's erases pages from 0 on"
     # (of version 1 only programmers come here)
     bootloader = "" if run.words.is_version1 else f"; with a bootloader {cure}"
-    return f"flash was not erased, so old bytes may remain. {programmer}{bootloader}"
+    return f"flash was not erased: old bytes may remain, or a lock may protect it. {programmer}{bootloader}"
 
 
 def unerased(run: Outcome, _: Match[str]) -> str:
     """Returns what to do if an erase is refused."""
     words, given = run.words, {update.memory for update in run.words.updates if update.operation == "w"}
+    # (a bootloader reads fuses and the lock)
+    others = given & set(FUSES) or any(update.memory == "calibration" for update in words.updates)
     cure = ": leave out -e"
-    if not given or given & set(FUSES):
-        cure = ", or write fuses and the lock: use a programmer, whose erase also clears the bootloader"
+    if not given or others:
+        cure = f"{f', and {LACKS}' if others else ''}: use a programmer, whose erase also clears the bootloader"
     elif "flash" in given:
         without = "leave out -e, and " if "-e" in words.flags else ""
-        cure = f": {without}use -D" + ("" if words.is_whole() else f", and {ONE_IMAGE}")
+        is_one = sum(update.writes_flash() for update in words.updates) == 1 and words.is_whole()
+        cure = f": {without}use -D" + ("" if is_one else f", and {ONE_IMAGE}")
     return f"{LOADER}{cure}. If this is a programmer, {state_of(run)}; if it refuses again, use another one"
 
 
@@ -462,12 +484,12 @@ REPLIED: Table = {
     r"signature is (\w\w \w\w \w\w)": another_part,
     r"command \w\w refused with status C1": "{noisy}: {state}; if it refuses again, use another programmer",
     "command 12 ": unerased,
-    r"command 10 .*(80|81|C0)$": f"{NO_REACH}: check wires, power, clock and reset pin; {UNCHANGED}",
-    "command (17|19|1C) ": "a bootloader may refuse to write fuses and the lock, and to read the calibration: use a "
-    "programmer. If this is one, {state}; if it refuses again, use another one",
+    r"command 10 .*(80|81|C0)$": f"{NO_REACH}: check wires, power, clock and reset pin; {{state}}",
+    "command (17|19|1C) ": f"a bootloader {LACKS}: use a programmer. If this is one, {{state}}; if it refuses again, "
+    "use another one",
     "no answer$": "no further valid reply: check the cable and the power; {state}",
-    "no answer in|.*bad answer$": "something else sends data (the board's application), {speed} is wrong, or the "
+    "no answer in|.*bad answer$": "often something else sends data (the board's application), {speed} is wrong, or the "
     "programmer doesn't keep to STK500v2; {state}",
-    "link ": "the device is gone: check the cable; {state}",
+    "link ": "the connection to the device broke: check the cable; {state}",
     "command ": "the device refused the command: {state}; if it refuses again, use another programmer",
 }

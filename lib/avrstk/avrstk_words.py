@@ -414,7 +414,7 @@ class Update:
         """Returns why a file whose format is detected is no image, by its first bytes; None if it is one."""
         packed = packed_as(front)
         if packed:
-            return f"is {packed}, not firmware"
+            return f"begins like {packed}: give it as raw bytes (:r) only if its bytes are meant"
         if RECORD.match(front) or not (is_text(front, 20) or self.memory == "flash" and is_text(front.strip(b"\0"), 2)):
             return None
         cure = "give it as raw bytes (:r) only if its characters are meant"
