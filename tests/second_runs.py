@@ -179,7 +179,7 @@ def drawn(draw):
     words = [option for option in ("-e", "-D", "-V") if draw.random() < 0.3] + ["-n"] * (draw.random() < 0.05)
     words += draw.choice([[], [], [], ["-c", "arduino_as_isp"], ["--parts", PARTS.name]])
     for number in range(draw.randint(0 if "-e" in words else 1, 4)):
-        memory = draw.choice([*MEMORIES, "flash", "eeprom", "hfuse", "lock"])
+        memory = draw.choice([*MEMORIES, "flash", "eeprom", *["hfuse", "lock"] * 3])
         size, values, command = MEMORIES[memory]
         operation = draw.choice("wwwvr" if command else "vr")
         held = ",".join(f"0x{draw.choice(values):02X}" for _ in range(draw.randint(1, size)))
@@ -340,7 +340,8 @@ def followed(given, old, whole, fault):
         return f"no end: {said}", said
     if whole is not None:
         return (None if (chip.held, files) == whole else f"{said}: {chip.held}, {files} in place of {whole}"), said
-    is_warned = any(re.search("clears EEPROM, too|and EEPROM unless", hint) for hint in said)
+    # (with one value for the lock, the whole command is given again, whose erase may clear EEPROM)
+    is_warned = any(re.search("clears EEPROM, too|and EEPROM unless|given twice", hint) for hint in said)
     # (without comparisons nothing shows that a lock protects a memory)
     is_shown = "-V" not in plan and not [word for word in plan if re.match("lock:w", word)][1:]
     is_right = not is_shown or asked(plan, old, is_warned, chip.held)
