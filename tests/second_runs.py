@@ -219,6 +219,12 @@ def with_lock_last(given):
     return [*left, *[word for lock in locks for word in ("-U", lock)]]
 
 
+def with_one_lock(given):
+    """Returns a command with the last of its values for the lock alone."""
+    locks = [word for word in given if word.startswith("lock:w:")]
+    return without(given, " and ".join("the first " * (lock == locks[-1]) + f"-U {lock}" for lock in locks[:-1]))
+
+
 def advised(given, plan, text):
     """Returns the command that a hint advises for a programmer; None if it advises none. `plan` is the whole command,
     which has what was left out, too."""
@@ -226,8 +232,7 @@ def advised(given, plan, text):
     if "give it last" in text or "With -e give all that is to be written, the lock last" in text:
         return [*with_lock_last(plan), *["-e"] * ("nly an erase (-e)" in text)]
     if "given twice: give one value" in text:
-        locks = [word for word in plan if word.startswith("lock:w:")]
-        return without(plan, " and ".join("the first " * (lock == locks[-1]) + f"-U {lock}" for lock in locks[:-1]))
+        return with_one_lock(given)
     if "leave out -D, and give all that is to be written" in text:
         return [word for word in plan if word != "-D"]
     if again:
@@ -331,7 +336,9 @@ def followed(given, old, whole, fault):
         given = advised(given, plan, text) if text else None
         if given is None:
             return (f"no way on: {said}" if re.search("the same command again", text) or not text else None), said
-        if re.search("give it last|give all that is to be written|give one value", text):
+        if "give one value" in text:
+            plan, whole = with_one_lock(plan), None
+        elif re.search("give it last|give all that is to be written", text):
             # (the order, and the erase, are those of the hint)
             plan, whole = given, None
         elif "nly an erase (-e) removes a lock" in text:
@@ -340,8 +347,7 @@ def followed(given, old, whole, fault):
         return f"no end: {said}", said
     if whole is not None:
         return (None if (chip.held, files) == whole else f"{said}: {chip.held}, {files} in place of {whole}"), said
-    # (with one value for the lock, the whole command is given again, whose erase may clear EEPROM)
-    is_warned = any(re.search("clears EEPROM, too|and EEPROM unless|given twice", hint) for hint in said)
+    is_warned = any(re.search("clears EEPROM, too|and EEPROM unless", hint) for hint in said)
     # (without comparisons nothing shows that a lock protects a memory)
     is_shown = "-V" not in plan and not [word for word in plan if re.match("lock:w", word)][1:]
     is_right = not is_shown or asked(plan, old, is_warned, chip.held)

@@ -36,6 +36,7 @@ FAR = "a Mega's bootloader reads other addresses above 255 (use a programmer)"
 ALL = "give all that is to be written"
 REMOVES = f"only an erase (-e) removes a lock, and clears all of {TAKES}. With -e {ALL}, the lock last"
 LOCKED = f"a lock may protect it: {REMOVES}"
+CLEARS = "The next erase clears EEPROM, too, unless the fuse bit EESAVE is 0"
 LOADER = "a bootloader can't erase the chip"
 LACKS = "may refuse to write fuses and the lock, and to read the calibration"
 
@@ -401,15 +402,14 @@ def may_lock(updates: list[Update]) -> bool:
 def lock_last(run: Outcome) -> str:
     """Returns the hint after a memory that the lock protected, since it was written first."""
     removes = f"{REMOVES[0].upper()}{REMOVES[1:]}"
-    clears = "The next erase clears EEPROM, too, unless the fuse bit EESAVE is 0"
-    return f"-U lock comes before other updates: give it last. {clears if erases(run.words) else removes}"
+    return f"-U lock comes before other updates: give it last. {CLEARS if erases(run.words) else removes}"
 
 
 def unlike_fuse(run: Outcome, memory: str, wanted: int, held: int) -> str:
     """Returns the hint if a fuse or the lock holds another value than the one that was written."""
     words, is_after = run.words, memory != "lock" and may_lock(run.done())
     if memory == "lock" and any(update.writes("lock") for update in run.done()):
-        return "the lock is given twice: give one value"
+        return "the lock is given twice: give one value" + f". {CLEARS}" * erases(words)
     cause = "check the wires, the power and the clock, or try another chip" if erases(words) else LOCKED
     if is_after:
         cause = lock_last(run)
