@@ -62,6 +62,7 @@ fn paste(bytes: &mut Vec<u8>, start: usize, span: &[u8])
     bytes[start..end].copy_from_slice(span);
 }
 
+#[tactic(auto, using(crate::proofs::Stored::stored))]
 impl Image {
     /// Creates an empty image of a memory of `size` bytes. No other call on it allocates, except `try_clone`.
     ///
