@@ -127,26 +127,26 @@ pasted_high : (start : ℕ) (span bytes : List ℕ) (i : ℕ) → start + length
 pasted_high start span bytes i room l = grind (arith, nat_tests, length-take, get_or-append_right, get_or-drop)
 
 -- the bits of a span are those of its bytes
-pub shown_pasted : (words words' bytes span : List ℕ) (addr : ℕ) → addr + length span ≤ length bytes
-    → ((k : ℕ) → is_present words' k ≡ (is_within addr (addr + length span) k || is_present words k))
-    → dense_image words' (with_span addr span bytes) ≡ with_pairs (dense_image words bytes) (enumerate_from addr span)
-shown_pasted words words' bytes span addr room bits =
+pub shown_pasted : (words marks bytes span : List ℕ) (addr : ℕ) → addr + length span ≤ length bytes
+    → ((k : ℕ) → is_present marks k ≡ (is_within addr (addr + length span) k || is_present words k))
+    → dense_image marks (with_span addr span bytes) ≡ with_pairs (dense_image words bytes) (enumerate_from addr span)
+shown_pasted words marks bytes span addr room bits =
     let size = length_shown words bytes in
-    let left = length_shown words' (with_span addr span bytes) ∙ length_pasted addr span bytes room in
+    let left = length_shown marks (with_span addr span bytes) ∙ length_pasted addr span bytes room in
     let right = laid_size (dense_image words bytes) (enumerate_from addr span) ∙ size in
     same_by_address _ _ (left ∙ sym right) (λ i j.
     let inside : i < length bytes = omega (arith, j, right) in
-    let see = byte_at_shown words' (with_span addr span bytes) i
+    let see = byte_at_shown marks (with_span addr span bytes) i
     (omega (arith, inside, length_pasted addr span bytes room)) in
     elim (cases_lt i addr) [
       | inl low ↦
-          let bit : is_present words' i ≡ is_present words i =
+          let bit : is_present marks i ≡ is_present words i =
           bits i ∙ rw (within_low addr (addr + length span) i low) refl in
           see ∙ ap₂ (λ (b : Bool) (n : ℕ). cond b (Some n) None) bit (pasted_low addr span bytes i room low)
           ∙ sym (byte_at_shown words bytes i inside) ∙ sym (span_below (dense_image words bytes) addr span i low)
       | inr from ↦ elim (cases_lt i (addr + length span)) [
         | inl within ↦
-            let bit : is_present words' i ≡ true = search rules in
+            let bit : is_present marks i ≡ true = search rules in
             let there : addr + (i - addr) ≡ i = omega (arith, from) in
             see ∙ ap₂ (λ (b : Bool) (n : ℕ). cond b (Some n) None) bit (pasted_in addr span bytes i room from within)
             ∙ sym (search (rules, span_inside))
@@ -156,11 +156,11 @@ shown_pasted words words' bytes span addr room bits =
       ]
     ])
 
-pub kept_pasted : (words words' bytes span : List ℕ) (addr : ℕ) → addr + length span ≤ length bytes
-    → ((k : ℕ) → is_present words' k ≡ (is_within addr (addr + length span) k || is_present words k))
-    → length words' ≡ length words
-    → ((i : ℕ) → get_or span i 0 < 256) → IsSoundStorage words bytes → IsSoundStorage words' (with_span addr span bytes)
-kept_pasted words words' bytes span addr room bits same small kept =
+pub kept_pasted : (words marks bytes span : List ℕ) (addr : ℕ) → addr + length span ≤ length bytes
+    → ((k : ℕ) → is_present marks k ≡ (is_within addr (addr + length span) k || is_present words k))
+    → length marks ≡ length words
+    → ((i : ℕ) → get_or span i 0 < 256) → IsSoundStorage words bytes → IsSoundStorage marks (with_span addr span bytes)
+kept_pasted words marks bytes span addr room bits same small kept =
     search (rules, length_pasted, small_pasted, pasted_low, within_high, pasted_high)
 
 -- ---- whether a span fits

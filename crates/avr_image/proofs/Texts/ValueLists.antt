@@ -2,7 +2,7 @@
 use Rattle.std.proofs.Common.{◌≡◌, ◌∙◌, ap, refl, arith, ℕ, zero, All, suc, ◌+◌, ◌<◌, ◌≤◌, List, [], ◌∷◌, ◌++◌, length, map, filter, eqb, Bool, true, false, ◌&&◌, not, nat_lt, Option, Some, None, Ok, Err, inl, inr, rules}
 use Rattle.std.specs.List.{enumerate_from, slice_split, onto_first, list_all}
 use Rattle.std.specs.Fmt.{digits}
-use Rattle.std.proofs.lemmas.Bool.{cases_eq}
+use Rattle.std.proofs.lemmas.Bool.{and_parts, cases_eq}
 use Rattle.std.proofs.lemmas.Bool.Decides.{nat_tests}
 use Rattle.avr_image.specs.Lists.{number_text, list_line}
 use Rattle.avr_image.specs.Image.{from_zero}
@@ -29,43 +29,26 @@ abbrev all_below : ℕ → (ℕ → Bool) → Bool
 all_below zero test = true
 all_below (suc n) test = test n && all_below n test
 
-both : (a b : Bool) → (a && b) ≡ true → (a ≡ true) × (b ≡ true)
-both a b e = search rules
-
 below : (n k : ℕ) (test : ℕ → Bool) → all_below n test ≡ true → k < n → test k ≡ true
 below zero k test all l = absurd (omega (arith, l))
 below (suc n) k test all l = elim (cases_eq k n) [
-  | inl same ↦ rw same (both (test n) (all_below n test) all).0
-  | inr other ↦ below n k test (both (test n) (all_below n test) all).1 (omega (arith, l, other))
+  | inl same ↦ rw same (and_parts (test n) (all_below n test) all).0
+  | inr other ↦ below n k test (and_parts (test n) (all_below n test) all).1 (omega (arith, l, other))
 ]
 
-all_decimal : all_below 256 (is_good Dec) ≡ true
-unfolding digits
-all_decimal = refl
-
-all_hexadecimal : all_below 256 (is_good Hex) ≡ true
-unfolding digits
-all_hexadecimal = refl
-
-all_octal : all_below 256 (is_good Oct) ≡ true
-unfolding digits
-all_octal = refl
-
-all_binary : all_below 256 (is_good Bin) ≡ true
-unfolding digits
-all_binary = refl
-
+-- number by number
 good : (base : Base) (n : ℕ) → n < 256 → is_good base n ≡ true
-good Dec n l = below 256 n (is_good Dec) all_decimal l
-good Hex n l = below 256 n (is_good Hex) all_hexadecimal l
-good Oct n l = below 256 n (is_good Oct) all_octal l
-good Bin n l = below 256 n (is_good Bin) all_binary l
+unfolding digits
+good Dec n l = below 256 n (is_good Dec) refl l
+good Hex n l = below 256 n (is_good Hex) refl l
+good Oct n l = below 256 n (is_good Oct) refl l
+good Bin n l = below 256 n (is_good Bin) refl l
 
 read_back : (base : Base) (n : ℕ) → n < 256 → value_of (number_text base n) ≡ Some n
 read_back base n l = search (rules, good base n l)
 
 solid : (base : Base) (n : ℕ) → n < 256 → is_solid (number_text base n) ≡ true
-solid base n l = (both (is_value (value_of (number_text base n)) n) (is_solid (number_text base n)) (good base n l)).1
+solid base n l = (and_parts (is_value (value_of (number_text base n)) n) _ (good base n l)).1
 
 -- ---- the pieces of a list
 
@@ -76,14 +59,14 @@ split_clean : (text : List ℕ) → list_all (λ c. not (is_separator c)) text �
     → slice_split is_separator text ≡ text ∷ []
 split_clean [] all = refl
 split_clean (c ∷ text) all =
-    let parts = both (not (is_separator c)) (list_all (λ c. not (is_separator c)) text) all in
+    let parts = and_parts (not (is_separator c)) (list_all (λ c. not (is_separator c)) text) all in
     rw (not_true (is_separator c) parts.0) (ap (onto_first c) (split_clean text parts.1))
 
 split_comma : (text more : List ℕ) → list_all (λ c. not (is_separator c)) text ≡ true
     → slice_split is_separator (text ++ 44 ∷ more) ≡ text ∷ slice_split is_separator more
 split_comma [] more all = refl
 split_comma (c ∷ text) more all =
-    let parts = both (not (is_separator c)) (list_all (λ c. not (is_separator c)) text) all in
+    let parts = and_parts (not (is_separator c)) (list_all (λ c. not (is_separator c)) text) all in
     rw (not_true (is_separator c) parts.0) (ap (onto_first c) (split_comma text more parts.1))
 
 abbrev AreBytes : List ℕ → Type 0
@@ -93,10 +76,10 @@ AreBytes (b ∷ bytes) = (b < 256) × AreBytes bytes
 split_line : (base : Base) (b : ℕ) (bytes : List ℕ) → b < 256 → AreBytes bytes
     → slice_split is_separator (list_line base (b ∷ bytes)) ≡ map (number_text base) (b ∷ bytes)
 split_line base b [] l all = split_clean (number_text base b)
-    (both (nat_lt 0 (length (number_text base b))) _ (solid base b l)).1
+    (and_parts (nat_lt 0 (length (number_text base b))) _ (solid base b l)).1
 split_line base b (next ∷ bytes) l all =
     split_comma (number_text base b) (list_line base (next ∷ bytes))
-    (both (nat_lt 0 (length (number_text base b))) _ (solid base b l)).1
+    (and_parts (nat_lt 0 (length (number_text base b))) _ (solid base b l)).1
     ∙ ap (λ (more : List (List ℕ)). number_text base b ∷ more) (split_line base next bytes all.0 all.1)
 
 none_empty : (base : Base) (bytes : List ℕ) → AreBytes bytes

@@ -115,7 +115,7 @@ lead_within x = omega arith
 
 -- ---- the bytes of an image at their addresses
 
--- the bytes that are there, if the image's part begins at `addr`
+-- the bytes that are there, if the mores part begins at `addr`
 abbrev held_places : ℕ → List (Option ℕ) → List (ℕ × ℕ)
 held_places addr [] = []
 held_places addr (None ∷ image) = held_places (addr + 1) image
@@ -202,8 +202,8 @@ next_run addr place end image found is =
       is =
           runs_next image addr place found ∙ runs_first (drop place image) place some
           ∙ ap (λ (bytes : List ℕ). (place, bytes) ∷ runs (place + run) (after (drop place image))) bytes_are
-          ∙ ap₂ (λ (n : ℕ) (image' : List (Option ℕ)).
-          (place, slice_range (filled_bytes image 0 (length image)) place end) ∷ runs n image') ends behind;
+          ∙ ap₂ (λ (n : ℕ) (more : List (Option ℕ)).
+          (place, slice_range (filled_bytes image 0 (length image)) place end) ∷ runs n more) ends behind;
       rises = rises;
       within = within;
     }
