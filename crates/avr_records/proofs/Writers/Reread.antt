@@ -12,13 +12,13 @@ use Rattle.avr_records.specs.declared.kind.AddressBase.{AddressBase}
 use Rattle.avr_records.specs.declared.kind.AddressBase.TheVariants.{Linear}
 use Rattle.avr_records.specs.declared.kind.Ending.TheVariants.{Ended, NoEnd}
 
-first_outside-parts : (size : ℕ) (xs ys : List (ℕ × ℕ)) → first_outside size (xs ++ ys) ≡ None
+first_outside_parts : (size : ℕ) (xs ys : List (ℕ × ℕ)) → first_outside size (xs ++ ys) ≡ None
     → (first_outside size xs ≡ None) × (first_outside size ys ≡ None)
-first_outside-parts size [] ys none = (refl, none)
-first_outside-parts size (p ∷ xs) ys none =
+first_outside_parts size [] ys none = (refl, none)
+first_outside_parts size (p ∷ xs) ys none =
     elim (cases_Bool (nat_lt p.0 size)) [
       | inl t ↦ let more : first_outside size (xs ++ ys) ≡ None = rw t at none in
-          rw t (first_outside-parts size xs ys more)
+          rw t (first_outside_parts size xs ys more)
       | inr f ↦ let no : Some p.0 ≡ None = rw f at none in absurd (cc no)
     ]
 
@@ -34,10 +34,10 @@ abbrev pub threaded : AddressBase → List LineResult → List (ℕ × ℕ)
 threaded base [] = []
 threaded base (meant ∷ more) = under base meant ++ threaded (next_base base meant) more
 
-placed-threaded : (before meant : List LineResult)
+placed_threaded : (before meant : List LineResult)
     → flat_map bytes_of_line (with_lines_before before meant) ≡ threaded (base_after before) meant
-placed-threaded before [] = refl
-placed-threaded before (s ∷ more) = grind (arith, nat_tests, placed-threaded (before ++ s ∷ []) more, fold-append)
+placed_threaded before [] = refl
+placed_threaded before (s ∷ more) = grind (arith, nat_tests, placed_threaded (before ++ s ∷ []) more, fold-append)
 
 -- the line is no fault, no count and no end record
 abbrev pub GoesOn : LineResult → Type 0
@@ -70,27 +70,27 @@ has_end (s ∷ prefix) more = grind (arith, nat_tests, has_end prefix more)
 pub ended : (prefix more : List LineResult) → file_ending (prefix ++ Ok End ∷ more) ≡ Ended
 ended prefix more = ap (λ (b : Bool). if b then Ended else NoEnd) (has_end prefix more)
 
-pub first_fault-none : (size : ℕ) (before prefix : List LineResult) → AllGoOn prefix
+pub first_fault_none : (size : ℕ) (before prefix : List LineResult) → AllGoOn prefix
     → first_outside size (flat_map bytes_of_line (with_lines_before before (then_end prefix))) ≡ None
     → first_fault size (with_lines_before before (then_end prefix)) ≡ None
-first_fault-none size before [] on inside = refl
-first_fault-none size before (s ∷ prefix) on inside =
-    let parts = first_outside-parts size (bytes_of_line (before, s))
+first_fault_none size before [] on inside = refl
+first_fault_none size before (s ∷ prefix) on inside =
+    let parts = first_outside_parts size (bytes_of_line (before, s))
     (flat_map bytes_of_line (with_lines_before (before ++ s ∷ []) (then_end prefix))) inside in
-    search (rules, first_fault-none size (before ++ s ∷ []) prefix on.1 parts.1)
+    search (rules, first_fault_none size (before ++ s ∷ []) prefix on.1 parts.1)
 
 -- Lines of data and the end record read as the image of their bytes, if all are inside. What comes after the end record
 -- doesn't matter.
-pub image_of_lines-laid : (size : ℕ) (image : List (Option ℕ)) (places : List (ℕ × ℕ)) (prefix more : List LineResult)
+pub image_of_lines_laid : (size : ℕ) (image : List (Option ℕ)) (places : List (ℕ × ℕ)) (prefix more : List LineResult)
     → AllGoOn prefix → threaded (Linear 0) (then_end prefix) ≡ places → first_outside size places ≡ None
     → image_of_pairs size places ≡ image → image_of_lines size (prefix ++ Ok End ∷ more) ≡ Ok (image, Ended)
-image_of_lines-laid size image places prefix more on follow inside_is laid_is =
-    grind (arith, nat_tests, placed-threaded, stops, first_fault-none, ended)
+image_of_lines_laid size image places prefix more on follow inside_is laid_is =
+    grind (arith, nat_tests, placed_threaded, stops, first_fault_none, ended)
 
 -- under a linear base the addresses of a data record's bytes follow each other
-pub places-linear : (upper offset addr : ℕ) (bytes : List ℕ) → upper * 65536 + offset ≡ addr
+pub places_linear : (upper offset addr : ℕ) (bytes : List ℕ) → upper * 65536 + offset ≡ addr
     → places (Linear upper) offset bytes ≡ enumerate_from addr bytes
-places-linear upper offset addr bytes is = search (rules, from)
+places_linear upper offset addr bytes is = search (rules, from)
   where
     from : (i : ℕ) (bs : List ℕ) → map (λ p. (address (Linear upper) offset p.0, p.1)) (enumerate_from i bs)
         ≡ enumerate_from (upper * 65536 + offset + i) bs
