@@ -1,12 +1,12 @@
 -- Lines added after others: their faults, their end record and where a text is cut into lines.
 use Rattle.std.proofs.lemmas.Bool.Decides.{nat_tests}
-use Rattle.std.proofs.Common.{◌≡◌, ◌∙◌, sym, ap, refl, arith, ℕ, ◌+◌, List, [], ◌∷◌, ◌++◌, length, Bool, true, false, Option, None, inl, inr, rules}
+use Rattle.std.proofs.Common.{◌≡◌, ◌∙◌, sym, ap, refl, arith, ℕ, ◌+◌, List, [], ◌∷◌, ◌++◌, Bool, true, false, Option, None, inl, inr, rules}
 use Rattle.std.proofs.lemmas.Bool.{cases_Bool}
 use Rattle.std.proofs.lemmas.List.{append-nil, append_assoc}
 use Rattle.std.proofs.lemmas.List.Splits.{slice_split-cons_yes, slice_split-cons_no}
 use Rattle.std.specs.List.{list_any, slice_split, onto_first}
 use Rattle.std.specs.Option.{option_map, option_or}
-use Rattle.avr_records.specs.Reading.{LineResult, is_end_record, up_to_end, with_lines_before, first_fault, fault_of_line, in_line}
+use Rattle.avr_records.specs.Reading.{LineResult, is_end_record, up_to_end, with_lines_before, first_fault, in_line}
 use Rattle.avr_records.specs.declared.fault.LineFault.{LineFault}
 use Rattle.avr_records.specs.declared.fault.RecordFault.{RecordFault}
 
@@ -24,30 +24,17 @@ pub first_fault_append : (size : ℕ) (ps qs : List (List LineResult × LineResu
     → first_fault size (ps ++ qs) ≡ first_fault size qs
 first_fault_append size [] qs none = refl
 first_fault_append size (p ∷ ps) qs none =
-    let parts = or_later_none (length p.0 + 1) (fault_of_line size p) (first_fault size ps) none in
-    rw parts.0 (first_fault_append size ps qs parts.1)
+    grind (arith, nat_tests, or_later_none, first_fault_append size ps qs)
 
 pub up_to_end_open : (xs ys : List LineResult) → list_any is_end_record (up_to_end xs) ≡ false
     → up_to_end (xs ++ ys) ≡ up_to_end xs ++ up_to_end ys
 up_to_end_open [] ys none = refl
-up_to_end_open (x ∷ xs) ys none =
-    elim (cases_Bool (is_end_record x)) [
-      | inl t ↦ absurd (grind arith)
-      | inr f ↦
-          let more : list_any is_end_record (up_to_end xs) ≡ false = rw (f, f) at none in
-          rw f (ap (λ (zs : List LineResult). x ∷ zs) (up_to_end_open xs ys more))
-    ]
+up_to_end_open (x ∷ xs) ys none = grind (arith, nat_tests, up_to_end_open xs ys)
 
 pub up_to_end_done : (xs ys : List LineResult) → list_any is_end_record (up_to_end xs) ≡ true → up_to_end (xs ++ ys)
     ≡ up_to_end xs
 up_to_end_done [] ys some = absurd (grind arith)
-up_to_end_done (x ∷ xs) ys some =
-    elim (cases_Bool (is_end_record x)) [
-      | inl t ↦ rw t refl
-      | inr f ↦
-          let more : list_any is_end_record (up_to_end xs) ≡ true = rw (f, f) at some in
-          rw f (ap (λ (zs : List LineResult). x ∷ zs) (up_to_end_done xs ys more))
-    ]
+up_to_end_done (x ∷ xs) ys some = grind (arith, nat_tests, up_to_end_done xs ys)
 
 pub up_to_end_any : (xs : List LineResult) → list_any is_end_record (up_to_end xs) ≡ list_any is_end_record xs
 up_to_end_any [] = refl

@@ -1,6 +1,5 @@
 -- The size that a file needs is the least memory into which it reads.
-use Rattle.std.proofs.Common.{◌≡◌, refl, arith, ℕ, ◌+◌, ◌<◌, ◌≤◌, List, [], ◌∷◌, length, map, max, flat_map, Option, None, Ok, nat_lt, inl, inr, rules}
-use Rattle.std.proofs.lemmas.Bool.{cases_Bool}
+use Rattle.std.proofs.Common.{◌≡◌, refl, arith, ℕ, ◌+◌, ◌≤◌, List, [], ◌∷◌, length, map, max, flat_map, Option, None, Ok, rules}
 use Rattle.std.proofs.lemmas.Bool.Decides.{nat_tests}
 use Rattle.avr_records.specs.Lines.{lines}
 use Rattle.avr_records.specs.Needed.{largest_memory, end_after, end_of_bytes, size_needed_in_text}
@@ -21,13 +20,7 @@ inside size end (p ∷ ps) l = grind (arith, nat_tests, inside size (max end (p.
 reaches : (size end : ℕ) (places : List (ℕ × ℕ)) → end ≤ size → first_outside size places ≡ None
     → end_after end places ≤ size
 reaches size end [] l none = l
-reaches size end (p ∷ ps) l none =
-    elim (cases_Bool (nat_lt p.0 size)) [
-      | inl t ↦
-          let below : p.0 < size = grind (arith, nat_tests) in
-          reaches size (max end (p.0 + 1)) ps (omega (arith, below, l)) (rw t at none)
-      | inr f ↦ cc (rw f at none)
-    ]
+reaches size end (p ∷ ps) l none = grind (arith, nat_tests, reaches size (max end (p.0 + 1)) ps)
 
 -- a line without a fault in one memory has none in each memory that has its addresses
 good : (size other : ℕ) (base : AddressBase) (count : ℕ) (line : LineResult) → fault_under_base size base count line

@@ -29,9 +29,9 @@ pub record IsRow (size : ℕ → ℕ) (end : ℕ) (row : ℕ × List ℕ) : Type
   pub below : row.0 + length row.1 ≤ end
   pub bytes : IsBytes row.1
 
-abbrev pub Every : (ℕ × List ℕ → Type 0) → List (ℕ × List ℕ) → Type 0
+abbrev pub Every : {A : Type 0} → (A → Type 0) → List A → Type 0
 Every P [] = Unit {0}
-Every P (row ∷ rows) = P row × Every P rows
+Every P (x ∷ xs) = P x × Every P xs
 
 pub rows_behind_are : (taken : ℕ) (size : ℕ → ℕ) (addr end : ℕ) (bytes : List ℕ) → ((a : ℕ) → 0 < size a)
     → addr + length bytes ≡ end → IsBytes bytes → Every (IsRow size end) (rows_behind taken size addr bytes)

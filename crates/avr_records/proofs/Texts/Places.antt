@@ -1,7 +1,6 @@
 -- The addresses of a data record's bytes, and whether a memory has them.
-use Rattle.std.proofs.Common.{◌≡◌, ◌∙◌, ap, inl, inr, refl, sym, arith, ℕ, ◌+◌, ◌*◌, ◌%◌, ◌<◌, ◌≤◌, List, [], ◌∷◌, ◌++◌, length, map, take, drop, Option, Some, None, Result, Ok, Err, nat_lt, max, false, true, rules}
+use Rattle.std.proofs.Common.{◌≡◌, ap, refl, sym, arith, ℕ, ◌+◌, ◌*◌, ◌%◌, ◌<◌, ◌≤◌, List, [], ◌∷◌, ◌++◌, length, map, take, drop, Option, Some, None, Result, Ok, Err, max, false, true, rules}
 use Rattle.std.proofs.lemmas.Bool.Decides.{nat_tests}
-use Rattle.std.proofs.lemmas.Bool.{cases_Bool}
 use Rattle.std.proofs.lemmas.List.{length-take-le, length-drop, take-append-drop, take_rest}
 use Rattle.std.proofs.lemmas.List.Sums.{fold-append}
 use Rattle.std.specs.List.{enumerate_from}
@@ -24,7 +23,7 @@ places_from base offset i bytes = map (λ p. (address base offset p.0, p.1)) (en
 
 -- ---- the addresses
 
-linear_from : (upper offset i : ℕ) (bytes : List ℕ) (addr : ℕ) → addr ≡ upper * 65536 + offset + i
+pub linear_from : (upper offset i : ℕ) (bytes : List ℕ) (addr : ℕ) → addr ≡ upper * 65536 + offset + i
     → places_from (Linear upper) offset i bytes ≡ enumerate_from addr bytes
 linear_from upper offset i [] addr is = refl
 linear_from upper offset i (b ∷ bs) addr is =
@@ -42,10 +41,7 @@ segment_from paragraph offset i [] addr is room = refl
 segment_from paragraph offset i (b ∷ []) addr is room = ap (λ (n : ℕ). (n, b) ∷ []) (sym is)
 segment_from paragraph offset i (b ∷ c ∷ bs) addr is room =
     let next : (offset + (i + 1)) % 65536 ≡ (offset + i) % 65536 + 1 = omega (arith, room) in
-    search (
-      rules,
-      segment_from paragraph offset (i + 1) (c ∷ bs) (addr + 1) (omega (arith, is, next)) (omega (arith, room, next)),
-    )
+    grind (arith, nat_tests, next, segment_from paragraph offset (i + 1) (c ∷ bs) (addr + 1))
 
 -- they do so within a segment too
 pub places_segment : (paragraph offset : ℕ) (bytes : List ℕ) → offset % 65536 + length bytes ≤ 65536
@@ -67,42 +63,26 @@ places_wrapped paragraph offset before behind full short = grind (arith, nat_tes
 pub places_wrapped_at : (paragraph offset n : ℕ) (bytes : List ℕ) → offset % 65536 + n ≡ 65536 → n ≤ length bytes
     → length bytes ≤ 255 → places (Segment paragraph) offset bytes
     ≡ enumerate_from (paragraph * 16 + offset % 65536) (take n bytes) ++ enumerate_from (paragraph * 16) (drop n bytes)
-places_wrapped_at paragraph offset n bytes full fits' short =
-    let before = length-take-le n bytes fits' in
-    let behind = length-drop n bytes in
-    ap (places (Segment paragraph) offset) (sym (take-append-drop n bytes))
-    ∙ places_wrapped paragraph offset (take n bytes) (drop n bytes) (omega (arith, before, full))
-    (omega (arith, behind, short))
+places_wrapped_at paragraph offset n bytes full inside short =
+    let wrapped = places_wrapped paragraph offset (take n bytes) (drop n bytes) in
+    grind (arith, nat_tests, length-take-le, length-drop, take-append-drop, wrapped)
 
 -- ---- the first address out of range
 
 pub first_outside_append : (size : ℕ) (xs ys : List (ℕ × ℕ)) → first_outside size xs ≡ None
     → first_outside size (xs ++ ys) ≡ first_outside size ys
 first_outside_append size [] ys none = refl
-first_outside_append size (x ∷ xs) ys none =
-    elim (cases_Bool (nat_lt x.0 size)) [
-      | inl t ↦ rw t (first_outside_append size xs ys (rw t at none))
-      | inr f ↦ cc (rw f at none)
-    ]
+first_outside_append size (x ∷ xs) ys none = grind (arith, nat_tests, first_outside_append size xs ys)
 
 pub first_outside_first : (size : ℕ) (xs ys : List (ℕ × ℕ)) (addr : ℕ) → first_outside size xs ≡ Some addr
     → first_outside size (xs ++ ys) ≡ Some addr
 first_outside_first size [] ys addr found = cc found
-first_outside_first size (x ∷ xs) ys addr found =
-    elim (cases_Bool (nat_lt x.0 size)) [
-      | inl t ↦ rw t (first_outside_first size xs ys addr (rw t at found))
-      | inr f ↦ rw f (rw f at found)
-    ]
+first_outside_first size (x ∷ xs) ys addr found = grind (arith, nat_tests, first_outside_first size xs ys addr)
 
 pub first_outside_parts : (size : ℕ) (xs ys : List (ℕ × ℕ)) → first_outside size (xs ++ ys) ≡ None
     → (first_outside size xs ≡ None) × (first_outside size ys ≡ None)
 first_outside_parts size [] ys none = (refl, none)
-first_outside_parts size (x ∷ xs) ys none =
-    elim (cases_Bool (nat_lt x.0 size)) [
-      | inl t ↦ let more : first_outside size (xs ++ ys) ≡ None = rw t at none in
-          rw t (first_outside_parts size xs ys more)
-      | inr f ↦ cc (rw f at none)
-    ]
+first_outside_parts size (x ∷ xs) ys none = grind (arith, nat_tests, first_outside_parts size xs ys)
 
 -- a span inside the memory has no address out of range
 first_outside_span : (size addr : ℕ) (bytes : List ℕ) → fits addr bytes size ≡ true
@@ -110,9 +90,7 @@ first_outside_span : (size addr : ℕ) (bytes : List ℕ) → fits addr bytes si
 first_outside_span size addr [] inside = refl
 first_outside_span size addr (b ∷ []) inside = grind (arith, nat_tests)
 first_outside_span size addr (b ∷ c ∷ bs) inside =
-    let here : nat_lt addr size ≡ true = grind (arith, nat_tests) in
-    let rest : fits (addr + 1) (c ∷ bs) size ≡ true = grind (arith, nat_tests) in
-    rw here (first_outside_span size (addr + 1) (c ∷ bs) rest)
+    grind (arith, nat_tests, first_outside_span size (addr + 1) (c ∷ bs))
 
 -- a span that isn't inside is out of range at its first address, or at the size
 first_outside_span_end : (size addr : ℕ) (bytes : List ℕ) → fits addr bytes size ≡ false
@@ -120,8 +98,7 @@ first_outside_span_end : (size addr : ℕ) (bytes : List ℕ) → fits addr byte
 first_outside_span_end size addr [] outside = cc outside
 first_outside_span_end size addr (b ∷ []) outside = grind (arith, nat_tests)
 first_outside_span_end size addr (b ∷ c ∷ bs) outside =
-    let rest : fits (addr + 1) (c ∷ bs) size ≡ false = grind (arith, nat_tests) in
-    search (rules, nat_tests, first_outside_span_end size (addr + 1) (c ∷ bs) rest)
+    grind (arith, nat_tests, first_outside_span_end size (addr + 1) (c ∷ bs))
 
 end_past_span : (end addr : ℕ) (bytes : List ℕ) → 0 < length bytes
     → max end (addr + length bytes) ≡ end_after end (enumerate_from addr bytes)
@@ -161,7 +138,7 @@ lays_span old new addr bytes result none is laid = grind (arith, nat_tests, firs
 -- an offset of Intel HEX has 16 bits, and S-records set no base
 pub near : (kind : Kind) (base : AddressBase) (offset : ℕ) (bytes : _) → FitsKind kind (Data offset bytes)
     → HasBase kind base → StartsInRange base offset
-near kind base offset bytes fits' has = search rules
+near kind base offset bytes fits has = search rules
 
 -- the lemmas for `Spans`
 pub ruleset spans_of_record = (nat_tests, take_rest, places_linear, places_segment, places_wrapped_at)

@@ -19,7 +19,7 @@ use Rattle.avr_records.specs.declared.kind.Kind.TheVariants.{Ihex}
 use Rattle.avr_records.specs.declared.kind.AddressBase.TheVariants.{Linear}
 use Rattle.avr_records.proofs.Rows.Cuts.{IsBytes_nil, IsBytes_cons, IsBytes_append, IsRow, Every}
 use Rattle.avr_records.proofs.Writers.Lines.{is_plain, plain_digits, encode_digits, bytes_of_encode, result_plain, lines_plain, lines_written}
-use Rattle.avr_records.proofs.Writers.Reread.{AllGoOn, then_end, threaded, places_linear}
+use Rattle.avr_records.proofs.Writers.Reread.{GoesOn, then_end, threaded, places_linear}
 
 -- the bytes between the colon and the checksum
 abbrev unsummed : ℕ → ℕ → List ℕ → List ℕ
@@ -96,7 +96,7 @@ lines_results upper end (row ∷ rows) fits all =
       lines_results high end rows fits all.1,
     )
 
-pub rows_go_on : (upper : ℕ) (cut : List (ℕ × List ℕ)) → AllGoOn (row_results upper cut)
+pub rows_go_on : (upper : ℕ) (cut : List (ℕ × List ℕ)) → Every GoesOn (row_results upper cut)
 rows_go_on upper [] = tt
 rows_go_on upper (row ∷ more) = let high : ℕ = row.0 / 65536 in search (rules, rows_go_on high more)
 

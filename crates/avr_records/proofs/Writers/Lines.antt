@@ -12,6 +12,7 @@ use Rattle.avr_records.specs.Lines.{lines, is_line_end, is_blank, trimmed_line}
 use Rattle.avr_records.specs.Text.{IsLine}
 use Rattle.avr_records.specs.Record.{bytes_of_digits, longest, unless_long}
 use Rattle.avr_records.specs.Line.{trimmed_line_record}
+use Rattle.std.proofs.lemmas.List.Folds.{list_all-append}
 use Rattle.avr_records.specs.Reading.{line_result, trimmed_line_result, record_meaning}
 use Rattle.avr_records.specs.declared.kind.Kind.{Kind}
 use Rattle.avr_records.specs.declared.fault.LineFault.TheVariants.{TooLong}
@@ -56,12 +57,21 @@ result_plain kind c cs plain short =
     ∙ ap (λ (long : Bool). if long then Err TooLong else trimmed_line_result kind (trimmed_line (c ∷ cs))) test
     ∙ ap (trimmed_line_result kind) (trimmed_plain (c ∷ cs) plain)
 
--- a written line is the first of the lines
+-- a line without a line end is the first of the lines
+open_lines : (line rest : List ℕ) → list_all (λ c. not (is_line_end c)) line ≡ true
+    → lines (line ++ 10 ∷ rest) ≡ line ∷ lines rest
+open_lines [] rest all = refl
+open_lines (c ∷ cs) rest all =
+    let parts = and_parts (not (is_line_end c)) (list_all (λ c. not (is_line_end c)) cs) all in
+    search (rules, open_lines cs rest parts.1)
+
+open_plain : (cs : List ℕ) → list_all is_plain cs ≡ true → list_all (λ c. not (is_line_end c)) cs ≡ true
+open_plain [] all = refl
+open_plain (c ∷ cs) all =
+    let parts = and_parts (is_plain c) (list_all is_plain cs) all in search (rules, open_plain cs parts.1)
+
 pub lines_plain : (line rest : List ℕ) → list_all is_plain line ≡ true → lines (line ++ 10 ∷ rest) ≡ line ∷ lines rest
-lines_plain [] rest plain = refl
-lines_plain (c ∷ cs) rest plain =
-    let parts = and_parts (is_plain c) (list_all is_plain cs) plain in
-    search (rules, lines_plain cs rest parts.1)
+lines_plain line rest plain = open_lines line rest (open_plain line plain)
 
 pub lines_written : (line rest : List ℕ) → list_all is_plain line ≡ true
     → lines ((line ++ 10 ∷ []) ++ rest) ≡ line ∷ lines rest
@@ -69,26 +79,7 @@ lines_written line rest plain = ap lines (append_assoc line (10 ∷ []) rest) �
 
 -- ---- a record is one line
 
-open_lines : (line : List ℕ) → list_all (λ c. not (is_line_end c)) line ≡ true
-    → lines (line ++ 10 ∷ []) ≡ line ∷ [] ∷ []
-open_lines [] all = refl
-open_lines (c ∷ cs) all =
-    let parts = and_parts (not (is_line_end c)) (list_all (λ c. not (is_line_end c)) cs) all in
-    search (rules, open_lines cs parts.1)
-
-open_plain : (cs : List ℕ) → list_all is_plain cs ≡ true → list_all (λ c. not (is_line_end c)) cs ≡ true
-open_plain [] all = refl
-open_plain (c ∷ cs) all =
-    let parts = and_parts (is_plain c) (list_all is_plain cs) all in search (rules, open_plain cs parts.1)
-
-open_append : (prefix back : List ℕ) → list_all (λ c. not (is_line_end c)) prefix ≡ true
-    → list_all (λ c. not (is_line_end c)) back ≡ true → list_all (λ c. not (is_line_end c)) (prefix ++ back) ≡ true
-open_append [] back all more = more
-open_append (c ∷ cs) back all more =
-    let parts = and_parts (not (is_line_end c)) (list_all (λ c. not (is_line_end c)) cs) all in
-    rw parts.0 (open_append cs back parts.1 more)
-
 pub is_line : (marks bytes text : List ℕ) → list_all (λ c. not (is_line_end c)) marks ≡ true → IsBytes bytes
     → text ≡ (marks ++ encode_upper bytes) ++ 10 ∷ [] → IsLine text
 is_line marks bytes text plain all is =
-    search (rules, open_lines, open_append, open_plain, plain_digits, encode_digits, length-append, take_at)
+    search (rules, open_lines, list_all-append, open_plain, plain_digits, encode_digits, length-append, take_at)

@@ -26,7 +26,7 @@ use Rattle.avr_records.specs.declared.fault.LineFault.TheVariants.{Mark}
 use Rattle.avr_records.proofs.Writers.Pieces.{few_bytes, length_low_bytes}
 use Rattle.avr_records.proofs.Rows.Cuts.{IsBytes_nil, IsBytes_append, IsRow, Every}
 use Rattle.avr_records.proofs.Writers.Lines.{is_plain, plain_digits, encode_digits, bytes_of_encode, result_plain, lines_plain, lines_written}
-use Rattle.avr_records.proofs.Writers.Reread.{AllGoOn, then_end, threaded, places_linear}
+use Rattle.avr_records.proofs.Writers.Reread.{GoesOn, then_end, threaded, places_linear}
 
 IsBytes_low_bytes : (size n : ℕ) → IsBytes (low_bytes size n)
 IsBytes_low_bytes zero n = IsBytes_nil
@@ -117,7 +117,7 @@ lines_results size end ((addr, row) ∷ rows) fits all =
     ∙ ap (record_meaning Srec) (typed_data size body ∙ addressed_low type (width_of size) addr row low)
     ∙ meant_data size addr row in search (rules, lines_written, lines_results size end rows fits all.1)
 
-pub rows_go_on : (rows : List (ℕ × List ℕ)) → AllGoOn (map emitted_of rows)
+pub rows_go_on : (rows : List (ℕ × List ℕ)) → Every GoesOn (map emitted_of rows)
 rows_go_on [] = tt
 rows_go_on (row ∷ rows) = (tt, rows_go_on rows)
 
