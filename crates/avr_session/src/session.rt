@@ -15,9 +15,7 @@ ghost use Rattle.avr_part.specs.Part.{size_of};
 ghost use Rattle.avr_plan.specs.Plan.{IsFitted};
 
 use crate::ending::{End, Outcome, conclude, outcome_of};
-use crate::reports::{
-    Done, report_bytes, report_image, report_opening, report_step, warn,
-};
+use crate::reports::{Done, report_bytes, report_image, report_opening, report_step, warn};
 use crate::saving::{Target, report_read};
 use avr_desk::{Desk, Piece};
 use avr_image::Image;
