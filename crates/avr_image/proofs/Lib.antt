@@ -5,3 +5,4 @@ pub mod Fields
 pub mod Texts
 pub mod Places
 pub mod Walks
+pub mod Stored

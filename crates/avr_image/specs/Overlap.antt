@@ -6,10 +6,6 @@ use Rattle.avr_image.specs.Image.{byte_at}
 abbrev pub hold_both : List (Option ℕ) → List (Option ℕ) → ℕ → Bool
 hold_both first second addr = is_some (byte_at first addr) && is_some (byte_at second addr)
 
--- They do so at no address.
-abbrev pub AreDisjoint : List (Option ℕ) → List (Option ℕ) → Type 0
-AreDisjoint first second = (addr : ℕ) → hold_both first second addr ≡ false
-
 -- Both hold a byte at this address, and at no lower one.
 pub record IsFirstOverlap (first second : List (Option ℕ)) (addr : ℕ) : Type 0 where
   pub both : hold_both first second addr ≡ true

@@ -26,6 +26,7 @@ pub(crate) fn unmark(words: &mut Vec<u64>, addr: usize)
 }
 
 /// Returns the place of the lowest 1 from `from` on, or 64 if there is none.
+#[tactic(auto, using(crate::proofs::Fields::Masks::next_is))]
 fn next_one(word: u64, from: u32) -> u32
     requires { from < 64 }
     ensures { NextOne word from result }
@@ -34,6 +35,7 @@ fn next_one(word: u64, from: u32) -> u32
 }
 
 /// Returns a word with a 1 for each address whose presence is `wanted`.
+#[tactic(auto, using(crate::proofs::Fields::Masks::other_bit))]
 fn matching(word: u64, wanted: bool) -> u64
     ensures { (i : ℕ) → i < 64 → (bit_at result i == 1) ≡ (if wanted then bit_at word i == 1
         else not (bit_at word i == 1)) }

@@ -7,6 +7,7 @@ use crate::list::Base;
 use arrayvec::ArrayVec;
 
 /// Writes the digits to the end of `buffer` and returns where they begin.
+#[tactic(auto, using(crate::proofs::Texts::Digits::digits_written))]
 fn write_digits(radix: u8, byte: u8, buffer: &mut [u8; 8]) -> usize
     requires { (2 ≤ radix) × (radix ≤ 16) }
     ensures start { result ≤ 8 }

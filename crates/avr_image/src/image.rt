@@ -1,6 +1,6 @@
 //! Images of memories: for each byte address a byte or a gap.
 
-ghost use Rattle.std.specs.Prelude.{◌≡◌, ◌==◌, ◌+◌, ◌^◌, ◌<◌, ◌≤◌, ℕ, List, length, max, nat_lt, Ok, Err, OnOk, OnErr, MatchOption, MatchResult, None, slice_index, slice_index_or, slice_set, if◌then◌else◌};
+ghost use Rattle.std.specs.Prelude.{◌≡◌, ◌==◌, ◌+◌, ◌^◌, ◌<◌, ◌≤◌, ℕ, List, length, max, nat_lt, Ok, Err, OnOk, OnErr, MatchOption, MatchResult, None, false, slice_index, slice_index_or, slice_set, if◌then◌else◌};
 ghost use Rattle.std.specs.Cmp.{nat_eq_equiv, partial_equiv_from_equiv};
 ghost use Rattle.std.specs.Cmp.Lexicographic.{lists_equiv, options_equiv};
 ghost use Rattle.avr_image.specs.Image.{empty, is_same, byte_at, with_byte, byte_count, filled_bytes, first_from, holds_any, run_end, fits, with_pairs, over, IsImage};
@@ -8,7 +8,7 @@ ghost use Rattle.avr_image.specs.Runs.{runs};
 ghost use Rattle.avr_image.specs.Walk.{IsLastHeld};
 ghost use Rattle.std.specs.List.{enumerate_from};
 ghost use Rattle.avr_image.specs.Dense.{with_span};
-ghost use Rattle.avr_image.specs.Overlap.{AreDisjoint, IsFirstOverlap};
+ghost use Rattle.avr_image.specs.Overlap.{IsFirstOverlap, hold_both};
 
 use crate::bits::{first_place, is_set, mark, mark_span, unmark};
 use crate::fault::ImageFault;
@@ -62,6 +62,7 @@ fn paste(bytes: &mut Vec<u8>, start: usize, span: &[u8])
     bytes[start..end].copy_from_slice(span);
 }
 
+#[tactic(auto, using(crate::proofs::Stored::stored))]
 impl Image {
     /// Creates an empty image of a memory of `size` bytes. No other call on it allocates, except `try_clone`.
     ///
@@ -336,7 +337,8 @@ impl Image {
     /// assert_eq!(rt; image.first_overlap(&other), Some(9));
     /// ```
     pub fn first_overlap(&self, other: &Image) -> Option<u32>
-        ensures { MatchOption result (AreDisjoint self.now other.now) (IsFirstOverlap self.now other.now) }
+        ensures { MatchOption result ((addr : ℕ) → hold_both self.now other.now addr ≡ false)
+            (IsFirstOverlap self.now other.now) }
     {
         for addr in 0..self.size() {
             if self.get(addr).is_some() && other.get(addr).is_some() {

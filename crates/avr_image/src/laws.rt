@@ -1,4 +1,5 @@
 //! Laws of the definitions that contracts cite. They hold whatever the code does.
+#![tactic(auto, using(crate::proofs::Lemmas::laws))]
 
 ghost use Rattle.std.specs.Prelude.{◌≡◌, ◌≢◌, ◌<◌, ◌≤◌, ◌↔◌, ◌+◌, ◌-◌, ◌++◌, ◌⊎◌, ℕ, true, List, [], ◌∷◌, All, length, take, drop, min, flat_map, slice_index_or, is_some, IsTrue, Ok, Err, Option, None, Some};
 ghost use Rattle.std.specs.List.{enumerate_from, slice_range};
@@ -21,21 +22,18 @@ pub fn bytes_are_held_below_the_size()
 {}
 
 /// The image of two lists of bytes, one after the other, is the second list's image laid over the first list's.
-#[tactic(auto, using(crate::proofs::Lemmas::parts_are_over))]
 pub fn parts_are_laid_over()
     ensures { (size : ℕ) (first second : List (ℕ × ℕ)) → image_of_pairs size (first ++ second)
         ≡ over (image_of_pairs size first) (image_of_pairs size second) }
 {}
 
 /// Putting bytes into an image has the same result as laying an image of just these bytes over it.
-#[tactic(auto, using(crate::proofs::Lemmas::laid_is_over))]
 pub fn laying_is_laying_over()
     ensures { (image : List (Option ℕ)) (places : List (ℕ × ℕ))
         → with_pairs image places ≡ over image (image_of_pairs (length image) places) }
 {}
 
 /// Laying images of one size over each other is associative.
-#[tactic(auto, using(crate::proofs::Lemmas::over_groups))]
 pub fn laying_over_groups()
     ensures { (first second third : List (Option ℕ)) → length second ≡ length third
         → over (over first second) third ≡ over first (over second third) }
@@ -89,7 +87,6 @@ pub fn images_are_equal_by_address()
 {}
 
 /// `==` is true exactly if the images are equal: same size, bytes and gaps.
-#[tactic(auto, using(crate::proofs::Lemmas::equal_are_one))]
 pub fn equal_images_are_one()
     ensures { (first second : List (Option ℕ)) → IsTrue (is_same first second) ↔ (first ≡ second) }
 {}
@@ -103,7 +100,6 @@ pub fn first_from_is_the_next_held()
 {}
 
 /// `run_end` is the address after the longest run of bytes from an address on, up to a limit.
-#[tactic(auto, using(crate::proofs::Lemmas::run_is_longest))]
 pub fn run_end_is_the_longest_run()
     ensures { (image : List (Option ℕ)) (addr end : ℕ) → addr ≤ end
         → IsByteRun image addr end (run_end image addr end) }

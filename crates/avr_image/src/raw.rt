@@ -70,6 +70,7 @@ impl RawReader {
     /// assert_eq!(rt; reader.feed(&[0x0C, 0x94, 0x34]), Err(ImageFault::OutOfRange(2)));
     /// assert_eq!(rt; reader.feed(&[]), Err(ImageFault::Failed));
     /// ```
+    #[tactic(auto, using(std::proofs::lemmas::Bool::Decides::nat_tests, crate::proofs::Texts::RawBytes::stands_fed))]
     pub fn feed(&mut self, piece: &[u8]) -> Result<(), ImageFault>
         ensures of_text { (text : List ℕ) → HoldsText self.old text → result
             ≡ result_and (raw (text ++ piece.now) (length self.old.image)) (Ok tt) }

@@ -35,6 +35,7 @@ impl<'a> Model for Runs<'a> {
     ghost view = { λ r. runs r.addr (drop r.addr r.image.now) };
 }
 
+#[tactic(auto, using(crate::proofs::Walks::Runs::stepped))]
 impl<'a> Iterator for Runs<'a> {
     type Item = (u32, &'a [u8]);
 

@@ -16,6 +16,7 @@ fn separates(c: u8) -> bool
 }
 
 /// Returns the length of the text up to the next separator.
+#[tactic(auto, using(crate::proofs::Texts::Values::first_piece))]
 fn piece_len(text: &[u8]) -> usize
     ensures counted { result ≡ position_or_len is_separator text.now }
     ensures within { result ≤ length text.now }
@@ -29,6 +30,7 @@ fn piece_len(text: &[u8]) -> usize
 }
 
 /// Returns the number that the digits write, or 256 if it is larger.
+#[tactic(auto, using(crate::proofs::Texts::Digits::digits_read))]
 fn read_number(base: u32, digits: &[u8]) -> Option<u32>
     requires { (2 ≤ base) × (base ≤ 16) }
     ensures { result ≡ option_map (λ n. min n 256) (number_in_base base digits.now) }
@@ -59,7 +61,7 @@ fn read_value(piece: &[u8]) -> Option<u32>
 }
 
 /// Returns the byte of the value for an address, or the value's fault.
-fn judge(size: u32, addr: u32, piece: &[u8]) -> Result<u8, ImageFault>
+fn check_value(size: u32, addr: u32, piece: &[u8]) -> Result<u8, ImageFault>
     ensures { result ≡ byte_of_value size (addr, piece.now) }
 {
     let Some(value) = read_value(piece) else {
@@ -89,6 +91,7 @@ fn judge(size: u32, addr: u32, piece: &[u8]) -> Result<u8, ImageFault>
 /// image.fill(0, &mut bytes);
 /// assert_eq!(rt; bytes, [0x12, 0x05, 0x0F, 0xFF]);
 /// ```
+#[tactic(auto, using(crate::proofs::Texts::Values::values_read))]
 pub fn parse_immediate(alloc: Global, text: &str, size: u32) -> Result<Image, ImageFault>
     ensures value { OrOutOfMemory result (image_of_values text.now size) }
     ensures size { IfOk result (λ image. length image ≡ size) }
@@ -100,7 +103,7 @@ pub fn parse_immediate(alloc: Global, text: &str, size: u32) -> Result<Image, Im
         let len = piece_len(rest);
         if len > 0 {
             let (piece, more) = rest.split_at(len);
-            let byte = judge(image.size(), addr, piece)?;
+            let byte = check_value(image.size(), addr, piece)?;
             image.put(addr, byte)?;
             addr += 1;
             rest = more;

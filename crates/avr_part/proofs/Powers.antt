@@ -5,11 +5,11 @@ use Rattle.std.specs.Int.{is_power_of_two}
 use Rattle.std.proofs.lemmas.Bool.{and_parts, or_cases, eqb-true, ltb-true, cases_lt}
 
 -- each number below n passes the test
-abbrev all_below : (ℕ → Bool) → ℕ → Bool
+abbrev pub all_below : (ℕ → Bool) → ℕ → Bool
 all_below test zero = true
 all_below test (suc n) = test n && all_below test n
 
-below : (test : ℕ → Bool) (n i : ℕ) → all_below test n ≡ true → i < n → test i ≡ true
+pub below : (test : ℕ → Bool) (n i : ℕ) → all_below test n ≡ true → i < n → test i ≡ true
 below test zero i all l = absurd (omega arith)
 below test (suc n) i all l =
     let parts = and_parts (test n) (all_below test n) all in
@@ -25,14 +25,11 @@ is_page n = 256 % n == 0 && (nat_lt n 2 || n % 2 == 0)
 abbrev page_if_power : ℕ → Bool
 page_if_power n = cond (is_power_of_two n) (is_page n) true
 
-all_pages : all_below page_if_power 257 ≡ true
-unfolding lib.Count.ones
-all_pages = refl
-
 page_of_power : (n : ℕ) → is_power_of_two n ≡ true → n ≤ 256 → is_page n ≡ true
+unfolding lib.Count.ones
 page_of_power n power most =
     ap (λ (b : Bool). cond b (is_page n) true) (let e : true ≡ is_power_of_two n = cc in e)
-    ∙ below page_if_power 257 n all_pages (omega arith)
+    ∙ below page_if_power 257 n refl (omega arith)
 
 pub power_divides : (n : ℕ) → is_power_of_two n ≡ true → n ≤ 256 → 256 % n ≡ 0
 power_divides n power most = search (rules, page_of_power n power most)

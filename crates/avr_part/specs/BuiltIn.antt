@@ -1,7 +1,5 @@
 -- The built-in parts, and how a part is found.
-use Rattle.std.specs.Prelude.{ℕ, List, [], ◌∷◌, ◌++◌, Bool, codes, Option, Result, ok_or, find}
-use Rattle.std.specs.Option.{option_map_or}
-use Rattle.std.specs.Global.{Vec}
+use Rattle.std.specs.Prelude.{ℕ, List, [], ◌∷◌, ◌++◌, Bool, codes, Result, ok_or, find}
 use Rattle.std.specs.Str.{bytes_eq}
 use Rattle.avr_part.specs.Part.{Part}
 use Rattle.avr_part.specs.declared.fault.PartFault.{PartFault}
@@ -50,7 +48,3 @@ has_id id p = bytes_eq p.id id
 -- the first part of this id; parts of a file come before the built-in ones
 abbrev pub part_of_id : List ℕ → List Part → Result Part PartFault
 part_of_id id parts = ok_or (find (has_id id) (parts ++ built_in_parts)) NoSuchPart
-
--- the parts of the part file, if there is one
-abbrev pub parts_of_file : Option (Vec Part) → List Part
-parts_of_file file = option_map_or (λ v. v.items) file []

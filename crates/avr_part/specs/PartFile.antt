@@ -108,34 +108,23 @@ pub record FaultWithLine : Type 0 where
   pub why : NamedFault
   pub line : Option ℕ
 
--- the fault of a text that stops being TOML at this line; below, any other fault
+-- the fault of a text that stops being TOML at this line
 abbrev pub not_toml_at : ℕ → FaultWithLine
 not_toml_at line = record { why = of_file NotToml; line = Some line }
-
-abbrev pub without_line : NamedFault → FaultWithLine
-without_line why = record { why = why; line = None }
 
 -- only a text that is not TOML has a line, which is one of its lines
 abbrev pub IsPlaced : Bytes → FaultWithLine → Type 0
 IsPlaced text f =
     MatchOption f.line (f.why.fault ≢ NotToml) (λ line. (f.why.fault ≡ NotToml) × (1 ≤ line) × (line ≤ line_count text))
 
--- the result without the fault's line
-abbrev pub unplaced : {T : Type 0} → Result T FaultWithLine → Result T NamedFault
-unplaced = result_map_both (λ t. t) (λ f. f.why)
-
 -- the result without the id of the part at fault
 abbrev pub unnamed : {T : Type 0} → Result T NamedFault → Result T PartFault
 unnamed = result_map_both (λ t. t) (λ f. f.fault)
 
--- the bytes, if they are a text in UTF-8
-abbrev pub utf8_text : Bytes → Option Bytes
-utf8_text bytes = if is_utf8 bytes then Some bytes else None
-
 -- the parts of a part file with these bytes, or why it is refused
 abbrev pub parts_of : Bytes → Result (List Part) NamedFault
 parts_of bytes = do
-  text ← ok_or (utf8_text bytes) (of_file NotToml)
+  text ← ok_or (if is_utf8 bytes then Some bytes else None) (of_file NotToml)
   document ← ok_or (parse_document text) (of_file NotToml)
   document_parts document
 

@@ -1,10 +1,10 @@
 //! Faults of a part file, with their part and line.
 ghost use Rattle.std.specs.Prelude.{◌≡◌, Some, option_map};
 ghost use Rattle.avr_part.specs.Part.{id_of};
-ghost use Rattle.avr_part.specs.PartFile.{of_file, not_toml_at, without_line};
+ghost use Rattle.avr_part.specs.PartFile.{of_file, not_toml_at};
 
+use crate::check::id_of;
 use crate::fault::PartFault;
-use crate::judge::id_of;
 use arrayvec::ArrayString;
 use std::error::Error;
 use std::fmt;
@@ -77,7 +77,7 @@ impl PartFileFault {
     }
 
     pub(crate) fn without_line(why: NamedFault) -> PartFileFault
-        ensures { result ≡ without_line why }
+        ensures { result ≡ record { why = why; line = None } }
     {
         PartFileFault { why, line: None }
     }

@@ -8,7 +8,7 @@ ghost use Rattle.avr_part.specs.State.{ChipState, with_empty_buffers, with_erase
 ghost use Rattle.avr_part.specs.Part.{Part};
 ghost use Rattle.avr_part.specs.Sound.{IsSoundChip};
 ghost use Rattle.avr_part.specs.ChipFile.{chip_file, chip_file_size, chip_from_file, state_from_file};
-ghost use Rattle.avr_part.specs.Laws.{flash_loaded_as, eeprom_loaded_as, KeepsMemories};
+ghost use Rattle.avr_part.specs.Laws.{KeepsMemories};
 
 /// A memory is found by its own name and by no other text.
 #[tactic(auto, using(crate::proofs::MemoryNames::found_by_name, crate::proofs::MemoryNames::name_of_found))]
@@ -27,14 +27,16 @@ pub fn erased_twice_is_erased_once()
 #[tactic(auto, using(crate::proofs::Twice::flash_page_twice))]
 pub fn flash_page_twice_is_once()
     ensures { (word : ℕ) (s : ChipState)
-        → with_flash_page word (flash_loaded_as s (with_flash_page word s)) ≡ with_flash_page word s }
+        → with_flash_page word (record (with_flash_page word s) { flash_buffer = s.flash_buffer })
+        ≡ with_flash_page word s }
 {}
 
 /// Writing an EEPROM page again from the same buffer changes nothing more, also if the chip is locked.
 #[tactic(auto, using(crate::proofs::Twice::eeprom_page_twice))]
 pub fn eeprom_page_twice_is_once()
     ensures { (address : ℕ) (s : ChipState)
-        → with_eeprom_page address (eeprom_loaded_as s (with_eeprom_page address s)) ≡ with_eeprom_page address s }
+        → with_eeprom_page address (record (with_eeprom_page address s) { eeprom_buffer = s.eeprom_buffer })
+        ≡ with_eeprom_page address s }
 {}
 
 /// Writing a fuse again with the same byte changes nothing more, also if the chip is locked.

@@ -12,9 +12,9 @@
 mod part;
 mod parts;
 // the part file
+mod check;
 mod fault;
 mod file_fault;
-mod judge;
 mod lines;
 mod part_file;
 // the chip: its instructions, memories and file

@@ -1,13 +1,14 @@
 ghost use Rattle.std.specs.Prelude.{◌≡◌, ◌≢◌, false, Err, Some, None, IfErr};
+ghost use Rattle.std.specs.Result.{result_map_both};
 ghost use Rattle.std.specs.Str.{is_utf8};
 ghost use Rattle.std.specs.Str.Lossy.{utf8_valid_len};
 ghost use Rattle.toml.specs.View.{table_view};
 ghost use Rattle.toml.specs.Parse.{parse_document};
-ghost use Rattle.avr_part.specs.PartFile.{ReadsUnlessOutOfMemory, listed_items, parts_in, document_parts, parts_of, GivesPartUnlessOutOfMemory, unnamed, ReadsDocument, IsPlaced, line_at, not_toml_at, unplaced};
+ghost use Rattle.avr_part.specs.PartFile.{ReadsUnlessOutOfMemory, listed_items, parts_in, document_parts, parts_of, GivesPartUnlessOutOfMemory, unnamed, ReadsDocument, IsPlaced, line_at, not_toml_at};
 
+use crate::check::{at_key, check_member};
 use crate::fault::{Field, PartFault};
 use crate::file_fault::{NamedFault, PartFileFault};
-use crate::judge::{at_key, check_member};
 use crate::lines::line_at;
 use crate::part::Part;
 use crate::parts::Parts;
@@ -79,7 +80,8 @@ fn read_document(alloc: Global, text: &str) -> Result<Table, PartFileFault>
 /// ```
 #[tactic(auto, using(crate::proofs::CheckedParts::checks_text))]
 pub fn parse_part_file(alloc: Global, text: &[u8]) -> Result<Parts, PartFileFault>
-    ensures reads { ReadsUnlessOutOfMemory (parts_of text.now) (unplaced result) }
+    ensures reads { ReadsUnlessOutOfMemory (parts_of text.now)
+        (result_map_both (λ parts. parts) (λ fault. fault.why) result) }
     ensures line { IfErr result (IsPlaced text.now) }
     ensures no_text { is_utf8 text.now ≡ false → result ≡ Err
         (not_toml_at (line_at text.now (utf8_valid_len text.now))) }

@@ -21,13 +21,13 @@ pub struct Parts {
 }
 
 impl Model for Parts {
-    ghost use Rattle.std.specs.Prelude.{List};
+    ghost use Rattle.std.specs.Prelude.{List, []};
     ghost use Rattle.avr_part.specs.Part.{Part};
-    ghost use Rattle.avr_part.specs.BuiltIn.{parts_of_file};
+    ghost use Rattle.std.specs.Option.{option_map_or};
 
     ghost Value = { List Part };
 
-    ghost view = { λ p. parts_of_file p.file };
+    ghost view = { λ p. option_map_or (λ parts. parts.items) p.file [] };
 }
 
 impl Parts {

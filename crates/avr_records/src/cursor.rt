@@ -14,6 +14,7 @@ use crate::{ihex_line, srec_line};
 use arrayvec::ArrayVec;
 
 /// Returns the last address that holds a byte, or 0.
+#[tactic(auto, using(crate::proofs::Writers::SparseWalk::last_found))]
 fn last_held_of<M: Sparse>(memory: &M) -> u64
     ensures last { result ≡ last_held 0 0 (M.held memory.now) }
     ensures memory { IsMemory (M.held memory.now) }
@@ -92,6 +93,7 @@ impl Cursor {
     /// assert!(rt; cursor.next_line(&image, &mut line));
     /// assert_eq!(rt; line.as_slice(), b":020000040002F8\n".as_slice());
     /// ```
+    #[tactic(auto, using(crate::proofs::Writers::SparseWalk::lines_written))]
     pub fn next_line<M: Sparse>(&mut self, memory: &M, out: &mut ArrayVec<u8, 80>) -> bool
         ensures joined { text_left self.old (M.held memory.now) ≡ out.new.items
             ++ text_left self.new (M.held memory.now) }

@@ -21,6 +21,7 @@ fn is_elf(prefix: &[u8]) -> bool
     prefix.starts_with(b"\x7fELF")
 }
 
+#[tactic(auto, using(crate::proofs::Readers::FirstBytes::detected))]
 fn has_digits(n: usize, text: &[u8]) -> bool
     ensures { result ≡ spec_has_digits n text.now }
 {
@@ -57,6 +58,7 @@ fn shown_unless_blank(line: &[u8]) -> Option<Found>
 }
 
 /// Returns the format that the first line that isn't blank shows.
+#[tactic(auto, using(crate::proofs::Readers::FirstBytes::detected))]
 fn first_shown(prefix: &[u8]) -> Found
     ensures { result ≡ format_of_line (find (λ line. not (list_all is_blank line)) (lines prefix.now)) }
 {

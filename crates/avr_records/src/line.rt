@@ -17,6 +17,7 @@ use crate::srec::srec_fields;
 use memchr::memchr;
 
 /// Splits the text at its first line end, if there is one.
+#[tactic(auto, using(crate::proofs::Texts::LineEnds::line_ends))]
 #[inline(always)]
 pub(crate) fn split_line(text: &[u8]) -> Option<(&[u8], &[u8])>
     ensures { MatchOption result (lines text.now ≡ text.now ∷ [])

@@ -20,6 +20,7 @@ use avr_image::Image;
 const KEPT: usize = LONGEST + 1;
 
 /// Appends to the kept beginning of a line, as far as there is room.
+#[tactic(auto, using(crate::proofs::Readers::Fed::piece_read))]
 fn extend(part: &mut ArrayVec<u8, KEPT>, more: &[u8])
     ensures kept { part.new.items ≡ kept_of_line (part.old.items ++ more.now) }
     ensures count { length part.new.items ≤ length part.old.items + length more.now }
@@ -37,6 +38,7 @@ pub struct LineReader {
     pub(crate) room: [u8; ROOM],
 }
 
+#[tactic(auto, using(crate::proofs::Readers::Fed::lines_read))]
 impl LineReader {
     /// Reads a line, of which `rest` are the last bytes. If no earlier bytes are kept, the line isn't copied.
     #[inline(always)]

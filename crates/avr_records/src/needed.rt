@@ -23,6 +23,7 @@ use crate::progress::Extent;
 /// let size = needed_size(Kind::Ihex, b":020000040800F2\n:020010000102EB\n:00000001FF\n");
 /// assert_eq!(rt; size, Ok(0x0800_0012));
 /// ```
+#[tactic(auto, using(crate::proofs::Readers::Extents::lines_walked))]
 pub fn needed_size(kind: Kind, text: &[u8]) -> Result<u32, RecordFault>
     ensures size { length text.now < 2 ^ 32 → result ≡ size_needed_in_text kind text.now }
     ensures long { 2 ^ 32 ≤ length text.now → result ≡ Err RecordFault.TooLong }
@@ -48,6 +49,7 @@ pub fn needed_size(kind: Kind, text: &[u8]) -> Result<u32, RecordFault>
 }
 
 /// A file is read without a fault exactly if the memory has at least the needed size.
+#[tactic(auto, using(crate::proofs::Readers::NeededSize::least))]
 pub fn a_needed_size_is_the_least()
     ensures enough { (kind : Kind) (text : List ℕ) (needed size : ℕ)
         → size_needed_in_text kind text ≡ Ok needed → needed ≤ size

@@ -161,6 +161,7 @@ impl<'a> Spans<'a> {
     }
 
     /// Returns the bytes of a data record with this offset, under this base.
+    #[tactic(auto, using(crate::proofs::Texts::Places::spans_of_record))]
     pub(crate) fn of_record(base: AddressBase, offset: u32, bytes: &'a [u8]) -> Spans<'a>
         requires short { length bytes.now ≤ 255 }
         requires near { StartsInRange base offset }
@@ -186,6 +187,7 @@ impl<'a> Spans<'a> {
     }
 
     /// Returns the end of all bytes once these are added, or their first address that isn't below `limit`.
+    #[tactic(auto, using(crate::proofs::Texts::Places::spans_end))]
     pub(crate) fn end(self, limit: u32, end: u32) -> Result<u32, u32>
         ensures { IsEndOrOutOfRange limit end (spans_places self.entry) result }
     {
@@ -196,6 +198,7 @@ impl<'a> Spans<'a> {
     }
 
     /// Puts the bytes into an image. All their addresses have to be inside.
+    #[tactic(auto, using(crate::proofs::Texts::Places::spans_laid))]
     #[inline(always)]
     pub(crate) fn lay(self, image: &mut Image)
         requires { first_outside (length image.old) (spans_places self) ≡ None }

@@ -118,6 +118,7 @@ impl RecordReader {
     /// assert_eq!(rt; reader.feed(b"\n"), Err(RecordFault::BadSum(1)));
     /// assert_eq!(rt; reader.finish().err(), Some(RecordFault::Failed));
     /// ```
+    #[tactic(auto, using(std::proofs::lemmas::Bool::Decides::nat_tests, crate::proofs::Readers::Fed::no_fault_so_far))]
     pub fn feed(&mut self, piece: &[u8]) -> Result<(), RecordFault>
         requires { self.old.fed + length piece.now < 2 ^ 32 }
         ensures of_text { (text : List ℕ) → MayHaveRead self.old text → result

@@ -1,7 +1,8 @@
 ghost use Rattle.std.specs.Prelude.{◌≡◌, ◌≤◌, length};
 ghost use Rattle.avr_records.specs.Judging.{record_of};
 ghost use Rattle.avr_records.specs.Line.{line_record};
-ghost use Rattle.avr_records.specs.Reading.{single_line_result};
+ghost use Rattle.avr_records.specs.Reading.{in_line};
+ghost use Rattle.std.specs.Result.{result_map_both};
 
 use crate::bytes::ROOM;
 use crate::fault::RecordFault;
@@ -125,7 +126,7 @@ impl fmt::Debug for Record {
 /// assert_eq!(rt; fault, Some(RecordFault::BadSum(1)));
 /// ```
 pub fn read_record(kind: Kind, line: &[u8]) -> Result<Record, RecordFault>
-    ensures { result ≡ single_line_result (line_record kind line.now) }
+    ensures { result ≡ result_map_both (λ found. found) (in_line 1) (line_record kind line.now) }
 {
     let mut room = [0; ROOM];
     record_in(kind, line, &mut room)

@@ -47,6 +47,7 @@ impl<'a> Run<'a> {
 }
 
 /// Returns the least address from `addr` on that holds a byte.
+#[tactic(auto, using(crate::proofs::Writers::RunWalk::run_next))]
 fn next_in(base: u32, bytes: &[u8], addr: u64) -> Option<u32>
     requires { base + length bytes.now ≤ 2 ^ 32 }
     ensures next { result ≡ first_from (run_at base bytes.now) addr }
@@ -60,6 +61,7 @@ fn next_in(base: u32, bytes: &[u8], addr: u64) -> Option<u32>
     }
 }
 
+#[tactic(auto, using(crate::proofs::Writers::RunWalk::run_row))]
 impl Sparse for Run<'_> {
     ghost held = { λ run. run };
 

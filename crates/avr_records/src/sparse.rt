@@ -34,6 +34,7 @@ pub trait Sparse {
 }
 
 /// Returns the address after the row that begins at `place` and has at most `most` bytes.
+#[tactic(auto, using(crate::proofs::Writers::SparseWalk::rows_read))]
 fn row_end(image: &Image, place: u32, most: usize) -> u32
     ensures { result ≡ place + min most (length (leading_run (drop place image.now))) }
 {
@@ -41,6 +42,7 @@ fn row_end(image: &Image, place: u32, most: usize) -> u32
     image.run_from(place, place + room)
 }
 
+#[tactic(auto, using(crate::proofs::Writers::SparseWalk::rows_read))]
 impl Sparse for Image {
     ghost held = { λ image. image };
 

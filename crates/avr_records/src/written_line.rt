@@ -43,6 +43,7 @@ fn put_digits(bytes: &[u8], digits: &mut [u8])
 }
 
 /// Writes a line of marks and upper-case digits.
+#[tactic(auto, using(std::proofs::lemmas::Bool::Decides::nat_tests, crate::proofs::Writers::Lines::is_line))]
 pub(crate) fn put_line(marks: &[u8], bytes: &[u8], out: &mut ArrayVec<u8, 80>)
     requires room { length marks.now + 2 * length bytes.now < 80 }
     requires marks { list_all (λ c. not (is_line_end c)) marks.now ≡ true }

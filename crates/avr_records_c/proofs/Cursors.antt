@@ -17,11 +17,11 @@ use Rattle.avr_records_c.specs.Cursor.{ended_of, size_in_force, cursor_of}
 use Rattle.avr_records_c.specs.Writing.{WriteCall, WroteFile, file_rest, file_start}
 use Rattle.avr_records_c.specs.declared.cursor.Cursor.{Cursor}
 
-ended-back : (ended : Bool) → ended_of (if ended then 1 else 0) ≡ Some ended
-ended-back x = grind (arith, nat_tests)
+ended_back : (ended : Bool) → ended_of (if ended then 1 else 0) ≡ Some ended
+ended_back x = grind (arith, nat_tests)
 
-size-back : (size : AddressSize) (image : List (Option ℕ)) → size_in_force Srec (width_of size) image ≡ Some size
-size-back x image = grind (arith, nat_tests)
+size_back : (size : AddressSize) (image : List (Option ℕ)) → size_in_force Srec (width_of size) image ≡ Some size
+size_back x image = grind (arith, nat_tests)
 
 -- after the last byte it doesn't matter which address a position has
 capped : (kind : Kind) (upper : ℕ) (size : AddressSize) (addr : ℕ) (image : List (Option ℕ)) → length image < 2 ^ 32
@@ -30,16 +30,16 @@ capped kind upper size addr image few = grind (arith, nat_tests, cases_lt, drop_
 
 pub left_kept : (kind : Kind) (lines : Position) (gone : ℕ) (image : List (Option ℕ)) → lines.kind ≡ kind
     → length image < 2 ^ 32 → file_rest kind image (cursor_of lines gone) ≡ Some (drop gone (text_left lines image))
-left_kept kind lines gone image is few = grind (arith, nat_tests, ended-back, capped, size-back)
+left_kept kind lines gone image is few = grind (arith, nat_tests, ended_back, capped, size_back)
 
 -- at the beginning the whole file is left
 pub starts : (kind : Kind) (image : List (Option ℕ)) → file_rest kind image file_start ≡ Some (image_text kind image)
 starts x image = grind (arith, nat_tests)
 
 -- the bytes that a call put are a prefix of those that were left
-call-prefix : (kind : Kind) (image : List (Option ℕ)) (cursor next : Cursor) (piece : List ℕ)
+call_prefix : (kind : Kind) (image : List (Option ℕ)) (cursor next : Cursor) (piece : List ℕ)
     → (call : WriteCall kind image cursor next piece) → piece ≡ take (length piece) call.text
-call-prefix kind image cursor next piece call = grind (arith, nat_tests, length-take-le, take-append-le, take_all)
+call_prefix kind image cursor next piece call = grind (arith, nat_tests, length-take-le, take-append-le, take_all)
 
 joins : (kind : Kind) (image : List (Option ℕ)) (cursor : Cursor) (pieces : List (List ℕ)) (text : List ℕ)
     → file_rest kind image cursor ≡ Some text → WroteFile kind image cursor pieces → concat pieces ≡ text
@@ -51,7 +51,7 @@ joins kind image cursor (piece ∷ more) text is (next, call, wrote) =
     grind (
       arith,
       common_steps,
-      call-prefix,
+      call_prefix,
       take-append-drop,
       joins kind image next more (drop n call.text) (call.goes.left ∙ ap Some call.goes.puts.left) wrote,
     )

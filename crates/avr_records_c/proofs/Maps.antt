@@ -44,30 +44,30 @@ pub record PutUpTo (image : List (Option ℕ)) (n : ℕ) (xs : List ℕ) : Type 
   pub zeros : (i : ℕ) → n ≤ i → get_or xs i 0 ≡ 0
 
 -- all octets are put
-pub put-all : (image : List (Option ℕ)) (n : ℕ) (xs : List ℕ) → PutUpTo image n xs → length xs ≤ n
+pub put_all : (image : List (Option ℕ)) (n : ℕ) (xs : List ℕ) → PutUpTo image n xs → length xs ≤ n
     → xs ≡ bitmap image (length xs)
-put-all image n xs p long = grind (arith, nat_tests, bitmap_is)
+put_all image n xs p long = grind (arith, nat_tests, bitmap_is)
 
 -- the octets before the next byte, or all if there is none
-pub put-gap : (image : List (Option ℕ)) (from place : ℕ) (xs : List ℕ) → first_from image (from * 8) ≡ Some place
+pub put_gap : (image : List (Option ℕ)) (from place : ℕ) (xs : List ℕ) → first_from image (from * 8) ≡ Some place
     → PutUpTo image from xs → PutUpTo image (place / 8) xs
-put-gap image from place xs found p =
+put_gap image from place xs found p =
     grind (arith, nat_tests, next_held image (from * 8) place found, gap_before image from place found)
 
-pub put-none : (image : List (Option ℕ)) (from : ℕ) (xs : List ℕ) → first_from image (from * 8) ≡ None
+pub none_put : (image : List (Option ℕ)) (from : ℕ) (xs : List ℕ) → first_from image (from * 8) ≡ None
     → PutUpTo image from xs → xs ≡ bitmap image (length xs)
-put-none image from xs none p = grind (arith, nat_tests, bitmap_is, gap_behind image from none)
+none_put image from xs none p = grind (arith, nat_tests, bitmap_is, gap_behind image from none)
 
 -- one more octet is put
-pub put-one : (image : List (Option ℕ)) (first byte : ℕ) (xs : List ℕ) → first < length xs
+pub put_one : (image : List (Option ℕ)) (first byte : ℕ) (xs : List ℕ) → first < length xs
     → byte ≡ octet image (first * 8) → PutUpTo image first xs → PutUpTo image (first + 1) (set xs first byte)
-put-one image first byte xs inside is p = grind (arith, nat_tests, get_or-set_other, get_or-set_same)
+put_one image first byte xs inside is p = grind (arith, nat_tests, get_or-set_other, get_or-set_same)
 
 -- the octets of a run are put
-pub put-run : (image : List (Option ℕ)) (first end size : ℕ) (xs ys : List ℕ) → PutUpTo image first xs
+pub put_run : (image : List (Option ℕ)) (first end size : ℕ) (xs ys : List ℕ) → PutUpTo image first xs
     → first * 8 ≤ size → first ≤ end → end ≤ run_end image (first * 8) size / 8
     → ys ≡ take first xs ++ (replicate (end - first) 255 ++ drop end xs) → end ≤ length xs → PutUpTo image end ys
-put-run image first end size xs ys p ordered rises inside is within =
+put_run image first end size xs ys p ordered rises inside is within =
     grind (
       arith,
       nat_tests,

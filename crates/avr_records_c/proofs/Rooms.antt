@@ -13,13 +13,13 @@ pub record IsPut (text rest room : List ℕ) (put : ℕ) (now : List ℕ) : Type
   pub left : rest ≡ drop put text
   pub stands : now ≡ take put text ++ drop put room
 
-pub room-length : {text rest room : List ℕ} {put : ℕ} {now : List ℕ} → IsPut text rest room put now
+pub room_length : {text rest room : List ℕ} {put : ℕ} {now : List ℕ} → IsPut text rest room put now
     → length now ≡ length room
-room-length {text} {rest} {room} {put} {now} is = grind (arith, nat_tests, length-append, length-take-le, length-drop)
+room_length {text} {rest} {room} {put} {now} is = grind (arith, nat_tests, length-append, length-take-le, length-drop)
 
-take-more : (put count : ℕ) (text : List ℕ) → put ≤ length text
+take_more : (put count : ℕ) (text : List ℕ) → put ≤ length text
     → take (put + count) text ≡ take put text ++ take count (drop put text)
-take-more put count text few =
+take_more put count text few =
     let prefix : List ℕ = take put text in
     ap (take (put + count)) (sym (take-append-drop put text))
     ∙ ap (λ (n : ℕ). take (n + count) (prefix ++ drop put text)) (sym (length-take-le put text few))
@@ -32,14 +32,14 @@ pub record NextLine (whole : List ℕ) : Type 0 where
   pub joined : whole ≡ line ++ more
 
 -- the part of a line that fits
-pub more-put : (text whole room now after : List ℕ) (put gone count : ℕ) (next : NextLine whole)
+pub more_put : (text whole room now after : List ℕ) (put gone count : ℕ) (next : NextLine whole)
     → IsPut text (drop gone whole) room put now → count ≡ min (length now - put) (length (drop gone next.line))
     → after ≡ take put now ++ (take count (drop gone next.line) ++ drop (put + count) now)
     → IsPut text (drop (gone + count) whole) room (put + count) after
-more-put text whole room now after put gone count next is fit put_is =
+more_put text whole room now after put gone count next is fit put_is =
     let line : List ℕ = next.line in
     let split : whole ≡ line ++ next.more = next.joined in
-    let long = room-length is in
+    let long = room_length is in
     let prefix : List ℕ = take put text in
     let prefix_long : length prefix ≡ put = length-take-le put text is.most in
     let few : count ≤ length (drop gone line) = omega (arith, fit) in
@@ -62,14 +62,14 @@ more-put text whole room now after put gone count next is fit put_is =
       fits = omega (arith, fit, long, is.fits);
       most = most;
       left = sym (drop-drop count gone whole) ∙ ap (drop count) is.left ∙ drop-drop count put text;
-      stands = grind (arith, nat_tests, append_assoc, take-more);
+      stands = grind (arith, nat_tests, append_assoc, take_more);
     }
 
 -- the room takes the whole line
-pub line-out : (text whole room now : List ℕ) (put gone left : ℕ) (next : NextLine whole)
+pub line_out : (text whole room now : List ℕ) (put gone left : ℕ) (next : NextLine whole)
     → IsPut text (drop gone whole) room put now → length next.line ≤ gone → left ≡ gone - length next.line
     → IsPut text (drop left next.more) room put now
-line-out text whole room now put gone left next is past left_is =
+line_out text whole room now put gone left next is past left_is =
     let there : gone ≡ length next.line + left = omega (arith, past, left_is) in
     record {
       fits = is.fits;
@@ -79,6 +79,6 @@ line-out text whole room now put gone left next is past left_is =
     }
 
 -- the loop ends: the room is full, or the text is at its end
-pub all-put : (text left room now : List ℕ) (put : ℕ) → IsPut text left room put now
+pub all_put : (text left room now : List ℕ) (put : ℕ) → IsPut text left room put now
     → put ≡ min (length room) (length text) → PutsPrefix text left room put now
-all-put text left room now put is far = record { count = far; left = is.left; stands = is.stands }
+all_put text left room now put is far = record { count = far; left = is.left; stands = is.stands }

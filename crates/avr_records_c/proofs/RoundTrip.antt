@@ -5,8 +5,8 @@ use Rattle.avr_image.specs.Image.{HoldsBytes, with_gaps}
 use Rattle.avr_records.specs.Reading.{image_in_text}
 use Rattle.avr_records.specs.declared.kind.Kind.{Kind}
 use Rattle.avr_records.specs.Sparse.{IsMemory, image_text}
-use Rattle.avr_records.proofs.Writers.Sparse.{reads-back-same}
-use Rattle.avr_records_c.proofs.Walks.{length-image}
+use Rattle.avr_records.proofs.Writers.Sparse.{reads_back_same}
+use Rattle.avr_records_c.proofs.Walks.{length_image}
 use Rattle.avr_records_c.specs.Bitmap.{is_marked, image_of}
 use Rattle.avr_records_c.specs.Reading.{read_into}
 use Rattle.avr_records_c.specs.RoundTrip.{EachIsByte, written_and_read}
@@ -20,10 +20,10 @@ holds at present (b ∷ bytes) small zero byte is = byte_below (is_marked presen
 holds at present (b ∷ bytes) small (suc addr) byte is =
     holds (suc at) present bytes (λ i l. small (suc i) (omega (arith, l))) addr byte is
 
-pub is-memory : (present bytes : List ℕ) → length bytes ≤ 2 ^ 32 → EachIsByte bytes → IsMemory (image_of present bytes)
-is-memory present bytes few small = grind (arith, nat_tests, length-image, holds)
+pub is_memory : (present bytes : List ℕ) → length bytes ≤ 2 ^ 32 → EachIsByte bytes → IsMemory (image_of present bytes)
+is_memory present bytes few small = grind (arith, nat_tests, length_image, holds)
 
 pub reads_back : (kind : Kind) (present bytes : List ℕ) → length bytes ≤ 2 ^ 32 → EachIsByte bytes
     → read_into bytes present (image_in_text kind (image_text kind (image_of present bytes)) (length bytes))
     ≡ written_and_read present bytes
-reads_back kind present bytes few small = grind (arith, nat_tests, is-memory, length-image, reads-back-same)
+reads_back kind present bytes few small = grind (arith, nat_tests, is_memory, length_image, reads_back_same)

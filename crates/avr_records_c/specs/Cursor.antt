@@ -33,11 +33,10 @@ position_of kind cursor image =
 
 -- The cursor for the position `lines`, with `gone` bytes of the next line put.
 abbrev pub cursor_of : Position → ℕ → Cursor
-cursor_of lines gone =
-    record {
-      addr = min lines.addr 4294967295;
-      gone = gone;
-      upper = elim (lines.kind) [ Ihex ↦ lines.upper | Srec ↦ 0 ];
-      address_size = elim (lines.kind) [ Ihex ↦ 0 | Srec ↦ width_of lines.address_size ];
-      ended = if lines.ended then 1 else 0;
-    }
+cursor_of lines gone = record {
+  addr = min lines.addr 4294967295;
+  gone = gone;
+  upper = elim (lines.kind) [ Ihex ↦ lines.upper | Srec ↦ 0 ];
+  address_size = elim (lines.kind) [ Ihex ↦ 0 | Srec ↦ width_of lines.address_size ];
+  ended = if lines.ended then 1 else 0;
+}

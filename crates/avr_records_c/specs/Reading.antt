@@ -18,12 +18,11 @@ pub record ReadResult : Type 0 where
 
 -- What a read leaves: the image's bytes, FF in gaps, and its bitmap. A fault changes neither.
 abbrev pub read_into : List ℕ → List ℕ → Result (List (Option ℕ) × Ending) RecordFault → ReadResult
-read_into bytes present (Ok (image, ending)) =
-    record {
-      outcome = outcome_of_end ending;
-      bytes = filled_bytes image 0 (length bytes);
-      present = bitmap image (length present);
-    }
+read_into bytes present (Ok (image, ending)) = record {
+  outcome = outcome_of_end ending;
+  bytes = filled_bytes image 0 (length bytes);
+  present = bitmap image (length present);
+}
 read_into bytes present (Err fault) = record { outcome = outcome_of_fault fault; bytes = bytes; present = present }
 
 -- The kind of file if the arguments fit, else the outcome. File and memory have to be shorter than 2 to the power 32

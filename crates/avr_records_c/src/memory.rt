@@ -37,6 +37,7 @@ impl<'a> Memory<'a> {
 }
 
 /// Returns the least address from `addr` on that holds a byte.
+#[tactic(auto, using(crate::proofs::Walks::next_found))]
 fn next_there(present: &[u8], bytes: &[u8], addr: usize) -> Option<usize>
     requires { HasBitmap present.now bytes.now }
     ensures next { result ≡ first_from (image_of present.now bytes.now) addr }
@@ -58,6 +59,7 @@ fn next_there(present: &[u8], bytes: &[u8], addr: usize) -> Option<usize>
 }
 
 /// Returns the address after the row that begins at `addr` and has at most `most` bytes.
+#[tactic(auto, using(crate::proofs::Walks::run_ends))]
 fn row_end(present: &[u8], bytes: &[u8], addr: usize, most: usize) -> usize
     requires octets { length present.now ≡ octets_of (length bytes.now) }
     requires inside { addr ≤ length bytes.now }
@@ -71,6 +73,7 @@ fn row_end(present: &[u8], bytes: &[u8], addr: usize, most: usize) -> usize
     end
 }
 
+#[tactic(auto, using(crate::proofs::Walks::row_found))]
 impl Sparse for Memory<'_> {
     ghost held = { λ memory. memory };
 

@@ -77,6 +77,7 @@ fn count_rest(lines: Position, memory: &Memory<'_>) -> usize
 
 /// Returns the length in bytes of a memory's record file, so that the caller can allocate a room for all of it.
 /// Arguments and fault are those of `avr_records_write`. With a fault the length is 0. It allocates nothing.
+#[tactic(auto, using(crate::proofs::Lengths::countable))]
 #[unsafe(no_mangle)]
 pub extern "C" fn avr_records_length(kind: u8, bytes: &[u8], present: &[u8]) -> Piece
     ensures { ReturnsLength kind bytes.now present.now result }

@@ -11,6 +11,8 @@ use Rattle.stk_host.specs.Bound.{commands_in}
 use Rattle.stk_host.specs.Places.{each_from}
 use Rattle.stk_host.specs.ReadSteps.{read_steps}
 use Rattle.stk_host.specs.WriteSteps.{write_steps}
+use Rattle.std.proofs.lemmas.Bool.Decides.{nat_tests}
+use Rattle.std.proofs.lemmas.List.{drop_more, drop_all}
 
 pub commands_append : (first second : List (List Command))
     → commands_in (first ++ second) ≡ commands_in first + commands_in second
@@ -67,3 +69,8 @@ counts_on plan i count more next task cut more_is next_is counted = search (rule
 pub counts_all : (plan : Plan) (i count : ℕ) → drop i plan.tasks ≡ [] → count ≤ most
     → min most (count + left plan i) ≡ min most (all plan) → count ≡ min most (all plan)
 counts_all plan i count none few counted = search rules
+
+-- the lemmas for the functions of frames.rt
+pub ruleset places_counted = (nat_tests, all_places, next_place, no_place, write_and_read)
+
+pub ruleset tasks_counted = (drop_more, drop_all, counts_first, counts_on, counts_all)

@@ -37,14 +37,11 @@ abbrev pub erase_actions : Switches → List Task → List Action
 erase_actions s tasks = if s.dry then (if s.erase then SkipAction SkippedErase ∷ [] else [])
     else if is_erase_due s tasks then EraseChip ∷ [] else []
 
--- What was written is read back, unless verifying is off.
-abbrev pub read_back_actions : Switches → Mem → List (Option ℕ) → List Action
-read_back_actions s mem image = if s.no_verify then [] else CompareImage mem image ∷ []
-
--- A write and its comparison, or what a dry run reports in place of them.
+-- A write, which is read back unless verifying is off, or what a dry run reports in place of them.
 abbrev pub write_actions : Switches → Mem → List (Option ℕ) → List Action
 write_actions s mem image =
-    if s.dry then SkipAction (SkippedWrite mem image) ∷ [] else WriteImage mem image ∷ read_back_actions s mem image
+    if s.dry then SkipAction (SkippedWrite mem image) ∷ []
+    else WriteImage mem image ∷ (if s.no_verify then [] else CompareImage mem image ∷ [])
 
 -- The actions of one task; below, of tasks in order.
 abbrev pub task_actions : Switches → Task → List Action

@@ -26,9 +26,9 @@ pub record RunsSessionPart {D L : Type 0} (link : Links L) (desk : Desks D) (Par
   pub plan : new.plan ≡ old.plan
   pub same_link : new.link.ghost_name ≡ old.link.ghost_name
   pub same_desk : new.desk.ghost_name ≡ old.desk.ghost_name
-  pub comes : Preserves link.started_as old.link.now new.link.now
-  pub stays : Preserves desk.started_as old.desk.now new.desk.now
-  pub notice : EndsWithFaultLine new.plan.now.part (desk.view new.desk.now) result
+  pub link_kept : Preserves link.started_as old.link.now new.link.now
+  pub desk_kept : Preserves desk.started_as old.desk.now new.desk.now
+  pub last_line : EndsWithFaultLine new.plan.now.part (desk.view new.desk.now) result
 
 -- These actions of the plan were done in order, up to the first fault.
 abbrev pub Does : {D L : Type 0} → Links L → Desks D → List Action → Session D L → Session D L → Result ⊤ End → Type 0

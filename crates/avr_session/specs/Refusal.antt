@@ -1,5 +1,5 @@
 -- The messages of faults of the settings.
-use Rattle.std.specs.Prelude.{ℕ, List, [], ◌∷◌, Option, Some, None, codes, decimal}
+use Rattle.std.specs.Prelude.{ℕ, List, [], ◌∷◌, Some, None, codes, decimal}
 use Rattle.avr_desk.specs.Record.{Bytes}
 use Rattle.avr_plan.specs.declared.settings.SettingsFault.{SettingsFault}
 use Rattle.avr_plan.specs.declared.settings.SettingsFault.TheVariants.{NoPart, BadProgrammer, BadPort, NoChip, TooMany, BadUpdate, StandardTaken, Memory}
@@ -22,15 +22,12 @@ update_pieces n update.Memory = memory_pieces
 abbrev pub unknown_pieces : Bytes → Bytes → List Bytes
 unknown_pieces what name = what ∷ name ∷ codes " is not known" ∷ []
 
-abbrev pub port_pieces : Option Bytes → List Bytes
-port_pieces None = codes "no port given (-P)" ∷ []
-port_pieces (Some text) = unknown_pieces (codes "port ") text
-
 -- The message of each fault of the settings.
 abbrev pub refusal_pieces : SettingsFault → List Bytes
 refusal_pieces NoPart = codes "no part given (-p)" ∷ []
 refusal_pieces (BadProgrammer name) = unknown_pieces (codes "programmer ") name
-refusal_pieces (BadPort port) = port_pieces port
+refusal_pieces (BadPort None) = codes "no port given (-P)" ∷ []
+refusal_pieces (BadPort (Some text)) = unknown_pieces (codes "port ") text
 refusal_pieces NoChip = codes "no chip file given (--chip)" ∷ []
 refusal_pieces TooMany = codes "more than 16 updates" ∷ []
 refusal_pieces (BadUpdate n fault) = update_pieces n fault

@@ -21,6 +21,7 @@ const CLOSING: u64 = 1;
 const BLOCK: u32 = 256;
 
 /// Returns how many frames read a memory.
+#[tactic(auto, using(crate::proofs::FrameCounts::places_counted))]
 fn read_frames(part: &Part, mem: Mem) -> u64
     ensures value { result ≡ commands_in (read_steps part.now mem) }
     ensures few { result ≤ 2 ^ 20 }
@@ -34,6 +35,7 @@ fn read_frames(part: &Part, mem: Mem) -> u64
 }
 
 /// Counts two frames for each page in which the image holds a byte.
+#[tactic(auto, using(crate::proofs::FrameCounts::places_counted))]
 fn flash_frames(part: &Part, image: &Image) -> u64
     ensures value { result ≡ commands_in (write_steps part.now Mem.Flash image.now) }
     ensures few { result ≤ 2 ^ 20 }
@@ -50,6 +52,7 @@ fn flash_frames(part: &Part, image: &Image) -> u64
 }
 
 /// Counts two frames for each run of bytes within a page.
+#[tactic(auto, using(crate::proofs::FrameCounts::places_counted))]
 fn eeprom_frames(part: &Part, image: &Image) -> u64
     ensures value { result ≡ commands_in (write_steps part.now Mem.Eeprom image.now) }
     ensures few { result ≤ 2 ^ 20 }
@@ -80,6 +83,7 @@ fn write_frames(part: &Part, mem: Mem, image: &Image) -> u64
 }
 
 /// Returns how many frames a task takes.
+#[tactic(auto, using(crate::proofs::FrameCounts::places_counted))]
 fn task_frames(switches: Switches, part: &Part, task: &Task) -> u64
     ensures { result ≡ commands_in (actions_steps part.now (task_actions switches task.now)) }
 {
@@ -104,6 +108,7 @@ fn task_frames(switches: Switches, part: &Part, task: &Task) -> u64
 /// // to sign on, to enter programming mode, three bytes of the signature, to leave
 /// assert_eq!(rt; frame_count(&plan), 6);
 /// ```
+#[tactic(auto, using(crate::proofs::FrameCounts::tasks_counted))]
 pub fn frame_count(plan: &Plan) -> u64
     ensures { result ≡ min (2 ^ 64 - 1) (commands_in (run_steps plan.now)) }
 {

@@ -10,6 +10,7 @@ ghost use Rattle.avr_session.specs.Stopping.{IsSound, EndWithLine, RanToStatus, 
 
 /// States that a session in which no device failed ran whole, if no out-of-memory line ends its messages or its plan
 /// never allocates.
+#[tactic(auto, using(crate::proofs::Runs::SoundDevices::sound_run, crate::proofs::Runs::SoundDevices::exact_run))]
 pub fn a_sound_run_is_played()
     ensures played { (plan : Plan) (o p : LinkState) (before after : Record) (a b : ℕ × ℕ)
         (status : ℕ)

@@ -2,12 +2,12 @@
 ghost use Rattle.std.specs.Prelude.{◌≡◌};
 ghost use Rattle.avr_desk.specs.OutputEvents.{ReportsLine};
 ghost use Rattle.avr_session.specs.Lines.{bad_reply_pieces, differs_pieces, fault_pieces, other_signature, refused_pieces, unreceived_pieces, unsent_pieces};
-ghost use Rattle.avr_session.specs.Refusal.{in_update_pieces, port_pieces, refusal_line, refusal_pieces, unknown_pieces, update_pieces};
+ghost use Rattle.avr_session.specs.Refusal.{in_update_pieces, refusal_line, refusal_pieces, unknown_pieces, update_pieces};
 ghost use Rattle.ghosts.specs.Preserves.{Preserves};
 
 use avr_desk::{Desk, Message, Piece, memory_message};
 use avr_part::{Mem, Part};
-use avr_plan::{SettingsFault, Text, UpdateFault, read_only_message};
+use avr_plan::{SettingsFault, UpdateFault, read_only_message};
 use stk_host::HostFault;
 
 fn refused_message<'a>(command: u8, status: u8) -> Message<'a>
@@ -123,22 +123,14 @@ fn unknown_message<'a>(what: &'a str, name: &'a str) -> Message<'a>
     ])
 }
 
-fn port_message<'a>(port: &'a Option<Text>) -> Message<'a>
-    ensures { result ≡ port_pieces port.now }
-{
-    match port {
-        None => Message::text("no port given (-P)"),
-        Some(text) => unknown_message("port ", text.as_str()),
-    }
-}
-
 fn settings_message<'a>(fault: &'a SettingsFault) -> Message<'a>
     ensures { result ≡ refusal_pieces fault.now }
 {
     match fault {
         SettingsFault::NoPart => Message::text("no part given (-p)"),
         SettingsFault::BadProgrammer(name) => unknown_message("programmer ", name.as_str()),
-        SettingsFault::BadPort(port) => port_message(port),
+        SettingsFault::BadPort(None) => Message::text("no port given (-P)"),
+        SettingsFault::BadPort(Some(port)) => unknown_message("port ", port.as_str()),
         SettingsFault::NoChip => Message::text("no chip file given (--chip)"),
         SettingsFault::TooMany => Message::text("more than 16 updates"),
         SettingsFault::BadUpdate(number, fault) => update_message(*number, *fault),

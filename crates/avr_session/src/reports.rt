@@ -4,7 +4,7 @@ ghost use Rattle.avr_desk.specs.OutputEvents.{PrintsLine};
 ghost use Rattle.avr_image.specs.Image.{byte_count};
 ghost use Rattle.avr_session.specs.Lines.{informs, warns, fault_line};
 ghost use Rattle.avr_session.specs.Reporting.{Prints};
-ghost use Rattle.avr_session.specs.Session.{done_text, fault_line_or, bytes_output, signature_output, warns_of_signature, opening_output, erased_output, closing_output};
+ghost use Rattle.avr_session.specs.Session.{done_text, fault_line_or, bytes_output, signature_output, warns_of_signature, opening_output};
 
 use crate::messages::{fault_message, other_signature_message};
 use avr_desk::{Desk, DeskFault, Piece, print_error, print_information, print_warning};
@@ -36,6 +36,7 @@ impl Done {
 }
 
 /// Prints a line of information, unless `quiet` is 1 or more.
+#[tactic(auto, using(crate::proofs::ActionByAction::Reports::lines_printed))]
 pub(crate) fn inform<D: Desk>(
     desk: &mut D,
     quiet: u8,
@@ -50,6 +51,7 @@ pub(crate) fn inform<D: Desk>(
 }
 
 /// Prints a warning, unless `quiet` is 2 or more.
+#[tactic(auto, using(crate::proofs::ActionByAction::Reports::lines_printed))]
 pub(crate) fn warn<D: Desk>(desk: &mut D, quiet: u8, pieces: &[Piece<'_>]) -> Result<(), DeskFault>
     ensures { Prints D.Desk (warns quiet (map text_of pieces.now)) desk.old desk.new result }
 {
@@ -135,15 +137,18 @@ pub(crate) fn report_opening<D: Desk>(
     }
 }
 
-pub(crate) fn report_erased<D: Desk>(
+/// Reports that a step was done, or why it failed.
+pub(crate) fn report_step<D: Desk>(
     desk: &mut D,
     plan: &Plan,
-    erased: &Result<(), HostFault>,
+    done: &str,
+    outcome: &Result<(), HostFault>,
 ) -> Result<(), DeskFault>
-    ensures { Prints D.Desk (erased_output plan.now.switches.quiet plan.now.part erased.now) desk.old desk.new result }
+    ensures { Prints D.Desk (fault_line_or plan.now.part (λ _. informs plan.now.switches.quiet (done.now ∷ []))
+        outcome.now) desk.old desk.new result }
 {
-    match erased {
-        Ok(()) => inform(desk, plan.switches().quiet, &[Piece::Text("chip erased")]),
+    match outcome {
+        Ok(()) => inform(desk, plan.switches().quiet, &[Piece::Text(done)]),
         Err(fault) => report_fault(desk, plan.part(), *fault),
     }
 }
@@ -163,20 +168,6 @@ pub(crate) fn report_image<D: Desk>(
 {
     match outcome {
         Ok(()) => report_bytes(desk, plan.switches().quiet, mem, image.len(), done),
-        Err(fault) => report_fault(desk, plan.part(), *fault),
-    }
-}
-
-/// Reports the closing of a session in which no fault was reported.
-pub(crate) fn report_closing<D: Desk>(
-    desk: &mut D,
-    plan: &Plan,
-    closed: &Result<(), HostFault>,
-) -> Result<(), DeskFault>
-    ensures { Prints D.Desk (closing_output plan.now.switches.quiet plan.now.part closed.now) desk.old desk.new result }
-{
-    match closed {
-        Ok(()) => inform(desk, plan.switches().quiet, &[Piece::Text("done")]),
         Err(fault) => report_fault(desk, plan.part(), *fault),
     }
 }

@@ -15,9 +15,7 @@ ghost use Rattle.avr_part.specs.Part.{size_of};
 ghost use Rattle.avr_plan.specs.Plan.{IsFitted};
 
 use crate::ending::{End, Outcome, conclude, outcome_of};
-use crate::reports::{
-    Done, report_bytes, report_closing, report_erased, report_image, report_opening, warn,
-};
+use crate::reports::{Done, report_bytes, report_image, report_opening, report_step, warn};
 use crate::saving::{Target, report_read};
 use avr_desk::{Desk, Piece};
 use avr_image::Image;
@@ -104,7 +102,7 @@ impl<'a, D: Desk, L: Link> Session<'a, D, L> {
         }
         if is_erase_due(switches, self.plan.tasks()) {
             let erased = self.host.erase(self.link);
-            let reported = report_erased(self.desk, self.plan, &erased);
+            let reported = report_step(self.desk, self.plan, "chip erased", &erased);
             return conclude(&erased, reported);
         }
         Ok(())
@@ -221,7 +219,7 @@ impl<'a, D: Desk, L: Link> Session<'a, D, L> {
         ensures { RunsSessionPart L.Link D.Desk (EndsSession self.old.plan.now NoFault) self.old self.new result }
     {
         let closed = self.host.close(self.link);
-        let reported = report_closing(self.desk, self.plan, &closed);
+        let reported = report_step(self.desk, self.plan, "done", &closed);
         conclude(&closed, reported)
     }
 

@@ -9,9 +9,9 @@ use Rattle.avr_image.specs.Image.{is_same}
 byte_decides : (first second : Option ℕ) → Decides (option_eq nat_eq first second) (first ≡ second)
 byte_decides first second = search (rules, nat_tests)
 
-pub same_decides : (first second : List (Option ℕ)) → Decides (is_same first second) (first ≡ second)
-same_decides = pointwise_decides byte_decides
+pub equal_are_one : (first second : List (Option ℕ)) → Decides (is_same first second) (first ≡ second)
+equal_are_one = pointwise_decides byte_decides
 
 pub notice_is_same : (notice : Bool) (first second : List (Option ℕ)) → (IsTrue notice ↔ (first ≡ second))
     → notice ≡ is_same first second
-notice_is_same notice first second is = one_answer notice (is_same first second) is (same_decides first second)
+notice_is_same notice first second is = one_answer notice (is_same first second) is (equal_are_one first second)

@@ -100,7 +100,7 @@ pub spans_join : (from at stop k : ℕ) (b : Bool) → from ≤ at → at ≤ st
     → (is_within at stop k || (is_within from at k || b)) ≡ (is_within from stop k || b)
 spans_join from at stop k b le more = grind (arith, nat_tests)
 
-pub same_place : (words words' : List ℕ) (wanted : Bool) (from from' end end' place place' : ℕ) → words ≡ words'
-    → from ≡ from' → end ≡ end' → place ≡ place'
-    → FirstPlace words wanted from end place → FirstPlace words' wanted from' end' place'
-same_place words words' wanted from from' end end' place place' a b c d found = rw (← a, ← b, ← c, ← d) found
+pub same_place : (words marks : List ℕ) (wanted : Bool) (from start end stop place at : ℕ) → words ≡ marks
+    → from ≡ start → end ≡ stop → place ≡ at → FirstPlace words wanted from end place
+    → FirstPlace marks wanted start stop at
+same_place words marks wanted from start end stop place at a b c d found = rw (← a, ← b, ← c, ← d) found

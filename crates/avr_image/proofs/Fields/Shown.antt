@@ -17,27 +17,27 @@ use Rattle.avr_image.specs.Dense.{dense_image, with_span}
 abbrev shown_byte : List ℕ → ℕ → ℕ → Option ℕ
 shown_byte words addr byte = if is_present words addr then Some byte else None
 
-pub length-shown_from : (k : ℕ) (words bytes : List ℕ) → length (with_gaps (is_present words) k bytes) ≡ length bytes
-length-shown_from k words [] = refl
-length-shown_from k words (b ∷ bs) = ap suc (length-shown_from (suc k) words bs)
+pub length_shown_from : (k : ℕ) (words bytes : List ℕ) → length (with_gaps (is_present words) k bytes) ≡ length bytes
+length_shown_from k words [] = refl
+length_shown_from k words (b ∷ bs) = ap suc (length_shown_from (suc k) words bs)
 
 pub length_shown : (words bytes : List ℕ) → length (dense_image words bytes) ≡ length bytes
-length_shown = length-shown_from 0
+length_shown = length_shown_from 0
 
-pub get_or-shown_from : (k : ℕ) (words bytes : List ℕ) (i : ℕ) → i < length bytes
+pub get_or_shown_from : (k : ℕ) (words bytes : List ℕ) (i : ℕ) → i < length bytes
     → get_or (with_gaps (is_present words) k bytes) i None ≡ shown_byte words (k + i) (get_or bytes i 0)
-get_or-shown_from k words [] i l = absurd (omega (arith, l))
-get_or-shown_from k words (b ∷ bs) zero l = ap (λ (n : ℕ). shown_byte words n b) (omega arith)
-get_or-shown_from k words (b ∷ bs) (suc i) l = search (rules, get_or-shown_from (suc k) words bs i (omega (arith, l)))
+get_or_shown_from k words [] i l = absurd (omega (arith, l))
+get_or_shown_from k words (b ∷ bs) zero l = ap (λ (n : ℕ). shown_byte words n b) (omega arith)
+get_or_shown_from k words (b ∷ bs) (suc i) l = search (rules, get_or_shown_from (suc k) words bs i (omega (arith, l)))
 
-pub byte_at-shown : (words bytes : List ℕ) (i : ℕ) → i < length bytes
+pub byte_at_shown : (words bytes : List ℕ) (i : ℕ) → i < length bytes
     → byte_at (dense_image words bytes) i ≡ shown_byte words i (get_or bytes i 0)
-byte_at-shown words bytes i l = grind (arith, nat_tests, get_or-shown_from)
+byte_at_shown words bytes i l = grind (arith, nat_tests, get_or_shown_from)
 
-pub byte_at-past : (image : List (Option ℕ)) (i : ℕ) → length image ≤ i → byte_at image i ≡ None
-byte_at-past [] i l = refl
-byte_at-past (b ∷ bs) zero l = absurd (omega (arith, l))
-byte_at-past (b ∷ bs) (suc i) l = byte_at-past bs i (omega (arith, l))
+pub none_past : (image : List (Option ℕ)) (i : ℕ) → length image ≤ i → byte_at image i ≡ None
+none_past [] i l = refl
+none_past (b ∷ bs) zero l = absurd (omega (arith, l))
+none_past (b ∷ bs) (suc i) l = none_past bs i (omega (arith, l))
 
 pub held_within : (image : List (Option ℕ)) (addr : ℕ) → is_some (byte_at image addr) ≡ true → addr < length image
 held_within [] addr held = absurd (cc held)
@@ -45,41 +45,41 @@ held_within (b ∷ bs) zero held = omega arith
 held_within (b ∷ bs) (suc addr) held = let rest = held_within bs addr held in omega (arith, rest)
 
 -- lists of optional bytes with the same items
-pub same_items : (xs ys : List (Option ℕ)) → length xs ≡ length ys
+pub same_by_address : (xs ys : List (Option ℕ)) → length xs ≡ length ys
     → ((i : ℕ) → i < length ys → get_or xs i None ≡ get_or ys i None) → xs ≡ ys
-same_items [] [] len each = refl
-same_items (x ∷ xs) (y ∷ ys) len each =
+same_by_address [] [] len each = refl
+same_by_address (x ∷ xs) (y ∷ ys) len each =
     ap₂ (λ (z : Option ℕ) (zs : List (Option ℕ)). z ∷ zs) (each 0 (omega arith))
-    (same_items xs ys (omega (arith, len)) (λ i l. each (suc i) (omega (arith, l))))
-same_items z w len each = absurd (omega (arith, len))
+    (same_by_address xs ys (omega (arith, len)) (λ i l. each (suc i) (omega (arith, l))))
+same_by_address z w len each = absurd (omega (arith, len))
 
-pub filled_is : (image : List (Option ℕ)) (start n : ℕ) (ys : List ℕ) → length ys ≡ n
+pub filled_by_each : (image : List (Option ℕ)) (start n : ℕ) (ys : List ℕ) → length ys ≡ n
     → ((i : ℕ) → i < n → get_or ys i 0 ≡ byte_or_ff (byte_at image (start + i))) → ys ≡ filled_bytes image start n
-filled_is image start zero [] len each = refl
-filled_is image start (suc n) (y ∷ ys) len each =
+filled_by_each image start zero [] len each = refl
+filled_by_each image start (suc n) (y ∷ ys) len each =
     let first : y ≡ byte_or_ff (byte_at image start) =
     each 0 (omega arith) ∙ ap (λ (k : ℕ). byte_or_ff (byte_at image k)) (omega arith) in
-    let rest : ys ≡ filled_bytes image (start + 1) n = filled_is image (start + 1) n ys (omega (arith, len))
+    let rest : ys ≡ filled_bytes image (start + 1) n = filled_by_each image (start + 1) n ys (omega (arith, len))
     (λ i l. each (suc i) (omega (arith, l)) ∙ ap (λ (k : ℕ). byte_or_ff (byte_at image k)) (omega arith)) in
     search rules
-filled_is image start x z len each = absurd (omega (arith, len))
+filled_by_each image start x z len each = absurd (omega (arith, len))
 
-pub get_or-zeros : (n i : ℕ) → ◌≡◌ {A = ℕ} (get_or {A = ℕ} (replicate {A = ℕ} n 0) i 0) 0
-get_or-zeros (suc n) (suc i) = get_or-zeros n i
-get_or-zeros x y = refl
+pub get_or_zeros : (n i : ℕ) → ◌≡◌ {A = ℕ} (get_or {A = ℕ} (replicate {A = ℕ} n 0) i 0) 0
+get_or_zeros (suc n) (suc i) = get_or_zeros n i
+get_or_zeros x y = refl
 
-pub shown_from-zeros : (k n m b : ℕ) → with_gaps (is_present (replicate m 0)) k (replicate n b) ≡ replicate n None
-shown_from-zeros k zero m b = refl
-shown_from-zeros k (suc n) m b = search (rules, nat_tests, get_or-zeros, shown_from-zeros (suc k) n m b)
+pub shown_from_zeros : (k n m b : ℕ) → with_gaps (is_present (replicate m 0)) k (replicate n b) ≡ replicate n None
+shown_from_zeros k zero m b = refl
+shown_from_zeros k (suc n) m b = search (rules, nat_tests, get_or_zeros, shown_from_zeros (suc k) n m b)
 
-pub present-same : (words : List ℕ) (a : ℕ) → a / 64 < length words → is_present (with_mark words a) a ≡ true
-present-same words a within =
+pub present_same : (words : List ℕ) (a : ℕ) → a / 64 < length words → is_present (with_mark words a) a ≡ true
+present_same words a within =
     let here = get_or-set_same words (a / 64) (bit_or (get_or words (a / 64) 0) (1 * 2 ^ (a % 64) % 2 ^ 64)) 0 within in
     rw here (rw (bit_at_set_same w64 (get_or words (a / 64) 0) (a % 64) (omega arith)) refl)
 
-pub present-other : (words : List ℕ) (a i : ℕ) → a / 64 < length words → i ≢ a
+pub present_other : (words : List ℕ) (a i : ℕ) → a / 64 < length words → i ≢ a
     → is_present (with_mark words a) i ≡ is_present words i
-present-other words a i within other =
+present_other words a i within other =
     elim (cases_eq (i / 64) (a / 64)) [
       | inl same ↦
           let here = get_or-set_same words (a / 64) (bit_or (get_or words (a / 64) 0) (1 * 2 ^ (a % 64) % 2 ^ 64)) 0
@@ -90,15 +90,15 @@ present-other words a i within other =
           (bit_or (get_or words (a / 64) 0) (1 * 2 ^ (a % 64) % 2 ^ 64)) 0 differ) refl
     ]
 
-pub shown-marked : (words bytes : List ℕ) (a b : ℕ) → a < length bytes → a / 64 < length words
+pub shown_marked : (words bytes : List ℕ) (a b : ℕ) → a < length bytes → a / 64 < length words
     → dense_image (with_mark words a) (set bytes a b) ≡ set (dense_image words bytes) a (Some b)
-shown-marked words bytes a b l within =
+shown_marked words bytes a b l within =
     let len-left = length_shown (with_mark words a) (set bytes a b) ∙ length-set bytes a b in
     let len-right = length-set (dense_image words bytes) a (Some b) ∙ length_shown words bytes in
-    same_items _ _ (len-left ∙ sym len-right) (λ i j.
+    same_by_address _ _ (len-left ∙ sym len-right) (λ i j.
     let in-bytes : i < length bytes = omega (arith, j, len-right) in
-    let left = byte_at-shown (with_mark words a) (set bytes a b) i (omega (arith, in-bytes, length-set bytes a b)) in
-    search (rules, present-same, length_shown, present-other, get_or-set_other, byte_at-shown))
+    let left = byte_at_shown (with_mark words a) (set bytes a b) i (omega (arith, in-bytes, length-set bytes a b)) in
+    search (rules, present_same, length_shown, present_other, get_or-set_other, byte_at_shown))
 
 pub sized : (words bytes : List ℕ) {image : List (Option ℕ)} → dense_image words bytes ≡ image
     → length image ≡ length bytes
@@ -111,42 +111,42 @@ same_default (x ∷ xs) (suc i) d e l = same_default xs i d e (omega (arith, l))
 
 pub past : (words bytes : List ℕ) {image : List (Option ℕ)} (i : ℕ) → dense_image words bytes ≡ image → length bytes ≤ i
     → None ≡ byte_at image i
-past words bytes {image} i seen l = grind (arith, nat_tests, byte_at-past, length_shown)
+past words bytes {image} i seen l = grind (arith, nat_tests, none_past, length_shown)
 
 -- when a byte is put, FF stays at addresses without a byte
-pub blank-marked : (words bytes : List ℕ) (a b : ℕ) → a < length bytes → a / 64 < length words
+pub blank_marked : (words bytes : List ℕ) (a b : ℕ) → a < length bytes → a / 64 < length words
     → ((i : ℕ) → i < length bytes → is_present words i ≡ false → get_or bytes i 0 ≡ 255)
     → (i : ℕ) → i < length (set bytes a b) → is_present (with_mark words a) i ≡ false → get_or (set bytes a b) i 0 ≡ 255
-blank-marked words bytes a b l within blank i j none =
-    grind (arith, nat_tests, present-same, get_or-set_other, length-set, present-other)
+blank_marked words bytes a b l within blank i j none =
+    grind (arith, nat_tests, present_same, get_or-set_other, length-set, present_other)
 
 -- a stored byte is what `fill` writes for its address
 pub kept_byte : (words bytes : List ℕ) {image : List (Option ℕ)} (a : ℕ) → dense_image words bytes ≡ image
     → ((i : ℕ) → i < length bytes → is_present words i ≡ false → get_or bytes i 0 ≡ 255)
     → get_or bytes a 255 ≡ byte_or_ff (byte_at image a)
 kept_byte words bytes {image} a seen blank =
-    search (rules, byte_at-shown, same_default, past, get_or-eq_default, byte_at-past, length_shown)
+    search (rules, byte_at_shown, same_default, past, get_or-eq_default, none_past, length_shown)
 
 -- the presence of a byte is its bit
 pub presence : (words bytes : List ℕ) {image : List (Option ℕ)} (a : ℕ) → dense_image words bytes ≡ image
     → a < length bytes → is_some (byte_at image a) ≡ is_present words a
-presence words bytes {image} a seen l = grind (arith, nat_tests, byte_at-shown)
+presence words bytes {image} a seen l = grind (arith, nat_tests, byte_at_shown)
 
 -- a run of places of a list, found by its first and its last
-position-at : {X : Type 0} (p : X → Bool) (xs : List X) (i n : ℕ) (d : X) → n < length xs
+position_at : {X : Type 0} (p : X → Bool) (xs : List X) (i n : ℕ) (d : X) → n < length xs
     → ((k : ℕ) → k < n → p (get_or xs k d) ≡ false) → p (get_or xs n d) ≡ true → position_from p i xs ≡ Some (i + n)
-position-at p [] i n d l before here = absurd (omega (arith, l))
-position-at p (x ∷ xs) i zero d l before here = rw here (ap (λ (k : ℕ). Some k) (omega arith))
-position-at p (x ∷ xs) i (suc n) d l before here =
+position_at p [] i n d l before here = absurd (omega (arith, l))
+position_at p (x ∷ xs) i zero d l before here = rw here (ap (λ (k : ℕ). Some k) (omega arith))
+position_at p (x ∷ xs) i (suc n) d l before here =
     let first : p x ≡ false = before 0 (omega arith) in
-    search (rules, position-at p xs (i + 1) n d (omega (arith, l)) (λ k j. before (suc k) (omega (arith, j))) here)
+    search (rules, position_at p xs (i + 1) n d (omega (arith, l)) (λ k j. before (suc k) (omega (arith, j))) here)
 
-position-none : {X : Type 0} (p : X → Bool) (xs : List X) (i : ℕ) (d : X)
+position_none : {X : Type 0} (p : X → Bool) (xs : List X) (i : ℕ) (d : X)
     → ((k : ℕ) → k < length xs → p (get_or xs k d) ≡ false) → position_from p i xs ≡ None
-position-none p [] i d before = refl
-position-none p (x ∷ xs) i d before =
+position_none p [] i d before = refl
+position_none p (x ∷ xs) i d before =
     let first : p x ≡ false = before 0 (omega arith) in
-    rw first (position-none p xs (i + 1) d (λ k j. before (suc k) (omega (arith, j))))
+    rw first (position_none p xs (i + 1) d (λ k j. before (suc k) (omega (arith, j))))
 
 -- the least address from `addr` on that holds a byte
 pub first_is : (words bytes : List ℕ) {image : List (Option ℕ)} (addr place : ℕ) → dense_image words bytes ≡ image
@@ -155,7 +155,7 @@ first_is words bytes {image} addr place seen found l =
     let size : length image ≡ length bytes = sized words bytes seen in
     let left = length-drop addr image in
     let rest : addr + (place - addr) ≡ place = omega (arith, found.after) in
-    position-at is_some (drop addr image) addr (place - addr) None (omega (arith, left, size, l, found.after))
+    position_at is_some (drop addr image) addr (place - addr) None (omega (arith, left, size, l, found.after))
     (λ k j. ap is_some (get_or-drop addr image k None)
     ∙ presence words bytes (addr + k) seen (omega (arith, j, l))
     ∙ found.others (addr + k) (omega arith) (omega (arith, j)))
@@ -167,7 +167,7 @@ pub first_none : (words bytes : List ℕ) {image : List (Option ℕ)} (addr from
 first_none words bytes {image} addr from seen le found =
     let size : length image ≡ length bytes = sized words bytes seen in
     let left = length-drop addr image in
-    position-none is_some (drop addr image) addr None
+    position_none is_some (drop addr image) addr None
     (λ k j. ap is_some (get_or-drop addr image k None)
     ∙ presence words bytes (addr + k) seen (omega (arith, j, left, size))
     ∙ found.others (addr + k) (omega (arith, le)) (omega (arith, j, left, size)))
@@ -219,36 +219,36 @@ pub kept_whole : (words bytes : List ℕ) {image : List (Option ℕ)} → dense_
     → bytes ≡ filled_bytes image 0 (length image)
 kept_whole words bytes {image} seen blank =
     let size : length image ≡ length bytes = sized words bytes seen in
-    filled_is image 0 (length image) bytes (sym size) (λ i l.
+    filled_by_each image 0 (length image) bytes (sym size) (λ i l.
     same_default bytes i 0 255 (omega (arith, l, size))
     ∙ kept_byte words bytes i seen blank
     ∙ ap (λ (k : ℕ). byte_or_ff (byte_at image k)) (omega arith))
 
 -- ---- bytes stay bytes
 
-pub small-blank : (n i : ℕ) → get_or {A = ℕ} (replicate {A = ℕ} n 255) i 0 < 256
-small-blank (suc n) (suc i) = small-blank n i
-small-blank x y = omega arith
+pub small_blank : (n i : ℕ) → get_or {A = ℕ} (replicate {A = ℕ} n 255) i 0 < 256
+small_blank (suc n) (suc i) = small_blank n i
+small_blank x y = omega arith
 
-pub small-set : (xs : List ℕ) (at byte : ℕ) → byte < 256 → ((i : ℕ) → get_or xs i 0 < 256) → (i : ℕ)
+pub small_set : (xs : List ℕ) (at byte : ℕ) → byte < 256 → ((i : ℕ) → get_or xs i 0 < 256) → (i : ℕ)
     → get_or (set xs at byte) i 0 < 256
-small-set [] at byte l all i = omega arith
-small-set (x ∷ xs) zero byte l all zero = l
-small-set (x ∷ xs) zero byte l all (suc i) = all (suc i)
-small-set (x ∷ xs) (suc at) byte l all zero = all zero
-small-set (x ∷ xs) (suc at) byte l all (suc i) = small-set xs at byte l (λ k. all (suc k)) i
+small_set [] at byte l all i = omega arith
+small_set (x ∷ xs) zero byte l all zero = l
+small_set (x ∷ xs) zero byte l all (suc i) = all (suc i)
+small_set (x ∷ xs) (suc at) byte l all zero = all zero
+small_set (x ∷ xs) (suc at) byte l all (suc i) = small_set xs at byte l (λ k. all (suc k)) i
 
-small-append : (xs ys : List ℕ) → ((i : ℕ) → get_or xs i 0 < 256) → ((i : ℕ) → get_or ys i 0 < 256) → (i : ℕ)
+small_append : (xs ys : List ℕ) → ((i : ℕ) → get_or xs i 0 < 256) → ((i : ℕ) → get_or ys i 0 < 256) → (i : ℕ)
     → get_or (xs ++ ys) i 0 < 256
-small-append [] ys prefix back i = back i
-small-append (x ∷ xs) ys prefix back zero = prefix zero
-small-append (x ∷ xs) ys prefix back (suc i) = small-append xs ys (λ k. prefix (suc k)) back i
+small_append [] ys prefix back i = back i
+small_append (x ∷ xs) ys prefix back zero = prefix zero
+small_append (x ∷ xs) ys prefix back (suc i) = small_append xs ys (λ k. prefix (suc k)) back i
 
-small-take : (n : ℕ) (xs : List ℕ) → ((i : ℕ) → get_or xs i 0 < 256) → (i : ℕ) → get_or (take n xs) i 0 < 256
-small-take (suc n) (x ∷ xs) all zero = all zero
-small-take (suc n) (x ∷ xs) all (suc i) = small-take n xs (λ k. all (suc k)) i
-small-take x y all i = omega arith
+small_take : (n : ℕ) (xs : List ℕ) → ((i : ℕ) → get_or xs i 0 < 256) → (i : ℕ) → get_or (take n xs) i 0 < 256
+small_take (suc n) (x ∷ xs) all zero = all zero
+small_take (suc n) (x ∷ xs) all (suc i) = small_take n xs (λ k. all (suc k)) i
+small_take x y all i = omega arith
 
-pub small-pasted : (start : ℕ) (span bytes : List ℕ) → ((i : ℕ) → get_or span i 0 < 256)
+pub small_pasted : (start : ℕ) (span bytes : List ℕ) → ((i : ℕ) → get_or span i 0 < 256)
     → ((i : ℕ) → get_or bytes i 0 < 256) → (i : ℕ) → get_or (with_span start span bytes) i 0 < 256
-small-pasted start span bytes new old = grind (arith, nat_tests, small-append, small-take, get_or-drop)
+small_pasted start span bytes new old = grind (arith, nat_tests, small_append, small_take, get_or-drop)

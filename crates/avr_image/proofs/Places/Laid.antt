@@ -8,31 +8,31 @@ use Rattle.avr_image.specs.Image.{byte_at, over, empty, image_of_pairs, with_pai
 use Rattle.avr_image.specs.Present.{is_present, is_within}
 use Rattle.avr_image.specs.Dense.{dense_image, with_span, IsSoundStorage}
 use Rattle.avr_image.proofs.Fields.Masks.{within_low, within_high}
-use Rattle.avr_image.proofs.Fields.Shown.{same_items, byte_at-shown, length_shown, small-pasted}
+use Rattle.avr_image.proofs.Fields.Shown.{same_by_address, byte_at_shown, length_shown, small_pasted}
 
-pub length-with_pairs : (image : List (Option ℕ)) (places : List (ℕ × ℕ))
+pub laid_size : (image : List (Option ℕ)) (places : List (ℕ × ℕ))
     → length (with_pairs image places) ≡ length image
-length-with_pairs image [] = refl
-length-with_pairs image ((a, b) ∷ places) = length-with_pairs (set image a (Some b)) places ∙ length-set image a
+laid_size image [] = refl
+laid_size image ((a, b) ∷ places) = laid_size (set image a (Some b)) places ∙ length-set image a
     (Some b)
 
 -- ---- in parts
 
-pub with_pairs-append : (image : List (Option ℕ)) (xs ys : List (ℕ × ℕ))
+pub with_pairs_append : (image : List (Option ℕ)) (xs ys : List (ℕ × ℕ))
     → with_pairs image (xs ++ ys) ≡ with_pairs (with_pairs image xs) ys
-with_pairs-append image [] ys = refl
-with_pairs-append image ((a, b) ∷ xs) ys = with_pairs-append (set image a (Some b)) xs ys
+with_pairs_append image [] ys = refl
+with_pairs_append image ((a, b) ∷ xs) ys = with_pairs_append (set image a (Some b)) xs ys
 
--- bytes laid over an image are the image of these bytes alone, laid over it: `laid_over_laid`, for Walks/Runs
-over-set : (a b : List (Option ℕ)) (i n : ℕ) → length a ≤ length b
+-- bytes laid over an image are the image of these bytes alone, laid over it: `laid_is_over`, for Walks/Runs
+over_set : (a b : List (Option ℕ)) (i n : ℕ) → length a ≤ length b
     → set (over a b) i (Some n) ≡ over a (set b i (Some n))
-over-set (x ∷ a) [] i n l = absurd (omega (arith, l))
-over-set (x ∷ a) (y ∷ b) (suc i) n l = grind (arith, nat_tests, over-set a b i n (omega (arith, l)))
-over-set z w v n l = refl
+over_set (x ∷ a) [] i n l = absurd (omega (arith, l))
+over_set (x ∷ a) (y ∷ b) (suc i) n l = grind (arith, nat_tests, over_set a b i n (omega (arith, l)))
+over_set z w v n l = refl
 
-pub over-empty : (a : List (Option ℕ)) → over a (empty (length a)) ≡ a
-over-empty [] = refl
-over-empty (x ∷ a) = ap (λ (zs : List (Option ℕ)). x ∷ zs) (over-empty a)
+pub over_empty : (a : List (Option ℕ)) → over a (empty (length a)) ≡ a
+over_empty [] = refl
+over_empty (x ∷ a) = ap (λ (zs : List (Option ℕ)). x ∷ zs) (over_empty a)
 
 pub empty_over : (a : List (Option ℕ)) → over (empty (length a)) a ≡ a
 empty_over [] = refl
@@ -43,58 +43,59 @@ laid_over_over : (a b : List (Option ℕ)) (ys : List (ℕ × ℕ)) → length a
     → with_pairs (over a b) ys ≡ over a (with_pairs b ys)
 laid_over_over a b [] l = refl
 laid_over_over a b ((i, n) ∷ ys) l =
-    ap (λ (image : List (Option ℕ)). with_pairs image ys) (over-set a b i n l)
+    ap (λ (image : List (Option ℕ)). with_pairs image ys) (over_set a b i n l)
     ∙ laid_over_over a (set b i (Some n)) ys (omega (arith, l, length-set b i (Some n)))
 
-pub laid_over_laid : (image : List (Option ℕ)) (ys : List (ℕ × ℕ))
+pub laid_is_over : (image : List (Option ℕ)) (ys : List (ℕ × ℕ))
     → with_pairs image ys ≡ over image (image_of_pairs (length image) ys)
-laid_over_laid image ys =
-    ap (λ (before : List (Option ℕ)). with_pairs before ys) (sym (over-empty image))
+laid_is_over image ys =
+    ap (λ (before : List (Option ℕ)). with_pairs before ys) (sym (over_empty image))
     ∙ laid_over_over image (empty (length image)) ys
     (omega (arith, length-replicate {A = Option ℕ} (length image) None))
 
-pub laid_append : (size : ℕ) (xs ys : List (ℕ × ℕ))
+pub parts_are_over : (size : ℕ) (xs ys : List (ℕ × ℕ))
     → image_of_pairs size (xs ++ ys) ≡ over (image_of_pairs size xs) (image_of_pairs size ys)
-laid_append size xs ys = grind (
+parts_are_over size xs ys = grind (
   arith,
   nat_tests,
-  length-with_pairs,
+  laid_size,
   length-replicate,
-  with_pairs-append,
-  laid_over_laid,
+  with_pairs_append,
+  laid_is_over,
 )
 
-pub over_over : (a b c : List (Option ℕ)) → length b ≡ length c → over (over a b) c ≡ over a (over b c)
-over_over (x ∷ a) [] (z ∷ c) l = absurd (omega (arith, l))
-over_over (x ∷ a) (y ∷ b) [] l = absurd (omega (arith, l))
-over_over (x ∷ a) (y ∷ b) (Some z ∷ c) l = grind (arith, nat_tests, over_over a b c (omega (arith, l)))
-over_over (x ∷ a) (y ∷ b) (None ∷ c) l = grind (arith, nat_tests, over_over a b c (omega (arith, l)))
-over_over y z w l = refl
+pub over_groups : (a b c : List (Option ℕ)) → length b ≡ length c → over (over a b) c ≡ over a (over b c)
+over_groups (x ∷ a) [] (z ∷ c) l = absurd (omega (arith, l))
+over_groups (x ∷ a) (y ∷ b) [] l = absurd (omega (arith, l))
+over_groups (x ∷ a) (y ∷ b) (Some z ∷ c) l = grind (arith, nat_tests, over_groups a b c (omega (arith, l)))
+over_groups (x ∷ a) (y ∷ b) (None ∷ c) l = grind (arith, nat_tests, over_groups a b c (omega (arith, l)))
+over_groups y z w l = refl
 
 -- ---- a span, address by address
 
-pub span_low : (image : List (Option ℕ)) (addr : ℕ) (span : List ℕ) (i : ℕ) → i < addr
+pub span_below : (image : List (Option ℕ)) (addr : ℕ) (span : List ℕ) (i : ℕ) → i < addr
     → byte_at (with_pairs image (enumerate_from addr span)) i ≡ byte_at image i
-span_low image addr [] i l = refl
-span_low image addr (b ∷ span) i l =
-    search (rules, arith, span_low (set image addr (Some b)) (addr + 1) span i (omega (arith, l)))
+span_below image addr [] i l = refl
+span_below image addr (b ∷ span) i l =
+    search (rules, arith, span_below (set image addr (Some b)) (addr + 1) span i (omega (arith, l)))
 
-pub span_high : (image : List (Option ℕ)) (addr : ℕ) (span : List ℕ) (i : ℕ) → addr + length span ≤ i
+pub span_above : (image : List (Option ℕ)) (addr : ℕ) (span : List ℕ) (i : ℕ) → addr + length span ≤ i
     → byte_at (with_pairs image (enumerate_from addr span)) i ≡ byte_at image i
-span_high image addr [] i l = refl
-span_high image addr (b ∷ span) i l =
-    search (rules, span_high (set image addr (Some b)) (addr + 1) span i (omega (arith, l)))
+span_above image addr [] i l = refl
+span_above image addr (b ∷ span) i l =
+    search (rules, span_above (set image addr (Some b)) (addr + 1) span i (omega (arith, l)))
 
-pub span_in : (image : List (Option ℕ)) (addr : ℕ) (span : List ℕ) (j : ℕ) → j < length span
-    → addr + length span ≤ length image
-    → byte_at (with_pairs image (enumerate_from addr span)) (addr + j) ≡ Some (get_or span j 0)
-span_in image addr [] j l room = absurd (omega (arith, l))
-span_in image addr (b ∷ span) zero l room = grind (arith, nat_tests, span_low, get_or-set_same)
-span_in image addr (b ∷ span) (suc j) l room =
+-- a span that was put is at its addresses
+pub span_inside : (image : List (Option ℕ)) (addr : ℕ) (span : List ℕ) (place : ℕ)
+    → addr + length span ≤ length image → place < length span
+    → byte_at (with_pairs image (enumerate_from addr span)) (addr + place) ≡ Some (get_or span place 0)
+span_inside image addr [] place room l = absurd (omega (arith, l))
+span_inside image addr (b ∷ span) zero room l = grind (arith, nat_tests, span_below, get_or-set_same)
+span_inside image addr (b ∷ span) (suc place) room l =
     search (
       rules,
-      span_in (set image addr (Some b)) (addr + 1) span j (omega (arith, l))
-          (omega (arith, room, length-set image addr (Some b))),
+      span_inside (set image addr (Some b)) (addr + 1) span place
+          (omega (arith, room, length-set image addr (Some b))) (omega (arith, l)),
     )
 
 -- ---- a byte, address by address
@@ -109,9 +110,9 @@ byte_beside image addr byte other l = get_or-set_other image addr other (Some by
 
 -- ---- bytes with a span pasted
 
-pub length-pasted : (start : ℕ) (span bytes : List ℕ) → start + length span ≤ length bytes
+pub length_pasted : (start : ℕ) (span bytes : List ℕ) → start + length span ≤ length bytes
     → length (with_span start span bytes) ≡ length bytes
-length-pasted start span bytes room = grind (arith, nat_tests, length-take, length-drop, length-append)
+length_pasted start span bytes room = grind (arith, nat_tests, length-take, length-drop, length-append)
 
 pasted_low : (start : ℕ) (span bytes : List ℕ) (i : ℕ) → start + length span ≤ length bytes → i < start
     → get_or (with_span start span bytes) i 0 ≡ get_or bytes i 0
@@ -126,72 +127,72 @@ pasted_high : (start : ℕ) (span bytes : List ℕ) (i : ℕ) → start + length
 pasted_high start span bytes i room l = grind (arith, nat_tests, length-take, get_or-append_right, get_or-drop)
 
 -- the bits of a span are those of its bytes
-pub shown-pasted : (words words' bytes span : List ℕ) (addr : ℕ) → addr + length span ≤ length bytes
-    → ((k : ℕ) → is_present words' k ≡ (is_within addr (addr + length span) k || is_present words k))
-    → dense_image words' (with_span addr span bytes) ≡ with_pairs (dense_image words bytes) (enumerate_from addr span)
-shown-pasted words words' bytes span addr room bits =
+pub shown_pasted : (words marks bytes span : List ℕ) (addr : ℕ) → addr + length span ≤ length bytes
+    → ((k : ℕ) → is_present marks k ≡ (is_within addr (addr + length span) k || is_present words k))
+    → dense_image marks (with_span addr span bytes) ≡ with_pairs (dense_image words bytes) (enumerate_from addr span)
+shown_pasted words marks bytes span addr room bits =
     let size = length_shown words bytes in
-    let left = length_shown words' (with_span addr span bytes) ∙ length-pasted addr span bytes room in
-    let right = length-with_pairs (dense_image words bytes) (enumerate_from addr span) ∙ size in
-    same_items _ _ (left ∙ sym right) (λ i j.
+    let left = length_shown marks (with_span addr span bytes) ∙ length_pasted addr span bytes room in
+    let right = laid_size (dense_image words bytes) (enumerate_from addr span) ∙ size in
+    same_by_address _ _ (left ∙ sym right) (λ i j.
     let inside : i < length bytes = omega (arith, j, right) in
-    let see = byte_at-shown words' (with_span addr span bytes) i
-    (omega (arith, inside, length-pasted addr span bytes room)) in
+    let see = byte_at_shown marks (with_span addr span bytes) i
+    (omega (arith, inside, length_pasted addr span bytes room)) in
     elim (cases_lt i addr) [
       | inl low ↦
-          let bit : is_present words' i ≡ is_present words i =
+          let bit : is_present marks i ≡ is_present words i =
           bits i ∙ rw (within_low addr (addr + length span) i low) refl in
           see ∙ ap₂ (λ (b : Bool) (n : ℕ). cond b (Some n) None) bit (pasted_low addr span bytes i room low)
-          ∙ sym (byte_at-shown words bytes i inside) ∙ sym (span_low (dense_image words bytes) addr span i low)
+          ∙ sym (byte_at_shown words bytes i inside) ∙ sym (span_below (dense_image words bytes) addr span i low)
       | inr from ↦ elim (cases_lt i (addr + length span)) [
         | inl within ↦
-            let bit : is_present words' i ≡ true = search rules in
+            let bit : is_present marks i ≡ true = search rules in
             let there : addr + (i - addr) ≡ i = omega (arith, from) in
             see ∙ ap₂ (λ (b : Bool) (n : ℕ). cond b (Some n) None) bit (pasted_in addr span bytes i room from within)
-            ∙ sym (search (rules, span_in))
+            ∙ sym (search (rules, span_inside))
             ∙ ap (λ (n : ℕ). byte_at (with_pairs (dense_image words bytes) (enumerate_from addr span)) n) there
         | inr past ↦
-            search (rules, pasted_high, byte_at-shown, span_high)
+            search (rules, pasted_high, byte_at_shown, span_above)
       ]
     ])
 
-pub kept-pasted : (words words' bytes span : List ℕ) (addr : ℕ) → addr + length span ≤ length bytes
-    → ((k : ℕ) → is_present words' k ≡ (is_within addr (addr + length span) k || is_present words k))
-    → length words' ≡ length words
-    → ((i : ℕ) → get_or span i 0 < 256) → IsSoundStorage words bytes → IsSoundStorage words' (with_span addr span bytes)
-kept-pasted words words' bytes span addr room bits same small kept =
-    search (rules, length-pasted, small-pasted, pasted_low, within_high, pasted_high)
+pub kept_pasted : (words marks bytes span : List ℕ) (addr : ℕ) → addr + length span ≤ length bytes
+    → ((k : ℕ) → is_present marks k ≡ (is_within addr (addr + length span) k || is_present words k))
+    → length marks ≡ length words
+    → ((i : ℕ) → get_or span i 0 < 256) → IsSoundStorage words bytes → IsSoundStorage marks (with_span addr span bytes)
+kept_pasted words marks bytes span addr room bits same small kept =
+    search (rules, length_pasted, small_pasted, pasted_low, within_high, pasted_high)
 
 -- ---- whether a span fits
 
-pub fits_yes : (addr : ℕ) (bytes : List ℕ) (size : ℕ) → addr + length bytes ≤ size → fits addr bytes size ≡ true
-fits_yes addr bytes size l = search (rules, nat_tests)
+pub inside_fits : (addr : ℕ) (bytes : List ℕ) (size : ℕ) → addr + length bytes ≤ size → fits addr bytes size ≡ true
+inside_fits addr bytes size l = search (rules, nat_tests)
 
 -- ---- bytes from address 0 on
 
-pub from_zero-next : (text : List ℕ) (byte size : ℕ) → length text < size
+pub from_zero_next : (text : List ℕ) (byte size : ℕ) → length text < size
     → set (from_zero text size) (length text) (Some byte) ≡ from_zero (text ++ byte ∷ []) size
-from_zero-next text byte size l = grind (arith, nat_tests, length-map, length-append, set_at, append_assoc, map-append)
+from_zero_next text byte size l = grind (arith, nat_tests, length-map, length-append, set_at, append_assoc, map-append)
 
-pub from_zero-laid : (text span : List ℕ) (size addr : ℕ) → addr ≡ length text → length text + length span ≤ size
+pub from_zero_laid : (text span : List ℕ) (size addr : ℕ) → addr ≡ length text → length text + length span ≤ size
     → with_pairs (from_zero text size) (enumerate_from addr span) ≡ from_zero (text ++ span) size
-from_zero-laid text [] size addr here l = ap (λ (xs : List ℕ). from_zero xs size) (sym (append-nil text))
-from_zero-laid text (byte ∷ span) size addr here l =
+from_zero_laid text [] size addr here l = ap (λ (xs : List ℕ). from_zero xs size) (sym (append-nil text))
+from_zero_laid text (byte ∷ span) size addr here l =
     ap (λ (n : ℕ). with_pairs (set (from_zero text size) n (Some byte)) (enumerate_from (addr + 1) span)) here
     ∙ ap (λ (image : List (Option ℕ)). with_pairs image (enumerate_from (addr + 1) span))
-    (from_zero-next text byte size (omega (arith, l)))
-    ∙ from_zero-laid (text ++ byte ∷ []) span size (addr + 1) (omega (arith, here, length-append text (byte ∷ [])))
+    (from_zero_next text byte size (omega (arith, l)))
+    ∙ from_zero_laid (text ++ byte ∷ []) span size (addr + 1) (omega (arith, here, length-append text (byte ∷ [])))
     (omega (arith, l, length-append text (byte ∷ [])))
     ∙ ap (λ (xs : List ℕ). from_zero xs size) (append_assoc text (byte ∷ []) span)
 
 -- a span put into an empty image
-pub from_zero-span : (text : List ℕ) (size : ℕ) → length text ≤ size
+pub from_zero_is_a_span : (text : List ℕ) (size : ℕ) → length text ≤ size
     → from_zero text size ≡ image_of_pairs size (enumerate_from 0 text)
-from_zero-span text size l = grind (arith, nat_tests, from_zero-laid [] text size 0 refl (omega (arith, l)))
+from_zero_is_a_span text size l = grind (arith, nat_tests, from_zero_laid [] text size 0 refl (omega (arith, l)))
 
-pub length-from_zero : (text : List ℕ) (size : ℕ) → length text ≤ size → length (from_zero text size) ≡ size
-length-from_zero text size l = grind (arith, nat_tests, length-append, length-map, length-replicate)
+pub length_from_zero : (text : List ℕ) (size : ℕ) → length text ≤ size → length (from_zero text size) ≡ size
+length_from_zero text size l = grind (arith, nat_tests, length-append, length-map, length-replicate)
 
-pub fits_some : (addr : ℕ) (bytes : List ℕ) (size : ℕ) → fits addr bytes size ≡ true
+pub fits_inside : (addr : ℕ) (bytes : List ℕ) (size : ℕ) → fits addr bytes size ≡ true
     → (bytes ≡ []) ⊎ (addr + length bytes ≤ size)
-fits_some addr bytes size test = search (rules, nat_tests)
+fits_inside addr bytes size test = search (rules, nat_tests)

@@ -2,7 +2,7 @@
 use Rattle.std.proofs.lemmas.Grind.{common_steps}
 use Rattle.std.proofs.Common.{◌≡◌, ◌∙◌, sym, ap, refl, arith, ℕ, suc, ◌+◌, ◌*◌, ◌/◌, ◌%◌, ◌^◌, ◌<◌, ◌≤◌, List, [], ◌∷◌, length, get_or, set, drop, min, true, false, cond, eqb, ◌≢◌, rules}
 use Rattle.std.proofs.lemmas.Bool.Decides.{nat_tests}
-use Rattle.std.proofs.lemmas.List.{drop_more, drop_all, drop-set}
+use Rattle.std.proofs.lemmas.List.{drop_more, drop_all, drop-set, length-set}
 use Rattle.std.specs.List.{list_all}
 use Rattle.std.specs.Fmt.{digits_onto, digits, digit_glyph}
 use Rattle.std.specs.Char.{digit_value}
@@ -22,23 +22,23 @@ capped base a b (c ∷ digits) some same =
     capped base (a * base + digit_value c) (b * base + digit_value c) digits some
     (same_cap a b base (digit_value c) some same)
 
-pub value-step : (base value digit i : ℕ) (digits : List ℕ) → 1 ≤ base → i < length digits
+pub value_step : (base value digit i : ℕ) (digits : List ℕ) → 1 ≤ base → i < length digits
     → digit ≡ digit_value (get_or digits i 0)
     → min (digits_value_after base (min (value * base + digit) 256) (drop (i + 1) digits)) 256
     ≡ min (digits_value_after base value (drop i digits)) 256
-value-step base value digit i digits some l here = grind (arith, nat_tests, capped, drop_more)
+value_step base value digit i digits some l here = grind (arith, nat_tests, capped, drop_more)
 
-pub digits-step : (base i : ℕ) (digits : List ℕ) → i < length digits → is_digit_of base (get_or digits i 0) ≡ true
+pub digits_step : (base i : ℕ) (digits : List ℕ) → i < length digits → is_digit_of base (get_or digits i 0) ≡ true
     → list_all (is_digit_of base) (drop (i + 1) digits) ≡ list_all (is_digit_of base) (drop i digits)
-digits-step base i digits l here = sym (ap (list_all (is_digit_of base)) (drop_more digits i 0 l) ∙ rw here refl)
+digits_step base i digits l here = sym (ap (list_all (is_digit_of base)) (drop_more digits i 0 l) ∙ rw here refl)
 
 -- ---- written
 
-pub written-step : (radix rest at next glyph : ℕ) (buffer : List ℕ) → at ≡ next + 1 → next < length buffer
+pub written_step : (radix rest at next glyph : ℕ) (buffer : List ℕ) → at ≡ next + 1 → next < length buffer
     → glyph ≡ digit_glyph false (rest % radix) → digits_onto (56 + at) radix false rest (drop at buffer)
     ≡ cond (eqb (rest / radix) 0) (drop next (set buffer next glyph))
     (digits_onto (56 + next) radix false (rest / radix) (drop next (set buffer next glyph)))
-written-step radix rest at next glyph buffer step l here =
+written_step radix rest at next glyph buffer step l here =
     let fuel : 56 + at ≡ suc (56 + next) = omega (arith, step) in search (rules, drop-set)
 
 pub digit_left : (radix rest at next : ℕ) → 2 ≤ radix → at ≡ next + 1 → rest < 2 ^ at → rest / radix < 2 ^ next
@@ -57,14 +57,19 @@ pub more_written : (radix byte rest at next glyph : ℕ) (buffer : List ℕ) →
     → at ≡ next + 1 → next < length buffer → glyph ≡ digit_glyph false (rest % radix) → eqb (rest / radix) 0 ≡ false
     → IsWritten radix byte (rest / radix) next (set buffer next glyph)
 more_written radix byte rest at next glyph buffer before step l here left =
-    let e = written-step radix rest at next glyph buffer step l here in search rules
+    let e = written_step radix rest at next glyph buffer step l here in search rules
 
 pub all_written : (radix byte rest at next glyph : ℕ) (buffer : List ℕ) → IsWritten radix byte rest at buffer
     → at ≡ next + 1 → next < length buffer → glyph ≡ digit_glyph false (rest % radix) → eqb (rest / radix) 0 ≡ true
     → drop next (set buffer next glyph) ≡ digits radix false byte
 all_written radix byte rest at next glyph buffer before step l here last =
-    let e = written-step radix rest at next glyph buffer step l here in search rules
+    let e = written_step radix rest at next glyph buffer step l here in search rules
 
 -- a number other than 0 needs a digit
 pub digit_more : (n places : ℕ) → n ≢ 0 → n < 2 ^ places → 0 < places
 digit_more n places some l = search rules
+
+-- the lemmas for the loops of `read_number` and `write_digits`
+pub ruleset digits_read = (nat_tests, digits_step, value_step)
+
+pub ruleset digits_written = (nat_tests, length-set, digit_left, digit_more, more_written, all_written)

@@ -6,13 +6,13 @@ use Rattle.std.specs.List.{enumerate_from}
 use Rattle.avr_image.specs.Image.{with_pairs, fits}
 use Rattle.avr_image.specs.Raw.{HoldsText}
 use Rattle.avr_image.specs.declared.fault.ImageFault.{ImageFault}
-use Rattle.avr_image.proofs.Places.Laid.{from_zero-laid, length-with_pairs}
+use Rattle.avr_image.proofs.Places.Laid.{from_zero_laid, laid_size}
 
-pub stands-fed : (image after : List (Option ℕ)) (fed end : ℕ) (failed : Bool) (text piece : List ℕ)
+pub stands_fed : (image after : List (Option ℕ)) (fed end : ℕ) (failed : Bool) (text piece : List ℕ)
     (fault : ImageFault) → HoldsText (record { image = image; fed = fed; failed = failed }) text
     → ◌≡◌ {A = Result ℕ ImageFault} (Ok end)
     (cond (fits fed piece (length image)) (Ok (fed + length piece)) (Err fault))
     → after ≡ with_pairs image (enumerate_from fed piece)
     → HoldsText (record { image = after; fed = end; failed = failed }) (text ++ piece)
-stands-fed image after fed end failed text piece fault stands verdict laid =
-    grind (arith, nat_tests, length-with_pairs, length-append, from_zero-laid)
+stands_fed image after fed end failed text piece fault stands verdict laid =
+    grind (arith, nat_tests, laid_size, length-append, from_zero_laid)

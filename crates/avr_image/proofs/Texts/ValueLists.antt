@@ -1,8 +1,8 @@
 -- A list of numbers, read as values, gives the numbers.
-use Rattle.std.proofs.Common.{◌≡◌, ◌∙◌, ap, refl, arith, ℕ, zero, suc, ◌+◌, ◌<◌, ◌≤◌, List, [], ◌∷◌, ◌++◌, length, map, filter, eqb, Bool, true, false, ◌&&◌, not, nat_lt, Option, Some, None, Ok, Err, inl, inr, get_or, rules}
+use Rattle.std.proofs.Common.{◌≡◌, ◌∙◌, ap, refl, arith, ℕ, zero, All, suc, ◌+◌, ◌<◌, ◌≤◌, List, [], ◌∷◌, ◌++◌, length, map, filter, eqb, Bool, true, false, ◌&&◌, not, nat_lt, Option, Some, None, Ok, Err, inl, inr, rules}
 use Rattle.std.specs.List.{enumerate_from, slice_split, onto_first, list_all}
 use Rattle.std.specs.Fmt.{digits}
-use Rattle.std.proofs.lemmas.Bool.{cases_eq}
+use Rattle.std.proofs.lemmas.Bool.{and_parts, cases_eq}
 use Rattle.std.proofs.lemmas.Bool.Decides.{nat_tests}
 use Rattle.avr_image.specs.Lists.{number_text, list_line}
 use Rattle.avr_image.specs.Image.{from_zero}
@@ -29,106 +29,88 @@ abbrev all_below : ℕ → (ℕ → Bool) → Bool
 all_below zero test = true
 all_below (suc n) test = test n && all_below n test
 
-both : (a b : Bool) → (a && b) ≡ true → (a ≡ true) × (b ≡ true)
-both a b e = search rules
-
 below : (n k : ℕ) (test : ℕ → Bool) → all_below n test ≡ true → k < n → test k ≡ true
 below zero k test all l = absurd (omega (arith, l))
 below (suc n) k test all l = elim (cases_eq k n) [
-  | inl same ↦ rw same (both (test n) (all_below n test) all).0
-  | inr other ↦ below n k test (both (test n) (all_below n test) all).1 (omega (arith, l, other))
+  | inl same ↦ rw same (and_parts (test n) (all_below n test) all).0
+  | inr other ↦ below n k test (and_parts (test n) (all_below n test) all).1 (omega (arith, l, other))
 ]
 
-all_decimal : all_below 256 (is_good Dec) ≡ true
-unfolding digits
-all_decimal = refl
-
-all_hexadecimal : all_below 256 (is_good Hex) ≡ true
-unfolding digits
-all_hexadecimal = refl
-
-all_octal : all_below 256 (is_good Oct) ≡ true
-unfolding digits
-all_octal = refl
-
-all_binary : all_below 256 (is_good Bin) ≡ true
-unfolding digits
-all_binary = refl
-
+-- number by number
 good : (base : Base) (n : ℕ) → n < 256 → is_good base n ≡ true
-good Dec n l = below 256 n (is_good Dec) all_decimal l
-good Hex n l = below 256 n (is_good Hex) all_hexadecimal l
-good Oct n l = below 256 n (is_good Oct) all_octal l
-good Bin n l = below 256 n (is_good Bin) all_binary l
+unfolding digits
+good Dec n l = below 256 n (is_good Dec) refl l
+good Hex n l = below 256 n (is_good Hex) refl l
+good Oct n l = below 256 n (is_good Oct) refl l
+good Bin n l = below 256 n (is_good Bin) refl l
 
 read_back : (base : Base) (n : ℕ) → n < 256 → value_of (number_text base n) ≡ Some n
 read_back base n l = search (rules, good base n l)
 
 solid : (base : Base) (n : ℕ) → n < 256 → is_solid (number_text base n) ≡ true
-solid base n l = (both (is_value (value_of (number_text base n)) n) (is_solid (number_text base n)) (good base n l)).1
+solid base n l = (and_parts (is_value (value_of (number_text base n)) n) _ (good base n l)).1
 
 -- ---- the pieces of a list
 
 not_true : (b : Bool) → not b ≡ true → b ≡ false
 not_true b e = search rules
 
-split-clean : (text : List ℕ) → list_all (λ c. not (is_separator c)) text ≡ true
+split_clean : (text : List ℕ) → list_all (λ c. not (is_separator c)) text ≡ true
     → slice_split is_separator text ≡ text ∷ []
-split-clean [] all = refl
-split-clean (c ∷ text) all =
-    let parts = both (not (is_separator c)) (list_all (λ c. not (is_separator c)) text) all in
-    rw (not_true (is_separator c) parts.0) (ap (onto_first c) (split-clean text parts.1))
+split_clean [] all = refl
+split_clean (c ∷ text) all =
+    let parts = and_parts (not (is_separator c)) (list_all (λ c. not (is_separator c)) text) all in
+    rw (not_true (is_separator c) parts.0) (ap (onto_first c) (split_clean text parts.1))
 
-split-comma : (text more : List ℕ) → list_all (λ c. not (is_separator c)) text ≡ true
+split_comma : (text more : List ℕ) → list_all (λ c. not (is_separator c)) text ≡ true
     → slice_split is_separator (text ++ 44 ∷ more) ≡ text ∷ slice_split is_separator more
-split-comma [] more all = refl
-split-comma (c ∷ text) more all =
-    let parts = both (not (is_separator c)) (list_all (λ c. not (is_separator c)) text) all in
-    rw (not_true (is_separator c) parts.0) (ap (onto_first c) (split-comma text more parts.1))
+split_comma [] more all = refl
+split_comma (c ∷ text) more all =
+    let parts = and_parts (not (is_separator c)) (list_all (λ c. not (is_separator c)) text) all in
+    rw (not_true (is_separator c) parts.0) (ap (onto_first c) (split_comma text more parts.1))
 
 abbrev AreBytes : List ℕ → Type 0
 AreBytes [] = Unit {0}
 AreBytes (b ∷ bytes) = (b < 256) × AreBytes bytes
 
-split-line : (base : Base) (b : ℕ) (bytes : List ℕ) → b < 256 → AreBytes bytes
+split_line : (base : Base) (b : ℕ) (bytes : List ℕ) → b < 256 → AreBytes bytes
     → slice_split is_separator (list_line base (b ∷ bytes)) ≡ map (number_text base) (b ∷ bytes)
-split-line base b [] l all = split-clean (number_text base b)
-    (both (nat_lt 0 (length (number_text base b))) _ (solid base b l)).1
-split-line base b (next ∷ bytes) l all =
-    split-comma (number_text base b) (list_line base (next ∷ bytes))
-    (both (nat_lt 0 (length (number_text base b))) _ (solid base b l)).1
-    ∙ ap (λ (more : List (List ℕ)). number_text base b ∷ more) (split-line base next bytes all.0 all.1)
+split_line base b [] l all = split_clean (number_text base b)
+    (and_parts (nat_lt 0 (length (number_text base b))) _ (solid base b l)).1
+split_line base b (next ∷ bytes) l all =
+    split_comma (number_text base b) (list_line base (next ∷ bytes))
+    (and_parts (nat_lt 0 (length (number_text base b))) _ (solid base b l)).1
+    ∙ ap (λ (more : List (List ℕ)). number_text base b ∷ more) (split_line base next bytes all.0 all.1)
 
-none-empty : (base : Base) (bytes : List ℕ) → AreBytes bytes
+none_empty : (base : Base) (bytes : List ℕ) → AreBytes bytes
     → filter (λ piece. nat_lt 0 (length piece)) (map (number_text base) bytes) ≡ map (number_text base) bytes
-none-empty base [] all = refl
-none-empty base (b ∷ bytes) all = search (rules, solid base b all.0, none-empty base bytes all.1)
+none_empty base [] all = refl
+none_empty base (b ∷ bytes) all = search (rules, solid base b all.0, none_empty base bytes all.1)
 
-pieces-line : (base : Base) (b : ℕ) (bytes : List ℕ) → b < 256 → AreBytes bytes
+pieces_line : (base : Base) (b : ℕ) (bytes : List ℕ) → b < 256 → AreBytes bytes
     → pieces (list_line base (b ∷ bytes)) ≡ map (number_text base) (b ∷ bytes)
-pieces-line base b bytes l all = search (rules, split-line, none-empty)
+pieces_line base b bytes l all = search (rules, split_line, none_empty)
 
 -- ---- their values
 
-all-good : (base : Base) (size addr : ℕ) (bytes : List ℕ) → AreBytes bytes → addr + length bytes ≤ size
+all_good : (base : Base) (size addr : ℕ) (bytes : List ℕ) → AreBytes bytes → addr + length bytes ≤ size
     → all_ok (map (byte_of_value size) (enumerate_from addr (map (number_text base) bytes))) ≡ Ok bytes
-all-good base size addr [] all room = refl
-all-good base size addr (b ∷ bytes) all room =
-    search (rules, read_back, nat_tests, all-good base size (addr + 1) bytes all.1 (omega (arith, room)))
+all_good base size addr [] all room = refl
+all_good base size addr (b ∷ bytes) all room =
+    search (rules, read_back, nat_tests, all_good base size (addr + 1) bytes all.1 (omega (arith, room)))
 
-are_bytes : (bytes : List ℕ) → ((k d : ℕ) → k < length bytes → get_or bytes k d < 256) → AreBytes bytes
+are_bytes : (bytes : List ℕ) → All (λ byte. byte < 256) bytes → AreBytes bytes
 are_bytes [] all = tt
 are_bytes (b ∷ bytes) all = (all 0 0 (omega arith), are_bytes bytes (λ k d l. all (suc k) d (omega (arith, l))))
 
-pub list-reads-back : (base : Base) (bytes : List ℕ) (size : ℕ) → 0 < length bytes → length bytes ≤ size
-    → ((k d : ℕ) → k < length bytes → get_or bytes k d < 256)
-    → image_of_values (list_line base bytes) size ≡ Ok (from_zero bytes size)
-list-reads-back base [] size some room all = absurd (omega (arith, some))
-list-reads-back base (b ∷ bytes) size some room all =
+pub list_reads_back : (base : Base) (bytes : List ℕ) (size : ℕ) → 0 < length bytes → length bytes ≤ size
+    → All (λ byte. byte < 256) bytes → image_of_values (list_line base bytes) size ≡ Ok (from_zero bytes size)
+list_reads_back base [] size some room all = absurd (omega (arith, some))
+list_reads_back base (b ∷ bytes) size some room all =
     let are = are_bytes (b ∷ bytes) all in
-    let cut = pieces-line base b bytes are.0 are.1 in
-    let checked_are = all-good base size 0 (b ∷ bytes) are (omega (arith, room)) in
+    let cut = pieces_line base b bytes are.0 are.1 in
+    let checked_are = all_good base size 0 (b ∷ bytes) are (omega (arith, room)) in
     let some : eqb (length (map (number_text base) (b ∷ bytes))) 0 ≡ false = grind (arith, nat_tests) in search rules
 
-pub none-reads-back : (base : Base) (size : ℕ) → image_of_values (list_line base []) size ≡ Err (BadNumber 1)
-none-reads-back base size = refl
+pub empty_list_is_bad : (base : Base) (size : ℕ) → image_of_values (list_line base []) size ≡ Err (BadNumber 1)
+empty_list_is_bad base size = refl

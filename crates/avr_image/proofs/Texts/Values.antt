@@ -3,13 +3,14 @@ use Rattle.std.proofs.lemmas.Grind.{common_steps}
 use Rattle.std.proofs.Common.{◌≡◌, ◌∙◌, sym, ap, refl, arith, ℕ, suc, zero, ◌+◌, ◌<◌, ◌≤◌, List, [], ◌∷◌, ◌++◌, length, map, filter, take, drop, replicate, eqb, Bool, cond, nat_lt, Option, None, Result, Ok, Err, inl, inr, rules}
 use Rattle.std.proofs.lemmas.List.{length-append, append_assoc, append-nil, length-take}
 use Rattle.std.proofs.lemmas.Bool.{cases_Bool}
-use Rattle.std.proofs.lemmas.List.Sums.{prefix_len-le-length}
+use Rattle.std.proofs.lemmas.List.Sums.{position_or_len_is, prefix_len-le-length}
+use Rattle.std.proofs.lemmas.Result.{err_from_is_err_and}
 use Rattle.std.proofs.lemmas.Bool.Decides.{nat_tests}
 use Rattle.std.specs.List.{enumerate_from, slice_split, position_or_len, onto_first}
 use Rattle.avr_image.specs.Image.{empty, from_zero, with_byte}
 use Rattle.avr_image.specs.Values.{is_separator, fitting, byte_of_value, value_of, all_ok, onto_ok, image_of_bytes, pieces}
 use Rattle.avr_image.specs.declared.fault.ImageFault.{ImageFault}
-use Rattle.avr_image.proofs.Places.Laid.{from_zero-next, length-from_zero}
+use Rattle.avr_image.proofs.Places.Laid.{from_zero_next, length_from_zero}
 
 abbrev pub on_ok : Result ℕ ImageFault → (ℕ → Result (List (Option ℕ)) ImageFault) → Result (List (Option ℕ)) ImageFault
 on_ok (Ok byte) more = more byte
@@ -28,8 +29,8 @@ before bytes (Err fault) = Err fault
 abbrev ok_of : List ℕ → Result (List ℕ) ImageFault
 ok_of xs = Ok xs
 
-pub before-none : (rest : Result (List ℕ) ImageFault) → before [] rest ≡ rest
-before-none x = grind (arith, nat_tests)
+pub before_none : (rest : Result (List ℕ) ImageFault) → before [] rest ≡ rest
+before_none x = grind (arith, nat_tests)
 
 -- a good value has an address below the size
 pub fitting_below : (size addr : ℕ) (value : Option ℕ) (byte : ℕ) → fitting size addr value ≡ Ok byte → addr < size
@@ -41,14 +42,14 @@ with_next : (bytes : List ℕ) (size addr : ℕ) (parts : List (List ℕ)) (rest
     ≡ image_of_bytes size (before (bytes ++ byte ∷ []) rest))
     → on_ok r (λ byte. with_pieces (with_byte (from_zero bytes size) addr byte) (addr + 1) parts)
     ≡ image_of_bytes size (before bytes (onto_ok r rest))
-with_next bytes size addr parts rest r below here more = search (rules, from_zero-next, append_assoc)
+with_next bytes size addr parts rest r below here more = search (rules, from_zero_next, append_assoc)
 
 pub with_pieces_is : (bytes : List ℕ) (size addr : ℕ) (parts : List (List ℕ)) → addr ≡ length bytes
     → length bytes ≤ size → with_pieces (from_zero bytes size) addr parts
     ≡ image_of_bytes size (before bytes (all_ok (map (byte_of_value size) (enumerate_from addr parts))))
 with_pieces_is bytes size addr [] here l = ap (λ (xs : List ℕ). image_of_bytes size (ok_of xs)) (sym (append-nil bytes))
 with_pieces_is bytes size addr (piece ∷ parts) here l =
-    let size_is : length (from_zero bytes size) ≡ size = length-from_zero bytes size l in
+    let size_is : length (from_zero bytes size) ≡ size = length_from_zero bytes size l in
     ap (λ (n : ℕ). on_ok (byte_of_value n (addr, piece))
     (λ byte. with_pieces (with_byte (from_zero bytes size) addr byte) (addr + 1) parts)) size_is
     ∙ with_next bytes size addr parts (all_ok (map (byte_of_value size) (enumerate_from (addr + 1) parts)))
@@ -64,7 +65,7 @@ values_of_some size [] one some = absurd (omega (arith, some))
 values_of_some size (piece ∷ parts) one some =
     let none : from_zero [] size ≡ empty size = ap (λ (n : ℕ). replicate {A = Option ℕ} n None) (omega arith) in
     let whole = with_pieces_is [] size 0 (piece ∷ parts) refl (omega arith) in
-    search (rules, before-none, none, whole)
+    search (rules, before_none, none, whole)
 
 -- ---- the first piece
 
@@ -112,3 +113,10 @@ pub piece_good : (image : List (Option ℕ)) (addr : ℕ) (piece : List ℕ) (mo
     → byte_of_value (length image) (addr, piece) ≡ Ok byte
     → with_pieces image addr (piece ∷ more) ≡ with_pieces (with_byte image addr byte) (addr + 1) more
 piece_good image addr piece more byte e = grind (arith, nat_tests)
+
+-- the lemmas for `piece_len`, and for the loop of `parse_immediate`
+pub ruleset first_piece = (nat_tests, position_or_len_is)
+
+pub ruleset one_value = (piece_bad, piece_good, fitting_below)
+
+pub ruleset values_read = (nat_tests, err_from_is_err_and, pieces_prefix, no_pieces, values_of_some, one_value)

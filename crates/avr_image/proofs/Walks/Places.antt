@@ -7,7 +7,7 @@ use Rattle.std.proofs.lemmas.List.Sums.{prefix_len-le-length, prefix_len_passes,
 use Rattle.std.specs.List.{position_from}
 use Rattle.avr_image.specs.Image.{byte_at, first_from, run_end, filled_bytes}
 use Rattle.avr_image.specs.Walk.{IsNextHeld, IsByteRun, IsFilled}
-use Rattle.avr_image.proofs.Fields.Shown.{byte_at-past}
+use Rattle.avr_image.proofs.Fields.Shown.{none_past}
 
 none_is : (byte : Option ℕ) → is_some byte ≡ false → byte ≡ None
 none_is byte e = search rules
@@ -66,11 +66,12 @@ none_held image addr e k a = elim (cases_lt k (length image)) [
   | inl inside ↦
       let there : addr + (k - addr) ≡ k = omega (arith, a) in
       none_is (byte_at image k) (search (rules, get_or-drop, none_found, length-drop))
-  | inr past ↦ byte_at-past image k past
+  | inr past ↦ none_past image k past
 ]
 
-pub run_ends : (image : List (Option ℕ)) (addr end : ℕ) → addr ≤ end → IsByteRun image addr end (run_end image addr end)
-run_ends image addr end room =
+pub run_is_longest : (image : List (Option ℕ)) (addr end : ℕ) → addr ≤ end
+    → IsByteRun image addr end (run_end image addr end)
+run_is_longest image addr end room =
     let row = take (end - addr) (drop addr image) in
     let row_len = length-take (end - addr) (drop addr image) in
     let fits = prefix_len-le-length is_some row in
@@ -82,9 +83,9 @@ run_ends image addr end room =
       held = λ k a l.
           let there : addr + (k - addr) ≡ k = omega (arith, a) in
           search (rules, prefix_len_passes);
-      stop = search (rules, prefix_len_stops, byte_at-past);
+      stop = search (rules, prefix_len_stops, none_past);
     }
 
-pub is_filled : (image : List (Option ℕ)) (start n : ℕ) → IsFilled image start n (filled_bytes image start n)
-is_filled image start zero = record { size = refl; byte = λ i l. absurd (omega (arith, l)) }
-is_filled image start (suc n) = search (rules, is_filled image (start + 1) n)
+pub filled_is : (image : List (Option ℕ)) (start n : ℕ) → IsFilled image start n (filled_bytes image start n)
+filled_is image start zero = record { size = refl; byte = λ i l. absurd (omega (arith, l)) }
+filled_is image start (suc n) = search (rules, filled_is image (start + 1) n)

@@ -1,6 +1,6 @@
 -- The parts that a part file holds, if its reader finds no fault.
-use Rattle.std.proofs.Common.{◌≡◌, ◌∙◌, ◌≤◌, ◌<◌, ◌%◌, ap, ℕ, zero, suc, List, [], ◌∷◌, refl, Some, Option, Result, Ok, Err, Bool, true, inl, inr, arith, rules}
-use Rattle.std.proofs.lemmas.Bool.{and_parts, cases_lt}
+use Rattle.std.proofs.Common.{◌≡◌, ◌≤◌, ◌<◌, ◌%◌, ℕ, List, [], ◌∷◌, refl, Some, Option, Result, Ok, Err, Bool, true, arith, rules}
+use Rattle.std.proofs.lemmas.Bool.{cases_lt}
 use Rattle.std.proofs.lemmas.Bool.Decides.{nat_tests}
 use Rattle.std.proofs.Math.Nat.{mod-eq_of_lt}
 use Rattle.std.specs.Int.{is_power_of_two}
@@ -15,7 +15,7 @@ use Rattle.avr_part.specs.declared.fault.Field.TheVariants as field
 use Rattle.avr_part.specs.declared.fault.PartFault.{PartFault}
 use Rattle.avr_part.specs.declared.fault.PartFault.TheVariants.{BadValue, BadSizes}
 use Rattle.avr_laws.proofs.Held.Sized.{sized}
-use Rattle.avr_part.proofs.Powers.{power_divides, power_is_even}
+use Rattle.avr_part.proofs.Powers.{all_below, below, power_divides, power_is_even}
 
 record HasNumber (d : Option Data) (least most n : ℕ) : Type 0 where
   is : d ≡ Some (integer (pos n))
@@ -125,20 +125,6 @@ held_parts text parts is = search (rules, each_part)
 number_read : (f : Field) (least most n : ℕ) → least ≤ n → n ≤ most
     → number_field f least most (Some (integer (pos n))) ≡ Ok n
 number_read f least most n some few = search (rules, nat_tests)
-
--- each number below n passes the test
-abbrev all_below : (ℕ → Bool) → ℕ → Bool
-all_below test zero = true
-all_below test (suc n) = test n && all_below test n
-
-below : (test : ℕ → Bool) (n i : ℕ) → all_below test n ≡ true → i < n → test i ≡ true
-below test zero i all l = absurd (omega arith)
-below test (suc n) i all l =
-    let parts = and_parts (test n) (all_below test n) all in
-    elim (cases_lt i n) [
-      | inl before ↦ below test n i parts.1 before
-      | inr from ↦ ap test (let last : i ≡ n = omega arith in last) ∙ parts.0
-    ]
 
 abbrev power_if_divides : ℕ → Bool
 power_if_divides n = if nat_lt 0 n && 256 % n == 0 then is_power_of_two n else true

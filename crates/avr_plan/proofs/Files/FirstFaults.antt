@@ -1,9 +1,9 @@
 -- The first fault of a record file stays its fault, whatever follows.
 use Rattle.std.proofs.Common.{◌≡◌, ◌∙◌, ap, refl, ℕ, List, [], ◌∷◌, ◌++◌, Some, Err, rules}
 use Rattle.std.proofs.lemmas.List.{append-nil, map-append}
-use Rattle.avr_records.proofs.Readers.LaterLines.{parts-some}
-use Rattle.avr_records.proofs.Readers.Fed.{goes-on, closed-prefix}
-use Rattle.avr_records.proofs.Readers.WholeFiles.{among-stands}
+use Rattle.avr_records.proofs.Readers.LaterLines.{parts_some}
+use Rattle.avr_records.proofs.Readers.Fed.{text_goes_on, closed_prefix}
+use Rattle.avr_records.proofs.Readers.WholeFiles.{among_stands}
 use Rattle.avr_records.specs.Closed.{all_but_last, ended_lines_fault}
 use Rattle.avr_records.specs.Lines.{lines, is_line_end}
 use Rattle.avr_records.specs.Reading.{image_in_text}
@@ -26,26 +26,26 @@ record Lengthened (kind : Kind) (text more : List ℕ) : Type 0 where
 
 lengthened : (kind : Kind) (text more : List ℕ) → Lengthened kind text more
 lengthened kind text more =
-    let some = parts-some is_line_end text in
+    let some = parts_some is_line_end text in
     let cut = cut_last some.0 some.1 in
-    let next = parts-some is_line_end more in
+    let next = parts_some is_line_end more in
     let is : lines text ≡ cut.0 ++ cut.1 ∷ [] = some.2 ∙ cut.2 in
     record {
       prefix = cut.0;
       goes_on = cut.1 ++ next.0;
       behind = next.1;
-      closed = ap all_but_last is ∙ closed-prefix cut.0 cut.1 [] ∙ append-nil cut.0;
-      lines_are = goes-on text more cut.0 cut.1 next.0 next.1 is next.2;
+      closed = ap all_but_last is ∙ closed_prefix cut.0 cut.1 [] ∙ append-nil cut.0;
+      lines_are = text_goes_on text more cut.0 cut.1 next.0 next.1 is next.2;
     }
 
 -- a fault of a line that has ended stays the first one when more bytes come
 pub ended_lines_fault-more : (kind : Kind) (text more : List ℕ) (size : ℕ) (fault : RecordFault)
     → ended_lines_fault kind text size ≡ Some fault → ended_lines_fault kind (text ++ more) size ≡ Some fault
 ended_lines_fault-more kind text more size fault is =
-    let l = lengthened kind text more in search (rules, closed-prefix, map-append, among-stands)
+    let l = lengthened kind text more in search (rules, closed_prefix, map-append, among_stands)
 
 -- and it is the fault of the whole file
 pub ended_lines_fault-whole : (kind : Kind) (text more : List ℕ) (size : ℕ) (fault : RecordFault)
     → ended_lines_fault kind text size ≡ Some fault → image_in_text kind (text ++ more) size ≡ Err fault
 ended_lines_fault-whole kind text more size fault is =
-    let l = lengthened kind text more in search (rules, map-append, among-stands)
+    let l = lengthened kind text more in search (rules, map-append, among_stands)

@@ -2,14 +2,14 @@
 use Rattle.std.proofs.Common.{◌≡◌, ◌∙◌, sym, ap, refl, ℕ, [], ◌++◌, Some, None, Err, append-nil, subst, rules}
 use Rattle.avr_image.specs.Raw as raw_file
 use Rattle.avr_desk.specs.Record.{Bytes}
-use Rattle.avr_records.proofs.Readers.Fed.{reads-sound}
+use Rattle.avr_records.proofs.Readers.Fed.{reads_sound}
 use Rattle.avr_records.specs.Closed.{ended_lines_fault}
 use Rattle.avr_records.specs.Reading.{ok_unless}
 use Rattle.avr_records.specs.Reader.{ReaderState, memory_size}
 use Rattle.avr_records.specs.declared.kind.Found.{Found}
 use Rattle.avr_records.specs.declared.kind.Kind.{Kind}
 use Rattle.avr_records.specs.declared.fault.RecordFault.{RecordFault}
-use Rattle.avr_records.proofs.Readers.WholeFiles.{none-or}
+use Rattle.avr_records.proofs.Readers.WholeFiles.{none_or}
 use Rattle.avr_plan.proofs.Files.FirstFaults.{ended_lines_fault-more, ended_lines_fault-whole}
 use Rattle.avr_plan.specs.ImageFile.{image_of_file, fault_of_long_file}
 use Rattle.avr_plan.specs.Intake.{HasCertainFault, RecordReaderWasFed, RawReaderWasFed, found_as, in_long_file}
@@ -28,7 +28,7 @@ pub record-decides : (found : Found) (size : ℕ) (reader : ReaderState) (fault 
 record-decides found size reader fault text piece takes is =
     let own : ended_lines_fault reader.kind (text ++ piece) size ≡ Some fault =
     ap (ended_lines_fault reader.kind (text ++ piece)) (sym takes.of_size)
-    ∙ none-or (ended_lines_fault reader.kind (text ++ piece) (memory_size reader))
+    ∙ none_or (ended_lines_fault reader.kind (text ++ piece) (memory_size reader))
     fault is in
     subst (λ f. HasCertainFault f size (Record fault) (text ++ piece)) (sym takes.of_kind)
     (decides-record reader.kind size fault (text ++ piece) own)
@@ -52,7 +52,7 @@ pub records-long : (found : Found) (size : ℕ) (reader : ReaderState) (text : B
 records-long found size reader text takes =
     let none : ended_lines_fault reader.kind text size ≡ None =
     ap (ended_lines_fault reader.kind text) (sym takes.of_size)
-    ∙ reads-sound reader.kind reader.progress reader.part text takes.stands.reads in
+    ∙ reads_sound reader.kind reader.progress reader.part text takes.stands.reads in
     subst (λ f. TooLong ≡ fault_of_long_file f text size) (sym takes.of_kind) (sound-long reader.kind size text none)
 
 pub raw-too-long : (found : Found) (size : ℕ) (reader : raw_file.RawReaderState) (text : Bytes)

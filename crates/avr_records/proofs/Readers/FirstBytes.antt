@@ -3,13 +3,13 @@ use Rattle.std.proofs.Common.{◌≡◌, refl, arith, ℕ, zero, suc, ◌≤◌,
 use Rattle.std.proofs.lemmas.Bool.Decides.{nat_tests}
 use Rattle.std.proofs.lemmas.List.Sums.{prefix_len-le-length}
 use Rattle.std.specs.List.{list_all, prefix_len}
-use Rattle.avr_records.proofs.Readers.Fed.{line-first}
+use Rattle.avr_records.proofs.Readers.Fed.{line_first}
 use Rattle.avr_records.specs.Detect.{format_of_line}
 use Rattle.avr_records.specs.Lines.{lines, is_blank}
 use Rattle.avr_records.specs.declared.kind.Found.{Found}
 
-pub too-few : (p : ℕ → Bool) (n : ℕ) (xs : List ℕ) → length xs < n → false ≡ nat_le n (prefix_len p xs)
-too-few p n xs len = let bound = prefix_len-le-length p xs in grind (arith, nat_tests)
+pub too_few : (p : ℕ → Bool) (n : ℕ) (xs : List ℕ) → length xs < n → false ≡ nat_le n (prefix_len p xs)
+too_few p n xs len = let bound = prefix_len-le-length p xs in grind (arith, nat_tests)
 
 -- the first n elements pass if at least n in front do
 pub all_of_prefix : (p : ℕ → Bool) (n : ℕ) (xs : List ℕ) → n ≤ length xs
@@ -21,10 +21,13 @@ all_of_prefix p (suc n) (x ∷ xs) len = grind (arith, nat_tests, all_of_prefix 
 abbrev pub first_of : List ℕ → Found
 first_of text = format_of_line (find (λ line. not (list_all is_blank line)) (lines text))
 
-pub blank-first : (text line more : List ℕ) → lines line ≡ line ∷ [] → text ≡ line ++ 10 ∷ more
+pub blank_first : (text line more : List ℕ) → lines line ≡ line ∷ [] → text ≡ line ++ 10 ∷ more
     → list_all is_blank line ≡ true → first_of text ≡ first_of more
-blank-first text line more one cut blank = rw (cut, line-first line more one, blank) refl
+blank_first text line more one cut blank = rw (cut, line_first line more one, blank) refl
 
-pub shown-first : (text line more : List ℕ) → lines line ≡ line ∷ [] → text ≡ line ++ 10 ∷ more
+pub shown_first : (text line more : List ℕ) → lines line ≡ line ∷ [] → text ≡ line ++ 10 ∷ more
     → list_all is_blank line ≡ false → first_of text ≡ format_of_line (Some line)
-shown-first text line more one cut blank = rw (cut, line-first line more one, blank) refl
+shown_first text line more one cut blank = rw (cut, line_first line more one, blank) refl
+
+-- the lemmas for `detect`
+pub ruleset detected = (nat_tests, too_few, all_of_prefix, blank_first, shown_first)

@@ -1,6 +1,5 @@
 -- The size that a file needs is the least memory into which it reads.
-use Rattle.std.proofs.Common.{◌≡◌, refl, arith, ℕ, ◌+◌, ◌<◌, ◌≤◌, List, [], ◌∷◌, length, map, max, flat_map, Option, None, Ok, nat_lt, inl, inr, rules}
-use Rattle.std.proofs.lemmas.Bool.{cases_Bool}
+use Rattle.std.proofs.Common.{◌≡◌, refl, arith, ℕ, ◌+◌, ◌≤◌, List, [], ◌∷◌, length, map, max, flat_map, Option, None, Ok, rules}
 use Rattle.std.proofs.lemmas.Bool.Decides.{nat_tests}
 use Rattle.avr_records.specs.Lines.{lines}
 use Rattle.avr_records.specs.Needed.{largest_memory, end_after, end_of_bytes, size_needed_in_text}
@@ -10,8 +9,8 @@ use Rattle.avr_records.specs.declared.kind.Kind.{Kind}
 use Rattle.avr_records.specs.declared.kind.Ending.{Ending}
 use Rattle.avr_records.specs.declared.kind.AddressBase.{AddressBase}
 use Rattle.avr_records.specs.declared.fault.RecordFault.{RecordFault}
-use Rattle.avr_records.proofs.Readers.LaterLines.{or_later-none}
-use Rattle.avr_records.proofs.Texts.Places.{first_outside-append, first_outside-parts}
+use Rattle.avr_records.proofs.Readers.LaterLines.{or_later_none}
+use Rattle.avr_records.proofs.Texts.Places.{first_outside_append, first_outside_parts}
 
 inside : (size end : ℕ) (places : List (ℕ × ℕ)) → end_after end places ≤ size
     → (end ≤ size) × (first_outside size places ≡ None)
@@ -21,41 +20,35 @@ inside size end (p ∷ ps) l = grind (arith, nat_tests, inside size (max end (p.
 reaches : (size end : ℕ) (places : List (ℕ × ℕ)) → end ≤ size → first_outside size places ≡ None
     → end_after end places ≤ size
 reaches size end [] l none = l
-reaches size end (p ∷ ps) l none =
-    elim (cases_Bool (nat_lt p.0 size)) [
-      | inl t ↦
-          let below : p.0 < size = grind (arith, nat_tests) in
-          reaches size (max end (p.0 + 1)) ps (omega (arith, below, l)) (rw t at none)
-      | inr f ↦ cc (rw f at none)
-    ]
+reaches size end (p ∷ ps) l none = grind (arith, nat_tests, reaches size (max end (p.0 + 1)) ps)
 
 -- a line without a fault in one memory has none in each memory that has its addresses
 good : (size other : ℕ) (base : AddressBase) (count : ℕ) (line : LineResult) → fault_under_base size base count line
     ≡ None → first_outside other (bytes_under_base base line) ≡ None → fault_under_base other base count line ≡ None
-good size other base count line none lies' = search rules
+good size other base count line none lies_in = search rules
 
-all-good : (size other : ℕ) (taken : List (List LineResult × LineResult)) → first_fault size taken ≡ None
+all_good : (size other : ℕ) (taken : List (List LineResult × LineResult)) → first_fault size taken ≡ None
     → first_outside other (flat_map bytes_of_line taken) ≡ None → first_fault other taken ≡ None
-all-good size other [] none lies' = refl
-all-good size other (p ∷ ps) none lies' =
-    let parts = or_later-none (length p.0 + 1) (fault_of_line size p) (first_fault size ps) none in
-    let both = first_outside-parts other (bytes_of_line p) (flat_map bytes_of_line ps) lies' in
-    search (rules, all-good size other ps parts.1 both.1)
+all_good size other [] none lies_in = refl
+all_good size other (p ∷ ps) none lies_in =
+    let parts = or_later_none (length p.0 + 1) (fault_of_line size p) (first_fault size ps) none in
+    let both = first_outside_parts other (bytes_of_line p) (flat_map bytes_of_line ps) lies_in in
+    search (rules, all_good size other ps parts.1 both.1)
 
-all-lie : (size : ℕ) (taken : List (List LineResult × LineResult)) → first_fault size taken ≡ None
+all_lie : (size : ℕ) (taken : List (List LineResult × LineResult)) → first_fault size taken ≡ None
     → first_outside size (flat_map bytes_of_line taken) ≡ None
-all-lie size [] none = refl
-all-lie size (p ∷ ps) none =
-    let parts = or_later-none (length p.0 + 1) (fault_of_line size p) (first_fault size ps) none in
-    search (rules, first_outside-append, all-lie size ps parts.1)
+all_lie size [] none = refl
+all_lie size (p ∷ ps) none =
+    let parts = or_later_none (length p.0 + 1) (fault_of_line size p) (first_fault size ps) none in
+    search (rules, first_outside_append, all_lie size ps parts.1)
 
 sized : (fault : Option RecordFault) (size needed : ℕ) → ok_unless fault size ≡ Ok needed
     → (fault ≡ None) × (size ≡ needed)
 sized fault size needed is = search rules
 
-read-well : (fault : Option RecordFault) (good read : List (Option ℕ) × Ending) → ok_unless fault good ≡ Ok read
+read_well : (fault : Option RecordFault) (good read : List (Option ℕ) × Ending) → ok_unless fault good ≡ Ok read
     → fault ≡ None
-read-well fault good read is = search rules
+read_well fault good read is = search rules
 
 abbrev taken_of : Kind → List ℕ → List LineResult
 taken_of kind text = up_to_end (map (line_result kind) (lines text))
@@ -66,8 +59,8 @@ enough kind text needed size is l =
     let taken : List LineResult = taken_of kind text in
     let parts = sized (first_fault largest_memory (with_lines_before [] taken)) (end_of_bytes (bytes_of_lines taken))
     needed is in
-    let inside' = (inside size 0 (bytes_of_lines taken) (rw parts.1 l)).1 in
-    let none = all-good largest_memory size (with_lines_before [] taken) parts.0 inside' in
+    let all_inside = (inside size 0 (bytes_of_lines taken) (rw parts.1 l)).1 in
+    let none = all_good largest_memory size (with_lines_before [] taken) parts.0 all_inside in
     ((image_of_pairs size (bytes_of_lines taken), file_ending (map (line_result kind) (lines text))), rw none refl)
 
 pub least : (kind : Kind) (text : List ℕ) (size : ℕ) (read : List (Option ℕ) × Ending) → size ≤ largest_memory
@@ -75,10 +68,10 @@ pub least : (kind : Kind) (text : List ℕ) (size : ℕ) (read : List (Option �
     → (needed : ℕ) × (size_needed_in_text kind text ≡ Ok needed) × (needed ≤ size)
 least kind text size read l is =
     let taken : List LineResult = taken_of kind text in
-    let none = read-well (first_fault size (with_lines_before [] taken)) _ read is in
-    let reach = reaches size 0 (bytes_of_lines taken) (omega arith) (all-lie size (with_lines_before [] taken) none) in
-    let inside' = (inside largest_memory 0 (bytes_of_lines taken) (omega (arith, l, reach))).1 in (
+    let none = read_well (first_fault size (with_lines_before [] taken)) _ read is in
+    let reach = reaches size 0 (bytes_of_lines taken) (omega arith) (all_lie size (with_lines_before [] taken) none) in
+    let all_inside = (inside largest_memory 0 (bytes_of_lines taken) (omega (arith, l, reach))).1 in (
       end_of_bytes (bytes_of_lines taken),
-      rw (all-good size largest_memory (with_lines_before [] taken) none inside') refl,
+      rw (all_good size largest_memory (with_lines_before [] taken) none all_inside) refl,
       reach,
     )

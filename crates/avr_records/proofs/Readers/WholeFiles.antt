@@ -10,23 +10,23 @@ use Rattle.avr_records.specs.Reader.{ReaderState, MayHaveRead, IsNewReader, memo
 use Rattle.avr_records.specs.declared.kind.Kind.{Kind}
 use Rattle.avr_records.specs.declared.fault.RecordFault.{RecordFault}
 use Rattle.avr_records.proofs.Readers.Fed.{but_last}
-use Rattle.avr_records.proofs.Readers.LaterLines.{with_lines_before-append, up_to_end-open, up_to_end-done, parts-some}
+use Rattle.avr_records.proofs.Readers.LaterLines.{with_lines_before_append, up_to_end_open, up_to_end_done, parts_some}
 
-first_fault-stands : (size : ℕ) (ps qs : List (List LineResult × LineResult)) (notice : RecordFault)
+first_fault_stands : (size : ℕ) (ps qs : List (List LineResult × LineResult)) (notice : RecordFault)
     → first_fault size ps ≡ Some notice → first_fault size (ps ++ qs) ≡ Some notice
-first_fault-stands size [] qs notice is = absurd (cc is)
-first_fault-stands size (p ∷ ps) qs notice is = grind (arith, nat_tests, first_fault-stands size ps qs notice)
+first_fault_stands size [] qs notice is = absurd (cc is)
+first_fault_stands size (p ∷ ps) qs notice is = grind (arith, nat_tests, first_fault_stands size ps qs notice)
 
 -- lines after the first fault don't change it
-pub among-stands : (size : ℕ) (meant more : List LineResult) (notice : RecordFault) → first_fault_among size meant
+pub among_stands : (size : ℕ) (meant more : List LineResult) (notice : RecordFault) → first_fault_among size meant
     ≡ Some notice → first_fault_among size (meant ++ more) ≡ Some notice
-among-stands size meant more notice is =
-    grind (arith, nat_tests, up_to_end-done, up_to_end-open, with_lines_before-append, first_fault-stands)
+among_stands size meant more notice is =
+    grind (arith, nat_tests, up_to_end_done, up_to_end_open, with_lines_before_append, first_fault_stands)
 
-pub ended_lines-fault : (kind : Kind) (size : ℕ) (text : List ℕ) (notice : RecordFault)
+pub ended_fault_stands : (kind : Kind) (size : ℕ) (text : List ℕ) (notice : RecordFault)
     → ended_lines_fault kind text size ≡ Some notice → image_in_text kind text size ≡ Err notice
-ended_lines-fault kind size text notice is =
-    let some = parts-some is_line_end text in
+ended_fault_stands kind size text notice is =
+    let some = parts_some is_line_end text in
     let cut = but_last some.0 some.1 in
     let closed : List (List ℕ) = all_but_last (lines text) in
     let same : lines text ≡ closed ++ cut.0 ∷ [] =
@@ -34,19 +34,19 @@ ended_lines-fault kind size text notice is =
     let meant : map (line_result kind) (lines text) ≡ map (line_result kind) closed ++ line_result kind cut.0 ∷ [] =
     ap (map (line_result kind)) same ∙ map-append (line_result kind) closed (cut.0 ∷ []) in
     let whole : first_fault_among size (map (line_result kind) (lines text)) ≡ Some notice =
-    ap (first_fault_among size) meant ∙ among-stands size (map (line_result kind) closed) (line_result kind cut.0
+    ap (first_fault_among size) meant ∙ among_stands size (map (line_result kind) closed) (line_result kind cut.0
     ∷ []) notice is in search rules
 
-pub none-or : (fault : Option RecordFault) (notice : RecordFault) → Err notice ≡ ok_unless fault (tt {0}) → fault
+pub none_or : (fault : Option RecordFault) (notice : RecordFault) → Err notice ≡ ok_unless fault (tt {0}) → fault
     ≡ Some notice
-none-or fault notice is = search rules
+none_or fault notice is = search rules
 
 -- the fault that a new reader returns for a whole file
-pub new_reader-fault : (kind : Kind) (size : ℕ) (s : ReaderState) (text : List ℕ) (notice : RecordFault)
+pub new_reader_fault : (kind : Kind) (size : ℕ) (s : ReaderState) (text : List ℕ) (notice : RecordFault)
     → IsNewReader kind size s → ((before : List ℕ) → MayHaveRead s before
     → Err notice ≡ ok_unless (ended_lines_fault s.kind (before ++ text) (memory_size s)) (tt {0}))
     → Err notice ≡ image_in_text kind text size
-new_reader-fault kind size s text notice new is =
+new_reader_fault kind size s text notice new is =
     let of_s : ended_lines_fault s.kind text (memory_size s) ≡ Some notice =
-    none-or (ended_lines_fault s.kind text (memory_size s)) notice (is [] new.nothing_fed) in
-    search (rules, ended_lines-fault)
+    none_or (ended_lines_fault s.kind text (memory_size s)) notice (is [] new.nothing_fed) in
+    search (rules, ended_fault_stands)

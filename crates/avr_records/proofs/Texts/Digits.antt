@@ -27,11 +27,11 @@ no_digit digits out result (Ok bytes) is none facts =
     list_all-from_AllPass is_hex_digit digits (decode_of-ok digits bytes is).1 in absurd (grind arith)
 no_digit digits out result (Err e) is none fact = (e, fact, rw none refl)
 
-pub decoded-ok : (digits out : List ℕ) (n : ℕ) (result : Result Unit FromHexError) → length digits ≡ 2 * n
+pub decoded_ok : (digits out : List ℕ) (n : ℕ) (result : Result Unit FromHexError) → length digits ≡ 2 * n
     → Decoded digits out result (decode_sized digits n) → result ≡ Ok tt → bytes_of_digits digits ≡ Ok out
-decoded-ok digits out n result len facts ok = grind (arith, nat_tests, no_digit)
+decoded_ok digits out n result len facts ok = grind (arith, nat_tests, no_digit)
 
-pub decoded-err : (digits out : List ℕ) (n : ℕ) (result : Result Unit FromHexError) (e : FromHexError)
+pub decoded_err : (digits out : List ℕ) (n : ℕ) (result : Result Unit FromHexError) (e : FromHexError)
     → length digits ≡ 2 * n
     → Decoded digits out result (decode_sized digits n) → result ≡ Err e → bytes_of_digits digits ≡ Err Digit
-decoded-err digits out n result e len facts err = grind (arith, nat_tests, all_digits)
+decoded_err digits out n result e len facts err = grind (arith, nat_tests, all_digits)

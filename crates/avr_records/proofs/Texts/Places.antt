@@ -1,8 +1,7 @@
 -- The addresses of a data record's bytes, and whether a memory has them.
-use Rattle.std.proofs.Common.{◌≡◌, ◌∙◌, ap, inl, inr, refl, sym, arith, ℕ, ◌+◌, ◌*◌, ◌%◌, ◌<◌, ◌≤◌, List, [], ◌∷◌, ◌++◌, length, map, take, drop, Option, Some, None, Result, Ok, Err, nat_lt, max, false, true, rules}
+use Rattle.std.proofs.Common.{◌≡◌, ap, refl, sym, arith, ℕ, ◌+◌, ◌*◌, ◌%◌, ◌<◌, ◌≤◌, List, [], ◌∷◌, ◌++◌, length, map, take, drop, Option, Some, None, Result, Ok, Err, max, false, true, rules}
 use Rattle.std.proofs.lemmas.Bool.Decides.{nat_tests}
-use Rattle.std.proofs.lemmas.Bool.{cases_Bool}
-use Rattle.std.proofs.lemmas.List.{length-take-le, length-drop, take-append-drop}
+use Rattle.std.proofs.lemmas.List.{length-take-le, length-drop, take-append-drop, take_rest}
 use Rattle.std.proofs.lemmas.List.Sums.{fold-append}
 use Rattle.std.specs.List.{enumerate_from}
 use Rattle.std.specs.Prelude.{OnOk, if◌then◌else◌}
@@ -24,141 +23,126 @@ places_from base offset i bytes = map (λ p. (address base offset p.0, p.1)) (en
 
 -- ---- the addresses
 
-linear-from : (upper offset i : ℕ) (bytes : List ℕ) (addr : ℕ) → addr ≡ upper * 65536 + offset + i
+pub linear_from : (upper offset i : ℕ) (bytes : List ℕ) (addr : ℕ) → addr ≡ upper * 65536 + offset + i
     → places_from (Linear upper) offset i bytes ≡ enumerate_from addr bytes
-linear-from upper offset i [] addr is = refl
-linear-from upper offset i (b ∷ bs) addr is =
-    grind (arith, nat_tests, linear-from upper offset (i + 1) bs (addr + 1) (omega (arith, is)))
+linear_from upper offset i [] addr is = refl
+linear_from upper offset i (b ∷ bs) addr is =
+    grind (arith, nat_tests, linear_from upper offset (i + 1) bs (addr + 1) (omega (arith, is)))
 
 -- under a linear base the addresses follow each other
-pub places-linear : (upper offset : ℕ) (bytes : List ℕ)
+pub places_linear : (upper offset : ℕ) (bytes : List ℕ)
     → places (Linear upper) offset bytes ≡ enumerate_from (upper * 65536 + offset) bytes
-places-linear upper offset bytes = linear-from upper offset 0 bytes (upper * 65536 + offset) (omega arith)
+places_linear upper offset bytes = linear_from upper offset 0 bytes (upper * 65536 + offset) (omega arith)
 
-segment-from : (paragraph offset i : ℕ) (bytes : List ℕ) (addr : ℕ) → addr ≡ paragraph * 16 + (offset + i) % 65536
+segment_from : (paragraph offset i : ℕ) (bytes : List ℕ) (addr : ℕ) → addr ≡ paragraph * 16 + (offset + i) % 65536
     → (offset + i) % 65536 + length bytes ≤ 65536
     → places_from (Segment paragraph) offset i bytes ≡ enumerate_from addr bytes
-segment-from paragraph offset i [] addr is room = refl
-segment-from paragraph offset i (b ∷ []) addr is room = ap (λ (n : ℕ). (n, b) ∷ []) (sym is)
-segment-from paragraph offset i (b ∷ c ∷ bs) addr is room =
+segment_from paragraph offset i [] addr is room = refl
+segment_from paragraph offset i (b ∷ []) addr is room = ap (λ (n : ℕ). (n, b) ∷ []) (sym is)
+segment_from paragraph offset i (b ∷ c ∷ bs) addr is room =
     let next : (offset + (i + 1)) % 65536 ≡ (offset + i) % 65536 + 1 = omega (arith, room) in
-    search (
-      rules,
-      segment-from paragraph offset (i + 1) (c ∷ bs) (addr + 1) (omega (arith, is, next)) (omega (arith, room, next)),
-    )
+    grind (arith, nat_tests, next, segment_from paragraph offset (i + 1) (c ∷ bs) (addr + 1))
 
 -- they do so within a segment too
-pub places-segment : (paragraph offset : ℕ) (bytes : List ℕ) → offset % 65536 + length bytes ≤ 65536
+pub places_segment : (paragraph offset : ℕ) (bytes : List ℕ) → offset % 65536 + length bytes ≤ 65536
     → places (Segment paragraph) offset bytes ≡ enumerate_from (paragraph * 16 + offset % 65536) bytes
-places-segment paragraph offset bytes room = grind (arith, nat_tests, segment-from)
+places_segment paragraph offset bytes room = grind (arith, nat_tests, segment_from)
 
-places_from-append : (base : AddressBase) (offset i : ℕ) (xs ys : List ℕ)
+places_from_append : (base : AddressBase) (offset i : ℕ) (xs ys : List ℕ)
     → places_from base offset i (xs ++ ys) ≡ places_from base offset i xs ++ places_from base offset (i + length xs) ys
-places_from-append base offset i [] ys = ap (λ (n : ℕ). places_from base offset n ys) (omega arith)
-places_from-append base offset i (x ∷ xs) ys = grind (arith, nat_tests, places_from-append base offset (i + 1) xs ys)
+places_from_append base offset i [] ys = ap (λ (n : ℕ). places_from base offset n ys) (omega arith)
+places_from_append base offset i (x ∷ xs) ys = grind (arith, nat_tests, places_from_append base offset (i + 1) xs ys)
 
 -- past the end of a segment they go on at its beginning
-pub places-wrapped : (paragraph offset : ℕ) (before behind : List ℕ) → offset % 65536 + length before ≡ 65536
+pub places_wrapped : (paragraph offset : ℕ) (before behind : List ℕ) → offset % 65536 + length before ≡ 65536
     → length behind ≤ 65536 → places (Segment paragraph) offset (before ++ behind)
     ≡ enumerate_from (paragraph * 16 + offset % 65536) before ++ enumerate_from (paragraph * 16) behind
-places-wrapped paragraph offset before behind full short = grind (arith, nat_tests, places_from-append, segment-from)
+places_wrapped paragraph offset before behind full short = grind (arith, nat_tests, places_from_append, segment_from)
 
 -- the same, cut at the segment's end
-pub places-wrapped-at : (paragraph offset n : ℕ) (bytes : List ℕ) → offset % 65536 + n ≡ 65536 → n ≤ length bytes
+pub places_wrapped_at : (paragraph offset n : ℕ) (bytes : List ℕ) → offset % 65536 + n ≡ 65536 → n ≤ length bytes
     → length bytes ≤ 255 → places (Segment paragraph) offset bytes
     ≡ enumerate_from (paragraph * 16 + offset % 65536) (take n bytes) ++ enumerate_from (paragraph * 16) (drop n bytes)
-places-wrapped-at paragraph offset n bytes full fits' short =
-    let before = length-take-le n bytes fits' in
-    let behind = length-drop n bytes in
-    ap (places (Segment paragraph) offset) (sym (take-append-drop n bytes))
-    ∙ places-wrapped paragraph offset (take n bytes) (drop n bytes) (omega (arith, before, full))
-    (omega (arith, behind, short))
+places_wrapped_at paragraph offset n bytes full inside short =
+    let wrapped = places_wrapped paragraph offset (take n bytes) (drop n bytes) in
+    grind (arith, nat_tests, length-take-le, length-drop, take-append-drop, wrapped)
 
 -- ---- the first address out of range
 
-pub first_outside-append : (size : ℕ) (xs ys : List (ℕ × ℕ)) → first_outside size xs ≡ None
+pub first_outside_append : (size : ℕ) (xs ys : List (ℕ × ℕ)) → first_outside size xs ≡ None
     → first_outside size (xs ++ ys) ≡ first_outside size ys
-first_outside-append size [] ys none = refl
-first_outside-append size (x ∷ xs) ys none =
-    elim (cases_Bool (nat_lt x.0 size)) [
-      | inl t ↦ rw t (first_outside-append size xs ys (rw t at none))
-      | inr f ↦ cc (rw f at none)
-    ]
+first_outside_append size [] ys none = refl
+first_outside_append size (x ∷ xs) ys none = grind (arith, nat_tests, first_outside_append size xs ys)
 
-pub first_outside-first : (size : ℕ) (xs ys : List (ℕ × ℕ)) (addr : ℕ) → first_outside size xs ≡ Some addr
+pub first_outside_first : (size : ℕ) (xs ys : List (ℕ × ℕ)) (addr : ℕ) → first_outside size xs ≡ Some addr
     → first_outside size (xs ++ ys) ≡ Some addr
-first_outside-first size [] ys addr found = cc found
-first_outside-first size (x ∷ xs) ys addr found =
-    elim (cases_Bool (nat_lt x.0 size)) [
-      | inl t ↦ rw t (first_outside-first size xs ys addr (rw t at found))
-      | inr f ↦ rw f (rw f at found)
-    ]
+first_outside_first size [] ys addr found = cc found
+first_outside_first size (x ∷ xs) ys addr found = grind (arith, nat_tests, first_outside_first size xs ys addr)
 
-pub first_outside-parts : (size : ℕ) (xs ys : List (ℕ × ℕ)) → first_outside size (xs ++ ys) ≡ None
+pub first_outside_parts : (size : ℕ) (xs ys : List (ℕ × ℕ)) → first_outside size (xs ++ ys) ≡ None
     → (first_outside size xs ≡ None) × (first_outside size ys ≡ None)
-first_outside-parts size [] ys none = (refl, none)
-first_outside-parts size (x ∷ xs) ys none =
-    elim (cases_Bool (nat_lt x.0 size)) [
-      | inl t ↦ let more : first_outside size (xs ++ ys) ≡ None = rw t at none in
-          rw t (first_outside-parts size xs ys more)
-      | inr f ↦ cc (rw f at none)
-    ]
+first_outside_parts size [] ys none = (refl, none)
+first_outside_parts size (x ∷ xs) ys none = grind (arith, nat_tests, first_outside_parts size xs ys)
 
 -- a span inside the memory has no address out of range
-first_outside-span : (size addr : ℕ) (bytes : List ℕ) → fits addr bytes size ≡ true
+first_outside_span : (size addr : ℕ) (bytes : List ℕ) → fits addr bytes size ≡ true
     → first_outside size (enumerate_from addr bytes) ≡ None
-first_outside-span size addr [] inside = refl
-first_outside-span size addr (b ∷ []) inside = grind (arith, nat_tests)
-first_outside-span size addr (b ∷ c ∷ bs) inside =
-    let here : nat_lt addr size ≡ true = grind (arith, nat_tests) in
-    let rest : fits (addr + 1) (c ∷ bs) size ≡ true = grind (arith, nat_tests) in
-    rw here (first_outside-span size (addr + 1) (c ∷ bs) rest)
+first_outside_span size addr [] inside = refl
+first_outside_span size addr (b ∷ []) inside = grind (arith, nat_tests)
+first_outside_span size addr (b ∷ c ∷ bs) inside =
+    grind (arith, nat_tests, first_outside_span size (addr + 1) (c ∷ bs))
 
 -- a span that isn't inside is out of range at its first address, or at the size
-first_outside-span-end : (size addr : ℕ) (bytes : List ℕ) → fits addr bytes size ≡ false
+first_outside_span_end : (size addr : ℕ) (bytes : List ℕ) → fits addr bytes size ≡ false
     → first_outside size (enumerate_from addr bytes) ≡ Some (max addr size)
-first_outside-span-end size addr [] outside = cc outside
-first_outside-span-end size addr (b ∷ []) outside = grind (arith, nat_tests)
-first_outside-span-end size addr (b ∷ c ∷ bs) outside =
-    let rest : fits (addr + 1) (c ∷ bs) size ≡ false = grind (arith, nat_tests) in
-    search (rules, nat_tests, first_outside-span-end size (addr + 1) (c ∷ bs) rest)
+first_outside_span_end size addr [] outside = cc outside
+first_outside_span_end size addr (b ∷ []) outside = grind (arith, nat_tests)
+first_outside_span_end size addr (b ∷ c ∷ bs) outside =
+    grind (arith, nat_tests, first_outside_span_end size (addr + 1) (c ∷ bs))
 
-end-past-span : (end addr : ℕ) (bytes : List ℕ) → 0 < length bytes
+end_past_span : (end addr : ℕ) (bytes : List ℕ) → 0 < length bytes
     → max end (addr + length bytes) ≡ end_after end (enumerate_from addr bytes)
-end-past-span end addr [] some = absurd (omega (arith, some))
-end-past-span end addr (b ∷ []) some = refl
-end-past-span end addr (b ∷ c ∷ bs) some =
-    grind (arith, nat_tests, end-past-span (max end (addr + 1)) (addr + 1) (c ∷ bs) (omega arith))
+end_past_span end addr [] some = absurd (omega (arith, some))
+end_past_span end addr (b ∷ []) some = refl
+end_past_span end addr (b ∷ c ∷ bs) some =
+    grind (arith, nat_tests, end_past_span (max end (addr + 1)) (addr + 1) (c ∷ bs) (omega arith))
 
 -- ---- how far spans reach
 
-pub extends-inside : (limit end addr : ℕ) (bytes : List ℕ) → 0 < length bytes → addr + length bytes ≤ limit
+pub extends_inside : (limit end addr : ℕ) (bytes : List ℕ) → 0 < length bytes → addr + length bytes ≤ limit
     → IsEndOrOutOfRange limit end (enumerate_from addr bytes) (Ok (max end (addr + length bytes)))
-extends-inside limit end addr bytes some l = search (rules, first_outside-span, nat_tests, end-past-span)
+extends_inside limit end addr bytes some l = search (rules, first_outside_span, nat_tests, end_past_span)
 
-pub extends-outside : (limit end addr : ℕ) (bytes : List ℕ) → 0 < length bytes → limit < addr + length bytes
+pub extends_outside : (limit end addr : ℕ) (bytes : List ℕ) → 0 < length bytes → limit < addr + length bytes
     → IsEndOrOutOfRange limit end (enumerate_from addr bytes) (Err (max addr limit))
-extends-outside limit end addr bytes some l = search (rules, first_outside-span-end, nat_tests)
+extends_outside limit end addr bytes some l = search (rules, first_outside_span_end, nat_tests)
 
 -- one span, then another
-pub extends-both : (limit end mid : ℕ) (xs ys : List (ℕ × ℕ)) (result : Result ℕ ℕ)
+pub extends_both : (limit end mid : ℕ) (xs ys : List (ℕ × ℕ)) (result : Result ℕ ℕ)
     → IsEndOrOutOfRange limit end xs (Ok mid) → IsEndOrOutOfRange limit mid ys result → IsEndOrOutOfRange limit end (xs
     ++ ys) result
-extends-both limit end mid xs ys result first second = search (rules, first_outside-append, fold-append)
+extends_both limit end mid xs ys result first second = search (rules, first_outside_append, fold-append)
 
 -- ---- bytes put into the image
 
 -- bytes without an address out of range are put into the image
-pub lays-span : (old new : List (Option ℕ)) (addr : ℕ) (bytes : List ℕ) (result : Result ℕ ImageFault)
+pub lays_span : (old new : List (Option ℕ)) (addr : ℕ) (bytes : List ℕ) (result : Result ℕ ImageFault)
     → first_outside (length old) (enumerate_from addr bytes) ≡ None
     → result ≡ (if fits addr bytes (length old) then Ok (addr + length bytes)
     else Err (OutOfRange (max addr (length old)))) → OnOk result (new ≡ with_pairs old (enumerate_from addr bytes))
     → new ≡ with_pairs old (enumerate_from addr bytes)
-lays-span old new addr bytes result none is laid = grind (arith, nat_tests, first_outside-span-end)
+lays_span old new addr bytes result none is laid = grind (arith, nat_tests, first_outside_span_end)
 
 -- ---- addresses in range
 
 -- an offset of Intel HEX has 16 bits, and S-records set no base
 pub near : (kind : Kind) (base : AddressBase) (offset : ℕ) (bytes : _) → FitsKind kind (Data offset bytes)
     → HasBase kind base → StartsInRange base offset
-near kind base offset bytes fits' has = search rules
+near kind base offset bytes fits has = search rules
+
+-- the lemmas for `Spans`
+pub ruleset spans_of_record = (nat_tests, take_rest, places_linear, places_segment, places_wrapped_at)
+
+pub ruleset spans_end = (nat_tests, extends_both, first_outside_first)
+
+pub ruleset spans_laid = (nat_tests, fold-append, first_outside_parts, lays_span)

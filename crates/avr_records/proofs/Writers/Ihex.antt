@@ -17,9 +17,9 @@ use Rattle.avr_records.specs.Sparse.{row_size}
 use Rattle.avr_records.specs.Text.{two_bytes, with_sum_checksum, upper_record, ihex_rows}
 use Rattle.avr_records.specs.declared.kind.Kind.TheVariants.{Ihex}
 use Rattle.avr_records.specs.declared.kind.AddressBase.TheVariants.{Linear}
-use Rattle.avr_records.proofs.Rows.Cuts.{IsBytes-nil, IsBytes-cons, IsBytes-append, IsRow, Every}
-use Rattle.avr_records.proofs.Writers.Lines.{is_plain, plain-digits, encode-digits, bytes_of-encode, result-plain, lines-plain, lines-written}
-use Rattle.avr_records.proofs.Writers.Reread.{AllGoOn, then_end, threaded, places-linear}
+use Rattle.avr_records.proofs.Rows.Cuts.{IsBytes_nil, IsBytes_cons, IsBytes_append, IsRow, Every}
+use Rattle.avr_records.proofs.Writers.Lines.{is_plain, plain_digits, encode_digits, bytes_of_encode, result_plain, lines_plain, lines_written}
+use Rattle.avr_records.proofs.Writers.Reread.{GoesOn, then_end, threaded, places_linear}
 
 -- the bytes between the colon and the checksum
 abbrev unsummed : ℕ → ℕ → List ℕ → List ℕ
@@ -29,30 +29,30 @@ unsummed type offset bytes = length bytes ∷ two_bytes offset ++ type ∷ bytes
 abbrev line_of : ℕ → ℕ → List ℕ → List ℕ
 line_of type offset bytes = 58 ∷ encode_upper (with_sum_checksum (unsummed type offset bytes))
 
-IsBytes-summed : (type offset : ℕ) (bytes : List ℕ) → type < 256 → length bytes ≤ 32 → IsBytes bytes
+IsBytes_summed : (type offset : ℕ) (bytes : List ℕ) → type < 256 → length bytes ≤ 32 → IsBytes bytes
     → IsBytes (with_sum_checksum (unsummed type offset bytes))
-IsBytes-summed type offset bytes known short all = grind (arith, nat_tests, IsBytes-append)
+IsBytes_summed type offset bytes known short all = grind (arith, nat_tests, IsBytes_append)
 
-plain-line : (type offset : ℕ) (bytes : List ℕ) → type < 256 → length bytes ≤ 32 → IsBytes bytes
+plain_line : (type offset : ℕ) (bytes : List ℕ) → type < 256 → length bytes ≤ 32 → IsBytes bytes
     → list_all is_plain (line_of type offset bytes) ≡ true
-plain-line type offset bytes known short all = grind (arith, common_steps, plain-digits, encode-digits)
+plain_line type offset bytes known short all = grind (arith, common_steps, plain_digits, encode_digits)
 
-fields-summed : (type offset : ℕ) (bytes : List ℕ) → offset < 65536
+fields_summed : (type offset : ℕ) (bytes : List ℕ) → offset < 65536
     → ihex_from_fields (with_sum_checksum (unsummed type offset bytes)) ≡ typed_ihex type offset bytes
-fields-summed type offset bytes below = grind (arith, common_steps, nat_tests)
+fields_summed type offset bytes below = grind (arith, common_steps, nat_tests)
 
-emits-line : (type offset : ℕ) (bytes : List ℕ) → type < 256 → offset < 65536 → length bytes ≤ 32 → IsBytes bytes
+emits_line : (type offset : ℕ) (bytes : List ℕ) → type < 256 → offset < 65536 → length bytes ≤ 32 → IsBytes bytes
     → line_result Ihex (line_of type offset bytes) ≡ record_meaning Ihex (typed_ihex type offset bytes)
-emits-line type offset bytes known below short all =
+emits_line type offset bytes known below short all =
     let prefix : List ℕ = unsummed type offset bytes in
     let check : ℕ = (256 - sum prefix % 256) % 256 in
     let width : length (line_of type offset bytes) ≤ 600 =
     omega (arith, length-encode_with upper_digits (with_sum_checksum prefix), length-append bytes (check ∷ [])) in
-    search (rules, result-plain, plain-line, bytes_of-encode, IsBytes-summed, fields-summed)
+    search (rules, result_plain, plain_line, bytes_of_encode, IsBytes_summed, fields_summed)
 
-typed-upper : (upper : ℕ) → upper < 65536
+typed_upper : (upper : ℕ) → upper < 65536
     → record_meaning Ihex (typed_ihex 4 0 (two_bytes upper)) ≡ Ok (Rebase (Linear upper))
-typed-upper upper below = ap (λ (n : ℕ). Ok (Rebase (Linear n))) (omega arith)
+typed_upper upper below = ap (λ (n : ℕ). Ok (Rebase (Linear n))) (omega arith)
 
 -- what the record before a row means, if the upper 16 bits change there
 abbrev upper_emitted : ℕ → ℕ → List LineResult
@@ -64,44 +64,44 @@ row_results upper [] = []
 row_results upper (row ∷ rows) = upper_emitted upper (row.0 / 65536) ++ Ok (Data (row.0 % 65536) row.1)
     ∷ row_results (row.0 / 65536) rows
 
-upper-lines : (old new : ℕ) (rest : List ℕ) → new < 65536
+upper_lines : (old new : ℕ) (rest : List ℕ) → new < 65536
     → map (line_result Ihex) (lines (upper_record old new ++ rest))
     ≡ upper_emitted old new ++ map (line_result Ihex) (lines rest)
-upper-lines old new rest below =
+upper_lines old new rest below =
     elim (cases_eq new old) [
       | inl same ↦ let test : (new == old) ≡ true = grind (arith, nat_tests) in rw test refl
       | inr other ↦
           let test : (new == old) ≡ false = grind (arith, nat_tests) in
-          let bytes = IsBytes-cons (new / 256 % 256) ((new % 256) ∷ []) (omega arith)
-          (IsBytes-cons (new % 256) [] (omega arith) IsBytes-nil) in
-          let plain = plain-line 4 0 (two_bytes new) (omega arith) (omega arith) bytes in
+          let bytes = IsBytes_cons (new / 256 % 256) ((new % 256) ∷ []) (omega arith)
+          (IsBytes_cons (new % 256) [] (omega arith) IsBytes_nil) in
+          let plain = plain_line 4 0 (two_bytes new) (omega arith) (omega arith) bytes in
           let meant : line_result Ihex (line_of 4 0 (two_bytes new)) ≡ Ok (Rebase (Linear new)) =
-          emits-line 4 0 (two_bytes new) (omega arith) (omega arith) (omega arith) bytes ∙ typed-upper new below in
-          search (rules, lines-written)
+          emits_line 4 0 (two_bytes new) (omega arith) (omega arith) (omega arith) bytes ∙ typed_upper new below in
+          search (rules, lines_written)
     ]
 
 -- the lines of the text mean the rows and the end
-pub lines-results : (upper end : ℕ) (rows : List (ℕ × List ℕ)) → end ≤ 2 ^ 32 → Every (IsRow (row_size Ihex) end) rows
+pub lines_results : (upper end : ℕ) (rows : List (ℕ × List ℕ)) → end ≤ 2 ^ 32 → Every (IsRow (row_size Ihex) end) rows
     → map (line_result Ihex) (lines (ihex_rows upper rows)) ≡ row_results upper rows ++ Ok End ∷ Ok Nothing ∷ []
-lines-results upper end [] fits all = search (rules, plain-line, lines-plain, emits-line)
-lines-results upper end (row ∷ rows) fits all =
+lines_results upper end [] fits all = search (rules, plain_line, lines_plain, emits_line)
+lines_results upper end (row ∷ rows) fits all =
     let high : ℕ = row.0 / 65536 in
     search (
       rules,
-      plain-line,
-      emits-line,
+      plain_line,
+      emits_line,
       append_assoc,
-      upper-lines,
-      lines-written,
-      lines-results high end rows fits all.1,
+      upper_lines,
+      lines_written,
+      lines_results high end rows fits all.1,
     )
 
-pub rows-go_on : (upper : ℕ) (cut : List (ℕ × List ℕ)) → AllGoOn (row_results upper cut)
-rows-go_on upper [] = tt
-rows-go_on upper (row ∷ more) = let high : ℕ = row.0 / 65536 in search (rules, rows-go_on high more)
+pub rows_go_on : (upper : ℕ) (cut : List (ℕ × List ℕ)) → Every GoesOn (row_results upper cut)
+rows_go_on upper [] = tt
+rows_go_on upper (row ∷ more) = let high : ℕ = row.0 / 65536 in search (rules, rows_go_on high more)
 
-pub rows-threaded : (upper : ℕ) (rows : List (ℕ × List ℕ))
+pub rows_threaded : (upper : ℕ) (rows : List (ℕ × List ℕ))
     → threaded (Linear upper) (then_end (row_results upper rows)) ≡ flat_map places_of rows
-rows-threaded upper [] = refl
-rows-threaded upper (row ∷ rows) =
-    let high : ℕ = row.0 / 65536 in search (rules, nat_tests, places-linear, rows-threaded high rows)
+rows_threaded upper [] = refl
+rows_threaded upper (row ∷ rows) =
+    let high : ℕ = row.0 / 65536 in search (rules, nat_tests, places_linear, rows_threaded high rows)

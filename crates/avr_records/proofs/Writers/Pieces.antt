@@ -11,8 +11,8 @@ use Rattle.avr_records.specs.Sparse.{file_rows, new_upper, row_size}
 use Rattle.avr_records.specs.declared.address_size.AddressSize.{AddressSize}
 use Rattle.avr_records.specs.declared.kind.Kind.{Kind}
 
-raised-digit : (d : ℕ) → to_ascii_uppercase (slice_index lower_digits d) ≡ slice_index upper_digits d
-raised-digit d =
+raised_digit : (d : ℕ) → to_ascii_uppercase (slice_index lower_digits d) ≡ slice_index upper_digits d
+raised_digit d =
     elim (cases_lt d 16) [
       | inl within ↦ sym (get_or-map to_ascii_uppercase lower_digits d 0 0 within)
       | inr past ↦ rw (get_or_past lower_digits d 0 past, get_or_past upper_digits d 0 past) refl
@@ -21,7 +21,7 @@ raised-digit d =
 pub raised_encode : (bytes : List ℕ) → map to_ascii_uppercase (encode_lower bytes) ≡ encode_upper bytes
 unfolding encode_with
 raised_encode [] = refl
-raised_encode (b ∷ bs) = rw (raised-digit (b / 16), raised-digit (b % 16), raised_encode bs) refl
+raised_encode (b ∷ bs) = rw (raised_digit (b / 16), raised_digit (b % 16), raised_encode bs) refl
 
 -- one more element of a list is changed, after those below i
 pub changed_more : (f : ℕ → ℕ) (xs ys : List ℕ) (i : ℕ) → i < length xs → ys ≡ map f (take i xs) ++ drop i xs
@@ -40,21 +40,21 @@ changed_more f xs ys i within is =
     ∙ ap (λ (zs : List ℕ). zs ++ rest) (sym (map_more f xs i 0 within))
 
 -- rows after bytes that belong to an earlier row are rows of the bytes after those
-pub rows_behind-drop : (taken : ℕ) (size : ℕ → ℕ) (addr : ℕ) (bytes : List ℕ)
+pub rows_behind_drop : (taken : ℕ) (size : ℕ → ℕ) (addr : ℕ) (bytes : List ℕ)
     → rows_behind taken size addr bytes ≡ rows size (addr + taken) (drop taken bytes)
-rows_behind-drop zero size addr [] = refl
-rows_behind-drop (suc taken) size addr [] = refl
-rows_behind-drop zero size addr (b ∷ bs) = ap (λ (a : ℕ). rows size a (b ∷ bs)) (sym (add-zero addr))
-rows_behind-drop (suc taken) size addr (b ∷ bs) = grind (arith, nat_tests, rows_behind-drop taken size (addr + 1) bs)
+rows_behind_drop zero size addr [] = refl
+rows_behind_drop (suc taken) size addr [] = refl
+rows_behind_drop zero size addr (b ∷ bs) = ap (λ (a : ℕ). rows size a (b ∷ bs)) (sym (add-zero addr))
+rows_behind_drop (suc taken) size addr (b ∷ bs) = grind (arith, nat_tests, rows_behind_drop taken size (addr + 1) bs)
 
-pub drop-one_less : (s b : ℕ) (bs : List ℕ) → 0 < s → drop (s - 1) bs ≡ drop s (b ∷ bs)
-drop-one_less s b bs some = search rules
+pub drop_one_less : (s b : ℕ) (bs : List ℕ) → 0 < s → drop (s - 1) bs ≡ drop s (b ∷ bs)
+drop_one_less s b bs some = search rules
 
 -- the first row, of n bytes
-pub rows-next : (size : ℕ → ℕ) (addr n : ℕ) (bytes : List ℕ) → 0 < length bytes → 0 < size addr
+pub rows_next : (size : ℕ → ℕ) (addr n : ℕ) (bytes : List ℕ) → 0 < length bytes → 0 < size addr
     → n ≡ min (size addr) (length bytes)
     → rows size addr bytes ≡ (addr, take n bytes) ∷ rows size (addr + n) (drop n bytes)
-rows-next size addr n bytes some wide is = search (rules, nat_tests, take_min, rows_behind-drop, drop_all)
+rows_next size addr n bytes some wide is = search (rules, nat_tests, take_min, rows_behind_drop, drop_all)
 
 pub length_low_bytes : (size n : ℕ) → length (low_bytes size n) ≡ size
 length_low_bytes zero n = refl
@@ -69,7 +69,7 @@ wide_row x addr = grind (arith, nat_tests)
 -- ---- the first record of the text of rows
 
 -- the first record sets the upper 16 bits of the address
-pub rows-upper : (kind : Kind) (upper new addr : ℕ) (size : AddressSize) (row : List ℕ) (more : List (ℕ × List ℕ))
+pub rows_upper : (kind : Kind) (upper new addr : ℕ) (size : AddressSize) (row : List ℕ) (more : List (ℕ × List ℕ))
     → new_upper kind upper addr ≡ Some new → file_rows kind upper size ((addr, row) ∷ more)
     ≡ ihex_record 4 0 (two_bytes new) ++ file_rows kind new size ((addr, row) ∷ more)
-rows-upper kind upper new addr size row more is = search (rules, nat_tests, append_assoc)
+rows_upper kind upper new addr size row more is = search (rules, nat_tests, append_assoc)

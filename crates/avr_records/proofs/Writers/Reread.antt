@@ -1,43 +1,29 @@
 -- The image of data records that follow each other up to an end record.
 use Rattle.std.proofs.lemmas.Bool.Decides.{nat_tests}
-use Rattle.std.proofs.Common.{◌≡◌, ◌∙◌, ap, refl, arith, ℕ, ◌+◌, ◌*◌, nat_lt, Bool, true, List, [], ◌∷◌, ◌++◌, map, Option, Some, None, Ok, Err, inl, inr, rules}
+use Rattle.std.proofs.Common.{◌≡◌, ap, refl, arith, ℕ, ◌+◌, ◌*◌, Bool, true, List, [], ◌∷◌, ◌++◌, Option, None, Ok, Err, rules}
 use Rattle.std.specs.Prelude.{if◌then◌else◌}
 use Rattle.std.specs.List.{enumerate_from, flat_map, list_any}
-use Rattle.std.proofs.lemmas.Bool.{cases_Bool}
 use Rattle.std.proofs.lemmas.List.Sums.{fold-append}
 use Rattle.avr_image.specs.Image.{image_of_pairs}
 use Rattle.avr_records.specs.Meaning.{Nothing, Data, Rebase, Counted, End}
-use Rattle.avr_records.specs.Reading.{LineResult, is_end_record, up_to_end, with_lines_before, next_base, base_after, address, places, bytes_of_line, first_outside, first_fault, file_ending, image_of_lines}
+use Rattle.avr_records.specs.Reading.{LineResult, is_end_record, up_to_end, with_lines_before, next_base, base_after, places, bytes_of_line, bytes_under_base, first_outside, first_fault, file_ending, image_of_lines}
+use Rattle.avr_records.proofs.Rows.Cuts.{Every}
+use Rattle.avr_records.proofs.Texts.Places.{first_outside_parts, linear_from}
 use Rattle.avr_records.specs.declared.kind.AddressBase.{AddressBase}
 use Rattle.avr_records.specs.declared.kind.AddressBase.TheVariants.{Linear}
 use Rattle.avr_records.specs.declared.kind.Ending.TheVariants.{Ended, NoEnd}
 
-first_outside-parts : (size : ℕ) (xs ys : List (ℕ × ℕ)) → first_outside size (xs ++ ys) ≡ None
-    → (first_outside size xs ≡ None) × (first_outside size ys ≡ None)
-first_outside-parts size [] ys none = (refl, none)
-first_outside-parts size (p ∷ xs) ys none =
-    elim (cases_Bool (nat_lt p.0 size)) [
-      | inl t ↦ let more : first_outside size (xs ++ ys) ≡ None = rw t at none in
-          rw t (first_outside-parts size xs ys more)
-      | inr f ↦ let no : Some p.0 ≡ None = rw f at none in absurd (cc no)
-    ]
-
 -- ---- lines, one after another
-
--- the bytes of a line with their addresses, while this base is in force
-abbrev pub under : AddressBase → LineResult → List (ℕ × ℕ)
-under base (Ok (Data offset bytes)) = places base offset bytes
-under base meant = []
 
 -- the bytes of lines with their addresses, from a base on
 abbrev pub threaded : AddressBase → List LineResult → List (ℕ × ℕ)
 threaded base [] = []
-threaded base (meant ∷ more) = under base meant ++ threaded (next_base base meant) more
+threaded base (meant ∷ more) = bytes_under_base base meant ++ threaded (next_base base meant) more
 
-placed-threaded : (before meant : List LineResult)
+placed_threaded : (before meant : List LineResult)
     → flat_map bytes_of_line (with_lines_before before meant) ≡ threaded (base_after before) meant
-placed-threaded before [] = refl
-placed-threaded before (s ∷ more) = grind (arith, nat_tests, placed-threaded (before ++ s ∷ []) more, fold-append)
+placed_threaded before [] = refl
+placed_threaded before (s ∷ more) = grind (arith, nat_tests, placed_threaded (before ++ s ∷ []) more, fold-append)
 
 -- the line is no fault, no count and no end record
 abbrev pub GoesOn : LineResult → Type 0
@@ -48,14 +34,10 @@ GoesOn (Ok Nothing) = Unit {0}
 GoesOn (Ok (Data offset bytes)) = Unit {0}
 GoesOn (Ok (Rebase base)) = Unit {0}
 
-abbrev pub AllGoOn : List LineResult → Type 0
-AllGoOn [] = Unit {0}
-AllGoOn (s ∷ more) = GoesOn s × AllGoOn more
-
 abbrev pub then_end : List LineResult → List LineResult
 then_end prefix = prefix ++ Ok End ∷ []
 
-pub stops : (prefix more : List LineResult) → AllGoOn prefix → up_to_end (prefix ++ Ok End ∷ more) ≡ then_end prefix
+pub stops : (prefix more : List LineResult) → Every GoesOn prefix → up_to_end (prefix ++ Ok End ∷ more) ≡ then_end prefix
 stops [] more on = refl
 stops (Ok Nothing ∷ prefix) more on = ap (λ (zs : List LineResult). Ok Nothing ∷ zs) (stops prefix more on.1)
 stops (Ok (Data offset bytes) ∷ prefix) more on = grind (arith, nat_tests, stops prefix more on.1)
@@ -70,30 +52,24 @@ has_end (s ∷ prefix) more = grind (arith, nat_tests, has_end prefix more)
 pub ended : (prefix more : List LineResult) → file_ending (prefix ++ Ok End ∷ more) ≡ Ended
 ended prefix more = ap (λ (b : Bool). if b then Ended else NoEnd) (has_end prefix more)
 
-pub first_fault-none : (size : ℕ) (before prefix : List LineResult) → AllGoOn prefix
+pub first_fault_none : (size : ℕ) (before prefix : List LineResult) → Every GoesOn prefix
     → first_outside size (flat_map bytes_of_line (with_lines_before before (then_end prefix))) ≡ None
     → first_fault size (with_lines_before before (then_end prefix)) ≡ None
-first_fault-none size before [] on inside = refl
-first_fault-none size before (s ∷ prefix) on inside =
-    let parts = first_outside-parts size (bytes_of_line (before, s))
+first_fault_none size before [] on inside = refl
+first_fault_none size before (s ∷ prefix) on inside =
+    let parts = first_outside_parts size (bytes_of_line (before, s))
     (flat_map bytes_of_line (with_lines_before (before ++ s ∷ []) (then_end prefix))) inside in
-    search (rules, first_fault-none size (before ++ s ∷ []) prefix on.1 parts.1)
+    search (rules, first_fault_none size (before ++ s ∷ []) prefix on.1 parts.1)
 
 -- Lines of data and the end record read as the image of their bytes, if all are inside. What comes after the end record
 -- doesn't matter.
-pub image_of_lines-laid : (size : ℕ) (image : List (Option ℕ)) (places : List (ℕ × ℕ)) (prefix more : List LineResult)
-    → AllGoOn prefix → threaded (Linear 0) (then_end prefix) ≡ places → first_outside size places ≡ None
+pub image_of_lines_laid : (size : ℕ) (image : List (Option ℕ)) (places : List (ℕ × ℕ)) (prefix more : List LineResult)
+    → Every GoesOn prefix → threaded (Linear 0) (then_end prefix) ≡ places → first_outside size places ≡ None
     → image_of_pairs size places ≡ image → image_of_lines size (prefix ++ Ok End ∷ more) ≡ Ok (image, Ended)
-image_of_lines-laid size image places prefix more on follow inside_is laid_is =
-    grind (arith, nat_tests, placed-threaded, stops, first_fault-none, ended)
+image_of_lines_laid size image places prefix more on follow inside_is laid_is =
+    grind (arith, nat_tests, placed_threaded, stops, first_fault_none, ended)
 
 -- under a linear base the addresses of a data record's bytes follow each other
-pub places-linear : (upper offset addr : ℕ) (bytes : List ℕ) → upper * 65536 + offset ≡ addr
+pub places_linear : (upper offset addr : ℕ) (bytes : List ℕ) → upper * 65536 + offset ≡ addr
     → places (Linear upper) offset bytes ≡ enumerate_from addr bytes
-places-linear upper offset addr bytes is = search (rules, from)
-  where
-    from : (i : ℕ) (bs : List ℕ) → map (λ p. (address (Linear upper) offset p.0, p.1)) (enumerate_from i bs)
-        ≡ enumerate_from (upper * 65536 + offset + i) bs
-    from i [] = refl
-    from i (b ∷ bs) = ap (λ (zs : List (ℕ × ℕ)). (upper * 65536 + offset + i, b) ∷ zs)
-        (from (i + 1) bs ∙ ap (λ (a : ℕ). enumerate_from a bs) (omega arith))
+places_linear upper offset addr bytes is = linear_from upper offset 0 bytes addr (omega (arith, is))

@@ -15,36 +15,36 @@ use Rattle.avr_records.specs.Sparse.{row_size, rows_of, last_held, image_text, R
 use Rattle.avr_records.specs.declared.kind.Ending.TheVariants.{Ended}
 use Rattle.avr_records.specs.declared.kind.Kind.{Kind}
 use Rattle.avr_records.specs.declared.kind.Kind.TheVariants.{Ihex, Srec}
-use Rattle.avr_records.proofs.Rows.Cuts.{IsRow, Every, rows_behind-are, rows-hold}
+use Rattle.avr_records.proofs.Rows.Cuts.{IsRow, Every, rows_behind_are, rows_hold}
 use Rattle.avr_records.proofs.Writers.Pieces.{wide_row}
-use Rattle.avr_records.proofs.Writers.Reread.{image_of_lines-laid}
+use Rattle.avr_records.proofs.Writers.Reread.{image_of_lines_laid}
 use Rattle.avr_records.proofs.Writers.Ihex as hex
 use Rattle.avr_records.proofs.Writers.Srec as srec
 
 -- ---- the bytes of an image at their addresses
 
-first_outside-run : (size addr : ℕ) (bytes : List ℕ) (more : List (ℕ × ℕ)) → addr + length bytes ≤ size
+first_outside_run : (size addr : ℕ) (bytes : List ℕ) (more : List (ℕ × ℕ)) → addr + length bytes ≤ size
     → first_outside size more ≡ None → first_outside size (enumerate_from addr bytes ++ more) ≡ None
-first_outside-run size addr [] more room none = none
-first_outside-run size addr (b ∷ bytes) more room none =
-    grind (arith, nat_tests, first_outside-run size (addr + 1) bytes more (omega (arith, room)) none)
+first_outside_run size addr [] more room none = none
+first_outside_run size addr (b ∷ bytes) more room none =
+    grind (arith, nat_tests, first_outside_run size (addr + 1) bytes more (omega (arith, room)) none)
 
-first_outside-cut : (size : ℕ) (cut : List (ℕ × List ℕ)) → All (λ run. run.0 + length run.1 ≤ size) cut
+first_outside_cut : (size : ℕ) (cut : List (ℕ × List ℕ)) → All (λ run. run.0 + length run.1 ≤ size) cut
     → first_outside size (flat_map places_of cut) ≡ None
-first_outside-cut size [] inside = refl
-first_outside-cut size (run ∷ cut) inside =
-    first_outside-run size run.0 run.1 (flat_map places_of cut) (inside 0 run (omega arith))
-    (first_outside-cut size cut (λ k d l. inside (suc k) d (omega (arith, l))))
+first_outside_cut size [] inside = refl
+first_outside_cut size (run ∷ cut) inside =
+    first_outside_run size run.0 run.1 (flat_map places_of cut) (inside 0 run (omega arith))
+    (first_outside_cut size cut (λ k d l. inside (suc k) d (omega (arith, l))))
 
-first_outside-image : (image : List (Option ℕ)) (more : ℕ)
+first_outside_image : (image : List (Option ℕ)) (more : ℕ)
     → first_outside (length image + more) (flat_map places_of (runs 0 image)) ≡ None
-first_outside-image image more = grind (arith, nat_tests, first_outside-cut, runs_inside)
+first_outside_image image more = grind (arith, nat_tests, first_outside_cut, runs_inside)
 
 -- the rows have the same bytes as the runs
-pub rows_of-hold : (size : ℕ → ℕ) (cut : List (ℕ × List ℕ)) → ((a : ℕ) → 0 < size a)
+pub rows_of_hold : (size : ℕ → ℕ) (cut : List (ℕ × List ℕ)) → ((a : ℕ) → 0 < size a)
     → flat_map places_of (rows_of size cut) ≡ flat_map places_of cut
-rows_of-hold size [] wide = refl
-rows_of-hold size (run ∷ cut) wide = grind (arith, nat_tests, rows_of-hold size cut wide, flat_map-append, rows-hold)
+rows_of_hold size [] wide = refl
+rows_of_hold size (run ∷ cut) wide = grind (arith, nat_tests, rows_of_hold size cut wide, flat_map-append, rows_hold)
 
 -- ---- runs are bytes that end before the image does, or with it
 
@@ -52,97 +52,97 @@ pub record IsIn (end : ℕ) (run : ℕ × List ℕ) : Type 0 where
   pub below : run.0 + length run.1 ≤ end
   pub bytes : IsBytes run.1
 
-onto-in : (end addr b : ℕ) (more : List (ℕ × List ℕ)) → addr < end → b < 256 → Every (IsIn end) more
+onto_in : (end addr b : ℕ) (more : List (ℕ × List ℕ)) → addr < end → b < 256 → Every (IsIn end) more
     → Every (IsIn end) (onto_runs addr b more)
-onto-in end addr b x inside byte all = grind (arith, nat_tests)
+onto_in end addr b x inside byte all = grind (arith, nat_tests)
 
-last-least : (last addr : ℕ) (image : List (Option ℕ)) → last ≤ addr → last ≤ last_held last addr image
-last-least last addr [] l = omega arith
-last-least last addr (None ∷ image) l = last-least last (addr + 1) image (omega (arith, l))
-last-least last addr (Some b ∷ image) l = grind (arith, nat_tests, last-least addr (addr + 1) image (omega arith))
+last_least : (last addr : ℕ) (image : List (Option ℕ)) → last ≤ addr → last ≤ last_held last addr image
+last_least last addr [] l = omega arith
+last_least last addr (None ∷ image) l = last_least last (addr + 1) image (omega (arith, l))
+last_least last addr (Some b ∷ image) l = grind (arith, nat_tests, last_least addr (addr + 1) image (omega arith))
 
-last-most : (last addr end : ℕ) (image : List (Option ℕ)) → last < end → addr + length image ≤ end
+last_most : (last addr end : ℕ) (image : List (Option ℕ)) → last < end → addr + length image ≤ end
     → last_held last addr image < end
-last-most last addr end [] l room = l
-last-most last addr end (None ∷ image) l room = last-most last (addr + 1) end image l (omega (arith, room))
-last-most last addr end (Some b ∷ image) l room =
-    last-most addr (addr + 1) end image (omega (arith, room)) (omega (arith, room))
+last_most last addr end [] l room = l
+last_most last addr end (None ∷ image) l room = last_most last (addr + 1) end image l (omega (arith, room))
+last_most last addr end (Some b ∷ image) l room =
+    last_most addr (addr + 1) end image (omega (arith, room)) (omega (arith, room))
 
-pub runs-in : (last addr : ℕ) (image : List (Option ℕ)) → HoldsBytes image
+pub runs_in : (last addr : ℕ) (image : List (Option ℕ)) → HoldsBytes image
     → Every (IsIn (last_held last addr image + 1)) (runs addr image)
-runs-in last addr [] all = tt
-runs-in last addr (None ∷ image) all = runs-in last (addr + 1) image (λ k byte is. all (suc k) byte is)
-runs-in last addr (Some b ∷ image) all =
+runs_in last addr [] all = tt
+runs_in last addr (None ∷ image) all = runs_in last (addr + 1) image (λ k byte is. all (suc k) byte is)
+runs_in last addr (Some b ∷ image) all =
     let end : ℕ = last_held addr (addr + 1) image + 1 in
-    let first : addr ≤ last_held addr (addr + 1) image = last-least addr (addr + 1) image (omega arith) in
-    onto-in end addr b (runs (addr + 1) image) (omega (arith, first)) (all 0 b refl)
-    (runs-in addr (addr + 1) image (λ k byte is. all (suc k) byte is))
+    let first : addr ≤ last_held addr (addr + 1) image = last_least addr (addr + 1) image (omega arith) in
+    onto_in end addr b (runs (addr + 1) image) (omega (arith, first)) (all 0 b refl)
+    (runs_in addr (addr + 1) image (λ k byte is. all (suc k) byte is))
 
 -- ---- so are their rows
 
-rows-up : (size : ℕ → ℕ) (low high : ℕ) (cut : List (ℕ × List ℕ)) → low ≤ high → Every (IsRow size low) cut
+rows_up : (size : ℕ → ℕ) (low high : ℕ) (cut : List (ℕ × List ℕ)) → low ≤ high → Every (IsRow size low) cut
     → Every (IsRow size high) cut
-rows-up size low high [] l all = tt
-rows-up size low high (row ∷ cut) l all = grind (arith, nat_tests, rows-up size low high cut l all.1)
+rows_up size low high [] l all = tt
+rows_up size low high (row ∷ cut) l all = grind (arith, nat_tests, rows_up size low high cut l all.1)
 
-every-append : (P : ℕ × List ℕ → Type 0) (xs ys : List (ℕ × List ℕ)) → Every P xs → Every P ys → Every P (xs ++ ys)
-every-append P [] ys prefix back = back
-every-append P (x ∷ xs) ys prefix back = (prefix.0, every-append P xs ys prefix.1 back)
+every_append : (P : ℕ × List ℕ → Type 0) (xs ys : List (ℕ × List ℕ)) → Every P xs → Every P ys → Every P (xs ++ ys)
+every_append P [] ys prefix back = back
+every_append P (x ∷ xs) ys prefix back = (prefix.0, every_append P xs ys prefix.1 back)
 
-pub rows_of-are : (size : ℕ → ℕ) (end : ℕ) (cut : List (ℕ × List ℕ)) → ((a : ℕ) → 0 < size a) → Every (IsIn end) cut
+pub rows_of_are : (size : ℕ → ℕ) (end : ℕ) (cut : List (ℕ × List ℕ)) → ((a : ℕ) → 0 < size a) → Every (IsIn end) cut
     → Every (IsRow size end) (rows_of size cut)
-rows_of-are size end [] wide all = tt
-rows_of-are size end (run ∷ cut) wide all =
-    grind (arith, nat_tests, rows_of-are size end cut wide all.1, rows_behind-are, every-append, rows-up)
+rows_of_are size end [] wide all = tt
+rows_of_are size end (run ∷ cut) wide all =
+    grind (arith, nat_tests, rows_of_are size end cut wide all.1, rows_behind_are, every_append, rows_up)
 
 -- ---- a memory with gaps after it
 
-runs-padded : (addr more : ℕ) (image : List (Option ℕ)) → runs addr (image ++ empty more) ≡ runs addr image
-runs-padded addr zero [] = refl
-runs-padded addr (suc more) [] = runs-padded (addr + 1) more []
-runs-padded addr more (None ∷ image) = runs-padded (addr + 1) more image
-runs-padded addr more (Some b ∷ image) = ap (onto_runs addr b) (runs-padded (addr + 1) more image)
+runs_padded : (addr more : ℕ) (image : List (Option ℕ)) → runs addr (image ++ empty more) ≡ runs addr image
+runs_padded addr zero [] = refl
+runs_padded addr (suc more) [] = runs_padded (addr + 1) more []
+runs_padded addr more (None ∷ image) = runs_padded (addr + 1) more image
+runs_padded addr more (Some b ∷ image) = ap (onto_runs addr b) (runs_padded (addr + 1) more image)
 
-laid-padded : (image : List (Option ℕ)) (more : ℕ)
+laid_padded : (image : List (Option ℕ)) (more : ℕ)
     → image_of_pairs (length image + more) (flat_map places_of (runs 0 image)) ≡ image ++ empty more
-laid-padded image more =
+laid_padded image more =
     let whole : List (Option ℕ) = image ++ empty more in
     let size : length whole ≡ length image + more =
     length-append image (empty more) ∙ ap (λ (n : ℕ). length image + n) (length-replicate more None) in
-    search (rules, runs-padded, runs_are_whole)
+    search (rules, runs_padded, runs_are_whole)
 
 -- ---- the two formats
 
 -- the last address of an image that isn't empty, or 0 of one that is
-last-below : (image : List (Option ℕ)) → length image ≤ 2 ^ 32 → last_held 0 0 image < 2 ^ 32
-last-below image fits = last-most 0 0 (2 ^ 32) image (omega arith) (omega (arith, fits))
+last_below : (image : List (Option ℕ)) → length image ≤ 2 ^ 32 → last_held 0 0 image < 2 ^ 32
+last_below image fits = last_most 0 0 (2 ^ 32) image (omega arith) (omega (arith, fits))
 
-rows-are : (kind : Kind) (image : List (Option ℕ)) → HoldsBytes image
+rows_are : (kind : Kind) (image : List (Option ℕ)) → HoldsBytes image
     → Every (IsRow (row_size kind) (last_held 0 0 image + 1)) (rows_of (row_size kind) (runs 0 image))
-rows-are kind image bytes = search (rules, rows_of-are, wide_row, runs-in)
+rows_are kind image bytes = search (rules, rows_of_are, wide_row, runs_in)
 
-pub reads-back : (kind : Kind) → ReadsBack kind
-reads-back Ihex image more fits bytes =
+pub reads_back : (kind : Kind) → ReadsBack kind
+reads_back Ihex image more fits bytes =
     let size : ℕ = length image + more in
     let cut : List (ℕ × List ℕ) = rows_of (row_size Ihex) (runs 0 image) in
     ap (image_of_lines size)
-    (hex.lines-results 0 (last_held 0 0 image + 1) cut (omega (arith, last-below image fits))
-    (rows-are Ihex image bytes)) ∙ image_of_lines-laid size (image ++ empty more) (flat_map places_of (runs 0 image))
-    (hex.row_results 0 cut) (Ok Nothing ∷ []) (hex.rows-go_on 0 cut)
-    (hex.rows-threaded 0 cut ∙ rows_of-hold (row_size Ihex) (runs 0 image) (wide_row Ihex))
-    (first_outside-image image more) (laid-padded image more)
-reads-back Srec image more fits bytes =
+    (hex.lines_results 0 (last_held 0 0 image + 1) cut (omega (arith, last_below image fits))
+    (rows_are Ihex image bytes)) ∙ image_of_lines_laid size (image ++ empty more) (flat_map places_of (runs 0 image))
+    (hex.row_results 0 cut) (Ok Nothing ∷ []) (hex.rows_go_on 0 cut)
+    (hex.rows_threaded 0 cut ∙ rows_of_hold (row_size Ihex) (runs 0 image) (wide_row Ihex))
+    (first_outside_image image more) (laid_padded image more)
+reads_back Srec image more fits bytes =
     let size : ℕ = length image + more in
     let cut : List (ℕ × List ℕ) = rows_of (row_size Srec) (runs 0 image) in
     let last : ℕ = last_held 0 0 image in
-    ap (image_of_lines size) (srec.lines-results (address_size last) (last + 1) cut
-    (omega (arith, srec.wide_enough last (last-below image fits))) (rows-are Srec image bytes))
-    ∙ image_of_lines-laid size (image ++ empty more) (flat_map places_of (runs 0 image)) (map srec.emitted_of cut)
-    (Ok Nothing ∷ []) (srec.rows-go_on cut)
-    (srec.rows-threaded cut ∙ rows_of-hold (row_size Srec) (runs 0 image) (wide_row Srec))
-    (first_outside-image image more) (laid-padded image more)
+    ap (image_of_lines size) (srec.lines_results (address_size last) (last + 1) cut
+    (omega (arith, srec.wide_enough last (last_below image fits))) (rows_are Srec image bytes))
+    ∙ image_of_lines_laid size (image ++ empty more) (flat_map places_of (runs 0 image)) (map srec.emitted_of cut)
+    (Ok Nothing ∷ []) (srec.rows_go_on cut)
+    (srec.rows_threaded cut ∙ rows_of_hold (row_size Srec) (runs 0 image) (wide_row Srec))
+    (first_outside_image image more) (laid_padded image more)
 
 -- the same into a memory of the same size
-pub reads-back-same : (kind : Kind) (image : List (Option ℕ)) → length image ≤ 2 ^ 32 → HoldsBytes image
+pub reads_back_same : (kind : Kind) (image : List (Option ℕ)) → length image ≤ 2 ^ 32 → HoldsBytes image
     → image_in_text kind (image_text kind image) (length image) ≡ Ok (image, Ended)
-reads-back-same kind image fits bytes = search (rules, reads-back kind image 0 fits bytes)
+reads_back_same kind image fits bytes = search (rules, reads_back kind image 0 fits bytes)

@@ -24,82 +24,82 @@ use Rattle.avr_records.specs.declared.kind.AddressBase.TheVariants.{Linear}
 use Rattle.avr_records.specs.declared.fault.LineFault.{LineFault}
 use Rattle.avr_records.specs.declared.fault.LineFault.TheVariants.{Mark}
 use Rattle.avr_records.proofs.Writers.Pieces.{few_bytes, length_low_bytes}
-use Rattle.avr_records.proofs.Rows.Cuts.{IsBytes-nil, IsBytes-append, IsRow, Every}
-use Rattle.avr_records.proofs.Writers.Lines.{is_plain, plain-digits, encode-digits, bytes_of-encode, result-plain, lines-plain, lines-written}
-use Rattle.avr_records.proofs.Writers.Reread.{AllGoOn, then_end, threaded, places-linear}
+use Rattle.avr_records.proofs.Rows.Cuts.{IsBytes_nil, IsBytes_append, IsRow, Every}
+use Rattle.avr_records.proofs.Writers.Lines.{is_plain, plain_digits, encode_digits, bytes_of_encode, result_plain, lines_plain, lines_written}
+use Rattle.avr_records.proofs.Writers.Reread.{GoesOn, then_end, threaded, places_linear}
 
-IsBytes-low_bytes : (size n : ℕ) → IsBytes (low_bytes size n)
-IsBytes-low_bytes zero n = IsBytes-nil
-IsBytes-low_bytes (suc size) n = grind (arith, common_steps, nat_tests, IsBytes-low_bytes size (n / 256))
+IsBytes_low_bytes : (size n : ℕ) → IsBytes (low_bytes size n)
+IsBytes_low_bytes zero n = IsBytes_nil
+IsBytes_low_bytes (suc size) n = grind (arith, common_steps, nat_tests, IsBytes_low_bytes size (n / 256))
 
-number-low_bytes : (size n : ℕ) → n < 256 ^ size → number (low_bytes size n) ≡ n
-number-low_bytes zero n fits = omega arith
-number-low_bytes (suc size) n fits =
+number_low_bytes : (size n : ℕ) → n < 256 ^ size → number (low_bytes size n) ≡ n
+number_low_bytes zero n fits = omega arith
+number_low_bytes (suc size) n fits =
     let high : n / 256 < 256 ^ size = div_below n 256 (256 ^ size) (omega arith) (rw (← pow-suc 256 size) fits) in
-    search (rules, fold-append, number-low_bytes size (n / 256) high)
+    search (rules, fold-append, number_low_bytes size (n / 256) high)
 
 -- the line of an S-record, without its end
 abbrev line_of : ℕ → List ℕ → List ℕ
 line_of type body = 83 ∷ (48 + type) ∷ encode_upper (with_count_and_checksum body)
 
-IsBytes-counted : (body : List ℕ) → length body ≤ 36 → IsBytes body → IsBytes (with_count_and_checksum body)
-IsBytes-counted body short all = grind (arith, nat_tests, IsBytes-append)
+IsBytes_counted : (body : List ℕ) → length body ≤ 36 → IsBytes body → IsBytes (with_count_and_checksum body)
+IsBytes_counted body short all = grind (arith, nat_tests, IsBytes_append)
 
-plain-line : (type : ℕ) (body : List ℕ) → type ≤ 9 → length body ≤ 36 → IsBytes body
+plain_line : (type : ℕ) (body : List ℕ) → type ≤ 9 → length body ≤ 36 → IsBytes body
     → list_all is_plain (line_of type body) ≡ true
-plain-line type body digit short all = grind (arith, common_steps, nat_tests, plain-digits, encode-digits)
+plain_line type body digit short all = grind (arith, common_steps, nat_tests, plain_digits, encode_digits)
 
-fields-counted : (type : ℕ) (body : List ℕ)
+fields_counted : (type : ℕ) (body : List ℕ)
     → srec_from_fields type (with_count_and_checksum body) ≡ typed_srec type body
-fields-counted type body = grind (arith, common_steps, nat_tests)
+fields_counted type body = grind (arith, common_steps, nat_tests)
 
-emits-line : (type : ℕ) (body : List ℕ) → type ≤ 9 → length body ≤ 36 → IsBytes body
+emits_line : (type : ℕ) (body : List ℕ) → type ≤ 9 → length body ≤ 36 → IsBytes body
     → line_result Srec (line_of type body) ≡ record_meaning Srec (typed_srec (48 + type) body)
-emits-line type body digit short all =
+emits_line type body digit short all =
     let width : length (line_of type body) ≤ 600 =
     search (rules, length-encode_with, length-append) in
     let mark : is_ascii_digit (48 + type) ≡ true = grind (arith, nat_tests) in
-    result-plain Srec 83 ((48 + type) ∷ encode_upper (with_count_and_checksum body))
-    (plain-line type body digit short all) width
+    result_plain Srec 83 ((48 + type) ∷ encode_upper (with_count_and_checksum body))
+    (plain_line type body digit short all) width
     ∙ ap (λ (good : Bool). record_meaning Srec
     (if good then bytes_of_digits (encode_upper (with_count_and_checksum body)) and_then srec_from_fields
     (48 + type) else Err Mark)) mark
     ∙ ap (λ (bytes : Result (List ℕ) LineFault). record_meaning Srec (bytes and_then srec_from_fields (48 + type)))
-    (bytes_of-encode (with_count_and_checksum body) (IsBytes-counted body short all))
-    ∙ ap (record_meaning Srec) (fields-counted (48 + type) body)
+    (bytes_of_encode (with_count_and_checksum body) (IsBytes_counted body short all))
+    ∙ ap (record_meaning Srec) (fields_counted (48 + type) body)
 
-typed-data : (size : AddressSize) (body : List ℕ)
+typed_data : (size : AddressSize) (body : List ℕ)
     → typed_srec (48 + (width_of size - 1)) body ≡ record_with_address (width_of size - 1) (width_of size) body
-typed-data size body = search rules
+typed_data size body = search rules
 
 abbrev record_with : ℕ → ℕ → List ℕ → Result RecordFields LineFault
 record_with type addr row = Ok (record { type = type; address = addr; bytes = row })
 
-addressed-low : (type size addr : ℕ) (row : List ℕ) → addr < 256 ^ size
+addressed_low : (type size addr : ℕ) (row : List ℕ) → addr < 256 ^ size
     → record_with_address type size (low_bytes size addr ++ row) ≡ record_with type addr row
-addressed-low type size addr row fits =
-    grind (arith, nat_tests, length_low_bytes, length-append, take_at, drop_at, number-low_bytes)
+addressed_low type size addr row fits =
+    grind (arith, nat_tests, length_low_bytes, length-append, take_at, drop_at, number_low_bytes)
 
-meant-data : (size : AddressSize) (addr : ℕ) (row : List ℕ)
+meant_data : (size : AddressSize) (addr : ℕ) (row : List ℕ)
     → record_meaning Srec (record_with (width_of size - 1) addr row) ≡ Ok (Data addr row)
-meant-data x addr row = grind (arith, nat_tests)
+meant_data x addr row = grind (arith, nat_tests)
 
 -- what the line of a row means
 abbrev pub emitted_of : ℕ × List ℕ → LineResult
 emitted_of row = Ok (Data row.0 row.1)
 
 -- the lines of the text mean the rows and the end
-pub lines-results : (size : AddressSize) (end : ℕ) (rows : List (ℕ × List ℕ)) → end ≤ 256 ^ width_of size
+pub lines_results : (size : AddressSize) (end : ℕ) (rows : List (ℕ × List ℕ)) → end ≤ 256 ^ width_of size
     → Every (IsRow (λ _. 32) end) rows
     → map (line_result Srec) (lines (srec_rows size rows)) ≡ map emitted_of rows ++ Ok End ∷ Ok Nothing ∷ []
-lines-results size end [] fits all =
+lines_results size end [] fits all =
     let few = few_bytes size in
     let body : List ℕ = low_bytes (width_of size) 0 in
     let len = length_low_bytes (width_of size) 0 in
-    let bytes = IsBytes-low_bytes (width_of size) 0 in
-    let plain = plain-line (11 - width_of size) body (omega (arith, few.0)) (omega (arith, len, few.1)) bytes in
-    search (rules, lines-plain, emits-line)
-lines-results size end ((addr, row) ∷ rows) fits all =
+    let bytes = IsBytes_low_bytes (width_of size) 0 in
+    let plain = plain_line (11 - width_of size) body (omega (arith, few.0)) (omega (arith, len, few.1)) bytes in
+    search (rules, lines_plain, emits_line)
+lines_results size end ((addr, row) ∷ rows) fits all =
     let few = few_bytes size in
     let is = all.0 in
     let type : ℕ = width_of size - 1 in
@@ -107,24 +107,24 @@ lines-results size end ((addr, row) ∷ rows) fits all =
     let len : length body ≡ width_of size + length row =
     length-append (low_bytes (width_of size) addr) row
     ∙ ap (λ (n : ℕ). n + length row) (length_low_bytes (width_of size) addr) in
-    let bytes = IsBytes-append (low_bytes (width_of size) addr) row (IsBytes-low_bytes (width_of size) addr) is.bytes in
+    let bytes = IsBytes_append (low_bytes (width_of size) addr) row (IsBytes_low_bytes (width_of size) addr) is.bytes in
     let short : length body ≤ 36 = omega (arith, len, is.few, few.1) in
     let low : addr < 256 ^ width_of size = omega (arith, fits, is.some, is.below) in
     let digit : type ≤ 9 = omega (arith, few.1) in
-    let plain = plain-line type body digit short bytes in
+    let plain = plain_line type body digit short bytes in
     let meant : line_result Srec (line_of type body) ≡ emitted_of (addr, row) =
-    emits-line type body digit short bytes
-    ∙ ap (record_meaning Srec) (typed-data size body ∙ addressed-low type (width_of size) addr row low)
-    ∙ meant-data size addr row in search (rules, lines-written, lines-results size end rows fits all.1)
+    emits_line type body digit short bytes
+    ∙ ap (record_meaning Srec) (typed_data size body ∙ addressed_low type (width_of size) addr row low)
+    ∙ meant_data size addr row in search (rules, lines_written, lines_results size end rows fits all.1)
 
-pub rows-go_on : (rows : List (ℕ × List ℕ)) → AllGoOn (map emitted_of rows)
-rows-go_on [] = tt
-rows-go_on (row ∷ rows) = (tt, rows-go_on rows)
+pub rows_go_on : (rows : List (ℕ × List ℕ)) → Every GoesOn (map emitted_of rows)
+rows_go_on [] = tt
+rows_go_on (row ∷ rows) = (tt, rows_go_on rows)
 
-pub rows-threaded : (rows : List (ℕ × List ℕ))
+pub rows_threaded : (rows : List (ℕ × List ℕ))
     → threaded (Linear 0) (then_end (map emitted_of rows)) ≡ flat_map places_of rows
-rows-threaded [] = refl
-rows-threaded (row ∷ rows) = grind (arith, nat_tests, rows-threaded rows, places-linear)
+rows_threaded [] = refl
+rows_threaded (row ∷ rows) = grind (arith, nat_tests, rows_threaded rows, places_linear)
 
 -- the size of addresses is enough for an address up to the last one
 pub wide_enough : (last : ℕ) → last < 2 ^ 32 → last < 256 ^ width_of (address_size last)

@@ -100,3 +100,6 @@ file_stops By old mid new outputs file trouble prefix failed first why some = se
 
 pub not_lt : (a b : ℕ) → b ≤ a → nat_lt a b ≡ false
 not_lt a b le = grind (arith, nat_tests)
+
+-- the lemmas for a line that is printed or not
+pub ruleset lines_printed = (nat_tests, not_lt, reports_line)

@@ -39,7 +39,7 @@ use Rattle.avr_desk.proofs.Stages.Outputs.{kept_none}
 use Rattle.avr_desk.proofs.Lines.ReportedAs.{follows_here, same_here}
 use Rattle.avr_session.proofs.Runs.Calls.{none_failed_here, came_here, came_emitted, came_part, ran_from, ran_on, stops_in, broke_on, broke_part, broke_output, LacksLater, StopsReport, ReportedBy}
 use Rattle.avr_session.proofs.ActionByAction.FaultsReported.{ReportsFault, fault_reported, prefix_reports_none, actions_report}
-use Rattle.avr_session.proofs.ActionByAction.Actions.{actions_dialog-one, actions_dialog-append}
+use Rattle.avr_session.proofs.ActionByAction.Actions.{actions_dialog_one, actions_dialog_append}
 use Rattle.avr_session.proofs.ActionByAction.Operations.{Stop, fault_at, cause_at, StopsAs, StopsOver, operation_runs, stop_come, cause_is_reported}
 
 -- An action before which no fault was reported, and which allocates at its start or never.
@@ -200,7 +200,7 @@ taking_then part s xs ys {m = m} {n = n} ran during shown at =
       allocates = at.allocates;
       next = at.next;
       left = at.left;
-      is_played = search (rules, actions_dialog-append, played_bind, followed);
+      is_played = search (rules, actions_dialog_append, played_bind, followed);
     }
 
 -- ---- the actions of a plan
@@ -222,7 +222,7 @@ pub does_one : (plan : Plan) (action : Action) {x y : HostState} {o p : Devices}
     → Performs (action_allocates action) (action_dialog plan.part plan.switches action) x y o p result
     → DoesPlanActions plan (action ∷ []) x y o p result
 does_one plan action {x = x} {y = y} {o = o} {p = p} {result = result} done =
-    search (rules, or-false, actions_dialog-one, performs_lacking, taking_one)
+    search (rules, or-false, actions_dialog_one, performs_lacking, taking_one)
 
 -- the same actions, in another form
 pub does_same : (plan : Plan) (xs ys : List Action) {x y : HostState} {o p : Devices}
@@ -251,7 +251,7 @@ module _ (plan : Plan) (xs ys : List Action) where
       >>= unless_fault (actions_dialog plan.part plan.switches ys)) x y o p result
       → DoesPlanActions plan (xs ++ ys) x y o p result
   does_both {x = x} {y = y} {o = o} {p = p} {result = result} done =
-      search (rules, list_any-append, actions_dialog-append)
+      search (rules, list_any-append, actions_dialog_append)
 
   pub does_then : {x y z : HostState} {o p q : Devices} (result : Result Standing (Unit {0}))
       → DoesPlanActions plan xs x y o p (Ok NoFault) → DoesPlanActions plan ys y z p q result

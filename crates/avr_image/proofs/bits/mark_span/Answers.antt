@@ -1,12 +1,9 @@
-use Rattle.std.proofs.Common.{rules, ◌≡◌, ◌∙◌, ap, arith, ◌||◌, ◌<◌, ◌/◌, ℕ, get_or, length, bit_and, bit_or, Bool, set, ◌*◌, ◌-◌, ◌%◌, ◌^◌}
+use Rattle.std.proofs.Common.{◌≡◌, ◌∙◌, ap, arith, ◌||◌, ◌<◌, ◌/◌, ℕ, get_or, length, bit_and, bit_or, Bool, set, ◌*◌, ◌-◌, ◌%◌, ◌^◌}
 use Rattle.std.proofs.lemmas.List.{length-set}
 use Rattle.avr_image.specs.Present.{is_present, is_within}
 use Rattle.avr_image.proofs.Fields.Masks.{ones_are, span_word, spans_join}
 use Rattle.avr_image.proofs.Fields.Shown.{same_default}
 use Rattle.avr_image.proofs.bits.mark_span.Goals as goal
-
-pub loop-at-init : goal.loop-at-init
-loop-at-init c = search rules
 
 pub loop-at-preserved : goal.loop-at-preserved
 loop-at-preserved c =
@@ -30,6 +27,3 @@ loop-at-preserved c =
           ∙ ap (λ (b : Bool). is_within at stop k || b) (kept.marked k)
           ∙ spans_join c.args.from at stop k _ kept.after (omega (arith, c.min-stop.ensures, c.loop-at-test.true));
     }
-
-pub returns-clause-marked : goal.returns-clause-marked
-returns-clause-marked c = search rules

@@ -1,11 +1,7 @@
-use Rattle.std.proofs.lemmas.Bool.Decides.{nat_tests}
 use Rattle.std.proofs.Common.{◌≡◌, sym, arith, length}
 use Rattle.std.proofs.lemmas.List.Sums.{position_or_len_is}
 use Rattle.avr_image.specs.Values.{is_separator}
 use Rattle.avr_image.proofs.values.piece_len.Goals as goal
-
-pub returns-then-separates-clause-counted : goal.returns-then-separates-clause-counted
-returns-then-separates-clause-counted c = grind (arith, nat_tests, position_or_len_is)
 
 pub returns-clause-counted : goal.returns-clause-counted
 returns-clause-counted c =

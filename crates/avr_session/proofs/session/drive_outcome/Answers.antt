@@ -7,5 +7,5 @@ pub returns-clause-comes_to : goal.returns-clause-comes_to
 returns-clause-comes_to g c =
     let comes = session_comes c.new-session.result.plan.now c.play.result
     (ap (λ (host : HostState). host.progress) c.new-session.ensures.host) c.play.ensures.performs
-    (rw c.play.ensures.plan at c.play.ensures.notice) in
+    (rw c.play.ensures.plan at c.play.ensures.last_line) in
     rw c.outcome_of.ensures (search rules)

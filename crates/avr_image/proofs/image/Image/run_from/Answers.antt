@@ -1,12 +1,7 @@
-use Rattle.std.proofs.lemmas.List.{drop_all}
-use Rattle.std.proofs.lemmas.Bool.Decides.{nat_tests}
 use Rattle.std.proofs.Common.{◌≡◌, ◌∙◌, ap, arith, length, refl, false, min, ℕ}
 use Rattle.avr_image.proofs.Fields.Masks.{same_place}
-use Rattle.avr_image.proofs.Fields.Shown.{run_is, sized}
+use Rattle.avr_image.proofs.Fields.Shown.{run_is}
 use Rattle.avr_image.proofs.image.Image.run_from.Goals as goal
-
-pub returns-then-addr-size : goal.returns-then-addr-size
-returns-then-addr-size c = grind (arith, nat_tests, drop_all, sized)
 
 pub returns : goal.returns
 returns c =

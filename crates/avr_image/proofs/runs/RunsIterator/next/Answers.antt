@@ -1,12 +1,8 @@
-use Rattle.std.proofs.lemmas.Bool.Decides.{nat_tests}
-use Rattle.std.proofs.Common.{◌∙◌, sym, ap, arith, length, drop, rules}
+use Rattle.std.proofs.Common.{◌∙◌, sym, ap, arith, length}
 use Rattle.avr_image.specs.Image.{run_end}
-use Rattle.avr_image.proofs.Walks.Runs.{runs-none, next_run, Stepped, length-filled}
+use Rattle.avr_image.proofs.Walks.Runs.{next_run, Stepped, length_filled}
 use Rattle.avr_image.proofs.Walks.Places.{next_held}
 use Rattle.avr_image.proofs.runs.RunsIterator.next.Goals as goal
-
-pub returns-in_default-clause-steps : goal.returns-in_default-clause-steps
-returns-in_default-clause-steps c = grind (arith, nat_tests, runs-none)
 
 pub run_from-end-requires : goal.run_from-end-requires
 run_from-end-requires c =
@@ -20,12 +16,4 @@ slice_bounds-result-end c =
     let found : Stepped c.self.inside.addr c.in-Some.addr c.run_from-end.result image =
     next_run c.self.inside.addr c.in-Some.addr c.run_from-end.result image (sym c.first_from.ensures ∙ c.in-Some.is)
     (c.run_from-end.ensures ∙ ap (run_end image c.in-Some.addr) c.size.ensures) in
-    omega (arith, found.within, ap length c.as_slice.ensures.filled, length-filled image 0 (length image))
-
-pub returns-clause-steps : goal.returns-clause-steps
-returns-clause-steps c = grind (arith, next_run, drop)
-
-pub returns-clause-goes : goal.returns-clause-goes
-returns-clause-goes c =
-    let fewer = ap length (returns-clause-steps c) in
-    search rules
+    omega (arith, found.within, ap length c.as_slice.ensures.filled, length_filled image 0 (length image))

@@ -9,7 +9,7 @@ pub returns : goal.returns
 returns g c =
     let part = c.args.self.now.plan.now.part in
     let emits = closing_output c.args.self.now.plan.now.switches.quiet part in
-    let reports = c.report_closing-reported.ensures.reports in
+    let reports = c.report_step-reported.ensures.reports in
     let ends = operation_performs closing emits reports false (print_stops_report _ _ reports)
     (cause_is_reported part emits (λ stop. refl) reports) c.requires c.close-closed.ensures.calls c.conclude.ensures in
     search rules

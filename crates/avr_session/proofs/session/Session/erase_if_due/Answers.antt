@@ -30,7 +30,7 @@ returns-then-is_erase_due g c =
     c.if-is_erase_due.true in
     let due : EraseChip ∷ [] ≡ erase_actions plan.switches plan.tasks = rw (is_not_dry, is_due) refl in
     let does = does_same plan _ _ due (does_printed plan EraseChip (erased_output plan.switches.quiet plan.part) refl
-    (λ stop. refl) c.requires refl c.erase-erased.ensures.calls c.report_erased-reported.ensures.reports
+    (λ stop. refl) c.requires refl c.erase-erased.ensures.calls c.report_step-reported.ensures.reports
     c.conclude-then-is_erase_due.ensures) in
     search rules
 

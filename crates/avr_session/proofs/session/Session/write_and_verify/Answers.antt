@@ -1,6 +1,7 @@
-use Rattle.std.proofs.Common.{◌≡◌, refl, [], ◌∷◌, rules}
+use Rattle.std.proofs.Common.{◌≡◌, refl, List, [], ◌∷◌, rules}
+use Rattle.std.specs.Prelude.{if◌then◌else◌}
 use Rattle.std.proofs.lemmas.Result.{err_from_is_err_and}
-use Rattle.avr_session.specs.Actions.{SkippedWrite, WriteImage, CompareImage, SkipAction, read_back_actions, write_actions}
+use Rattle.avr_session.specs.Actions.{SkippedWrite, WriteImage, CompareImage, SkipAction, Action, write_actions}
 use Rattle.avr_session.proofs.ActionByAction.Sequences.{left_out_performs, ends_unreported, does_one, does_same, does_then, does_last}
 use Rattle.avr_session.proofs.session.Session.write_and_verify.Goals as goal
 
@@ -18,7 +19,7 @@ returns-in_err-write g c =
     let p = err_from_is_err_and c.from_residual.result c.from_residual.ensures.1 in
     let plan = c.args.self.now.plan.now in
     let write = WriteImage c.args.mem c.args.image.now in
-    let more = read_back_actions plan.switches c.args.mem c.args.image.now in
+    let more : List Action = if plan.switches.no_verify then [] else CompareImage c.args.mem c.args.image.now ∷ [] in
     let is_not_dry = rw c.switches.ensures at c.if-switches.false in
     let due : write ∷ more ≡ write_actions plan.switches c.args.mem c.args.image.now = rw is_not_dry refl in
     let does = does_same plan _ _ due (does_last plan (write ∷ []) more _ c.in_err-write.ensures.performs) in

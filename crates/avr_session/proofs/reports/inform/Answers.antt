@@ -1,6 +1,0 @@
-use Rattle.std.proofs.Common.{rules}
-use Rattle.avr_session.proofs.ActionByAction.Reports.{reports_line, not_lt}
-use Rattle.avr_session.proofs.reports.inform.Goals as goal
-
-pub returns : goal.returns
-returns g c = search (rules, not_lt, reports_line)
