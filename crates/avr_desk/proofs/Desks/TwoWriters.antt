@@ -1,5 +1,5 @@
 -- A desk over two writers and the files of a system: its record stays true, call after call.
-use Rattle.std.proofs.Common.{◌≡◌, ◌⊎◌, ◌∙◌, inr, sym, ap, subst, refl, arith, ℕ, ◌==◌, ◌&&◌, ◌||◌, not, Bool, true, false, List, [], ◌∷◌, ◌++◌, append_assoc, append-nil, length, take, Option, None, Some, rules}
+use Rattle.std.proofs.Common.{◌≡◌, ◌⊎◌, ◌∙◌, inr, sym, ap, subst, refl, arith, ℕ, ◌==◌, ◌&&◌, ◌||◌, not, true, false, List, [], ◌∷◌, ◌++◌, append_assoc, append-nil, length, take, Option, None, Some, rules}
 use Rattle.std.specs.Prelude.{◌≤◌, IfErr, IfOk, Ok, Result}
 use Rattle.std.proofs.KnownBytes.{Appends-nil, Consumes-nil}
 use Rattle.avr_desk.specs.Record.{Bytes, DeskState, Record, after_read, all_files, all_uses, noted, nothing_kept, use_of, with_absent, with_none_held, with_open, with_replaced, with_tried, after_write}
@@ -12,7 +12,6 @@ use Rattle.std.proofs.lemmas.List.Elements.{All-append, All-cons, All-nil, Conta
 use Rattle.std.specs.Io.KnownBytes.{Appends, Keeps}
 use Rattle.std.specs.List.{All}
 use Rattle.std.specs.Option.{option_len}
-use Rattle.std.specs.Prelude.{flat_map}
 use Rattle.std.specs.declared.io.ErrorKind.{ErrorKind}
 use Rattle.std.specs.declared.io.Read.{Ghosts as Reads}
 use Rattle.std.specs.declared.io.Write.{Ghosts as Writes}
@@ -20,7 +19,7 @@ use Rattle.ghosts.specs.Preserves.{Preserves}
 use Rattle.avr_desk.specs.Named.{is_dash}
 use Rattle.avr_desk.proofs.FileUses.Calls.{opened, calls_opened, calls_replaced, made_dash, opened_dash, opened_named}
 use Rattle.avr_desk.proofs.FileUses.Uses.{files_absent, files_opened, files_replaced}
-use Rattle.avr_desk.specs.Journal.{Counts, ChangesCalls, FileCall, Gives, ReleasesHeld, CrashMayAlsoLeave, CrashLeavesNoMore, Opens, with_calls, calls_of, calls_of_record, with_one_more_held, made, no_calls}
+use Rattle.avr_desk.specs.Journal.{Counts, ChangesCalls, FileCall, Gives, ReleasesHeld, CrashMayAlsoLeave, CrashLeavesNoMore, Opens, with_calls, calls_of_record, with_one_more_held, made, no_calls}
 use Rattle.avr_desk.specs.Fault.{IsCall, WriteCounts}
 use Rattle.avr_desk.specs.Stream.{IsWrite, SendsTaken}
 use Rattle.avr_desk.specs.declared.stream.Stream.{Stream}
@@ -122,13 +121,6 @@ module _ {S F I H O E : Type 0} (system : Ghosts S F I H) (reads : Reads F) (wri
   left_none : {old new : S} (hold : Option H) (held : Option Bytes) (calls : List FileCall)
       → IsHeldBy system hold held → ReleasesHeld system.has_done hold old new → Did calls held old → Did calls None new
   left_none hold held calls is leaves has_done = search rules
-
-  -- another file is held, then released
-  left_one : {old new : S} (hold : Option H) (held : Option Bytes) (calls : List FileCall) (name : Bytes)
-      → IsHeldBy system hold held → ReleasesHeld system.has_done hold old new
-      → system.has_done (with_one_more_held (record { calls = calls; holds = option_len held })) old
-      → Did calls (Some name) new
-  left_one hold held calls name is leaves has_done = search rules
 
   -- the system holds as many files as the desk
   abbrev Holds : Option H → S → Type 0
@@ -336,7 +328,7 @@ module _ {S F I H O E : Type 0} (system : Ghosts S F I H) (reads : Reads F) (wri
     held_true {h = h} {own = own} same kept holds does leaves also keeps =
         rw kept (same_files refl refl refl (λ are.
         let held = subst (system.holds h) (sym same) holds in
-        let has_done = left_one b.hold b.kept.held _ own are.held leaves (does _ are.has_done) in
+        let had = does _ are.has_done in
         let crash = crash_kept _ keeps (crash_held _ also are.crash) in search rules))
 
     pub denied_true : {s : S} {k : Record} {name own : Bytes} → own ≡ name
@@ -361,21 +353,13 @@ module _ {S F I H O E : Type 0} (system : Ghosts S F I H) (reads : Reads F) (wri
         → OpenFileGives reads input old new buf n → TrueOpen old current → TrueOpen new (noted (take n buf) (n == 0 && not (length buf == 0)) current)
     read_open old new current buf n gives is = search (rules, given_more)
 
-    unread_open : (old new : OpenFile F I) (current : Open) → OpenFileGivesNothing reads input old new
-        → TrueOpen old current → TrueOpen new current
-    unread_open old new current none is = search (rules, nat_tests)
-
-    read_calls : (bytes : Bytes) (ends : Bool) (uses : List FileUse) (current : Open)
-        → flat_map calls_of (uses ++ use_of (noted bytes ends current)) ≡ flat_map calls_of (uses ++ use_of current)
-    read_calls bytes ends uses current = search (rules, flat_map-append)
-
     pub read_true : {o : OpenFile F I} {k : Record} (buf : Bytes) (n : ℕ) → k ≡ after_read buf (Ok n) b.kept
         → is_output o ≡ is_output b.opened → OpenFileGives reads input b.opened o buf n
         → Since b (Then b.system o b.hold k)
     read_true {o = o} buf n kept same gives = rw kept (quiet refl refl (search rules) (λ none was. same ∙ was) (λ are.
         let current = read_open b.opened o b.kept.current buf n gives are.current in
-        let has_done = did_as b.kept.held b.system (read_calls _ _ b.kept.uses b.kept.current) are.has_done in
-        files_now are are.uses current has_done (λ name found is. is)))
+        files_now are are.uses current (did_as b.kept.held b.system (search (rules, flat_map-append)) are.has_done)
+        (λ name found is. is)))
 
     -- the open file gave or took nothing
     unchanged_true : {o : OpenFile F I} → is_output o ≡ is_output b.opened → (Before → TrueOpen o b.kept.current)
@@ -385,7 +369,7 @@ module _ {S F I H O E : Type 0} (system : Ghosts S F I H) (reads : Reads F) (wri
 
     pub unread_true : {o : OpenFile F I} → is_output o ≡ is_output b.opened
         → OpenFileGivesNothing reads input b.opened o → Since b (Then b.system o b.hold b.kept)
-    unread_true same none = unchanged_true same (λ are. unread_open b.opened _ b.kept.current none are.current)
+    unread_true same none = unchanged_true same (λ are. search (rules, nat_tests))
 
     pub write_true : {k : Record} {old new : F} (bytes : Bytes) → b.opened ≡ open_file.ToWrite old
         → Appends (writes.contents old) (writes.contents new) bytes → k ≡ after_write bytes b.kept
@@ -395,15 +379,11 @@ module _ {S F I H O E : Type 0} (system : Ghosts S F I H) (reads : Reads F) (wri
         (λ none. sym (written_dashes bytes b.kept) ∙ none) (λ none elsewhere. refl)
         (grind (arith, common_steps)))
 
-    unwritten_open : (old new : F) (current : Open) → Keeps (writes.contents old) (writes.contents new)
-        → TrueOpen (open_file.ToWrite old) current → TrueOpen (open_file.ToWrite new) current
-    unwritten_open old new current keeps is = search rules
-
     pub unwritten_true : {old new : F} → b.opened ≡ open_file.ToWrite old
         → Keeps (writes.contents old) (writes.contents new)
         → Since b (Then b.system (open_file.ToWrite new) b.hold b.kept)
-    unwritten_true {old = old} {new = new} was keeps = unchanged_true (ap is_output (sym was))
-        (λ are. unwritten_open old new b.kept.current keeps (rw was at are.current))
+    unwritten_true was keeps = unchanged_true (ap is_output (sym was))
+        (λ are. let current = rw was at are.current in search rules)
 
     -- the desk after a call that sent to the output, or to the messages
     abbrev Put : O → Record → Desk
