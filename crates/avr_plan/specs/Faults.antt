@@ -17,25 +17,21 @@ use Rattle.avr_plan.specs.declared.plan_fault.PlanFault.{PlanFault}
 use Rattle.avr_plan.specs.declared.plan_fault.PlanFault.TheVariants as of_plan
 
 abbrev pub update_fault_number : UpdateFault → ℕ
-update_fault_number fault = elim fault [
-  | update.BadMemory ↦ 1
-  | update.BadOp ↦ 2
-  | update.BadFormat ↦ 3
-  | update.NoFile ↦ 4
-  | update.Memory ↦ 5
-]
+update_fault_number update.BadMemory = 1
+update_fault_number update.BadOp = 2
+update_fault_number update.BadFormat = 3
+update_fault_number update.NoFile = 4
+update_fault_number update.Memory = 5
 
 abbrev pub settings_fault_number : SettingsFault → ℕ
-settings_fault_number fault = elim fault [
-  | NoPart ↦ 1
-  | BadProgrammer name ↦ 2
-  | BadPort text ↦ 3
-  | TooMany ↦ 4
-  | BadUpdate n fault ↦ 5
-  | StandardTaken ↦ 6
-  | Memory ↦ 7
-  | NoChip ↦ 8
-]
+settings_fault_number NoPart = 1
+settings_fault_number (BadProgrammer name) = 2
+settings_fault_number (BadPort text) = 3
+settings_fault_number TooMany = 4
+settings_fault_number (BadUpdate n fault) = 5
+settings_fault_number StandardTaken = 6
+settings_fault_number Memory = 7
+settings_fault_number NoChip = 8
 
 abbrev pub bad_file_number : BadFile → ℕ
 bad_file_number fault = elim fault [ Record fault ↦ 1 | Raw fault ↦ 2 | Elf ↦ 3 | TooLong ↦ 4 ]
@@ -47,13 +43,11 @@ abbrev pub parts_fault_number : PartsFault → ℕ
 parts_fault_number fault = elim fault [ of_parts.File fault ↦ 1 | of_parts.TooLong ↦ 2 | of_parts.Parts fault ↦ 3 ]
 
 abbrev pub task_fault_number : TaskFault → ℕ
-task_fault_number fault = elim fault [
-  | of_task.ReadOnly ↦ 1
-  | of_task.Values fault ↦ 2
-  | of_task.File fault ↦ 3
-  | of_task.Memory ↦ 4
-  | of_task.Unwarned ↦ 5
-]
+task_fault_number of_task.ReadOnly = 1
+task_fault_number (of_task.Values fault) = 2
+task_fault_number (of_task.File fault) = 3
+task_fault_number of_task.Memory = 4
+task_fault_number of_task.Unwarned = 5
 
 abbrev pub plan_fault_number : PlanFault → ℕ
 plan_fault_number fault =
