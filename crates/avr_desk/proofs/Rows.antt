@@ -12,62 +12,53 @@ use Rattle.avr_desk.specs.Stream.{SendsTaken}
 use Rattle.avr_desk.specs.Truth.{OpeningsAreTrue, IsTrueOpening}
 use Rattle.avr_desk.specs.declared.desk.DeskFault.{DeskFault}
 use Rattle.avr_desk.specs.declared.desk.DeskFault.TheVariants.{NotFound, Failed}
-use Rattle.avr_desk.specs.declared.files.Contents.{Contents}
-use Rattle.avr_desk.specs.declared.files.FileFault.{FileFault}
 use Rattle.avr_desk.specs.declared.files.FileFault.TheVariants.{Memory}
 use Rattle.avr_desk.specs.declared.record.FileUse.TheVariants.{Opened, Created}
 use Rattle.avr_desk.specs.declared.record.Opening.{Opening}
 use Rattle.avr_desk.specs.declared.record.Opening.TheVariants.{Absent, Found}
 use Rattle.avr_desk.specs.declared.record.Writing.{Writing}
+use Rattle.avr_desk.specs.declared.stream.Stream.{Stream}
 use Rattle.avr_desk.specs.declared.stream.Stream.TheVariants.{File, Output, Messages}
 
 -- a desk with an empty record that has failed this often, never at the messages
 abbrev silent : ℕ → DeskState
 silent failures = showing nothing_kept failures 0
 
-abbrev done : Result (Unit {0}) DeskFault
-done = Ok tt
+-- such a desk that had not failed has this state and this result now
+abbrev Counts : Stream → DeskState → Result (Unit {0}) DeskFault → Type 0
+Counts stream new result = CountsFailure stream (silent 0) new result
 
 -- a failure that is counted after a success, after a file that isn't there, after a byte that was taken, or after a
 -- failed allocation
-pub no_count_behind_success : CountsFailure File (silent 0) (silent 1) done → ⊥
+pub no_count_behind_success : Counts File (silent 1) (Ok tt) → ⊥
 no_count_behind_success counts = let e : 1 ≡ 0 = counts.1.0 in omega (arith, e)
 
-abbrev absent : Result (Unit {0}) DeskFault
-absent = Err NotFound
-
-pub no_count_behind_absence : CountsFailure File (silent 0) (silent 1) absent → ⊥
+pub no_count_behind_absence : Counts File (silent 1) (Err NotFound) → ⊥
 no_count_behind_absence counts = let e : 1 ≡ 0 = counts.1.0 in omega (arith, e)
 
-abbrev short_of_memory : Result Contents FileFault
-short_of_memory = Err Memory
-
-pub no_count_behind_memory : CountsReadResult (silent 0) (silent 1) short_of_memory → ⊥
+pub no_count_behind_memory : CountsReadResult (silent 0) (silent 1) (Err Memory) → ⊥
 no_count_behind_memory counts = let e : 1 ≡ 0 = counts.1.0 in omega (arith, e)
 
 -- a failure that is not counted
-abbrev failed : Result (Unit {0}) DeskFault
-failed = Err Failed
-
-pub no_silent_failure : CountsFailure File (silent 0) (silent 0) failed → ⊥
+pub no_silent_failure : Counts File (silent 0) (Err Failed) → ⊥
 no_silent_failure counts = let e : 0 ≡ 1 = counts.1.0 in omega (arith, e)
 
 -- one failure that is counted twice
-pub no_failure_twice : CountsFailure File (silent 0) (silent 2) failed → ⊥
+pub no_failure_twice : Counts File (silent 2) (Err Failed) → ⊥
 no_failure_twice counts = let e : 2 ≡ 1 = counts.1.0 in omega (arith, e)
 
 -- a failure at the messages that only one count shows; one at a file, or at the output, that both show; and an
 -- unreported failure after a success
-pub no_message_failure_uncounted : CountsFailure Messages (silent 0) (silent 1) failed → ⊥
+pub no_message_failure_uncounted : Counts Messages (silent 1) (Err Failed) → ⊥
 no_message_failure_uncounted counts = let e : 0 ≡ 1 = counts.1.1 in omega (arith, e)
 
-pub no_file_is_a_message_failure : CountsFailure File (silent 0) (showing nothing_kept 1 1) failed → ⊥
+pub no_file_is_a_message_failure : Counts File (showing nothing_kept 1 1) (Err Failed) → ⊥
 no_file_is_a_message_failure counts = let e : 1 ≡ 0 = counts.1.1 in omega (arith, e)
 
-pub no_output_is_a_message_failure : CountsFailure Output (silent 0) (showing nothing_kept 1 1) failed → ⊥
+pub no_output_is_a_message_failure : Counts Output (showing nothing_kept 1 1) (Err Failed) → ⊥
 no_output_is_a_message_failure counts = let e : 1 ≡ 0 = counts.1.1 in omega (arith, e)
 
-pub no_message_failure_behind_success : CountsFailure Messages (silent 0) (showing nothing_kept 0 1) done → ⊥
+pub no_message_failure_behind_success : Counts Messages (showing nothing_kept 0 1) (Ok tt) → ⊥
 no_message_failure_behind_success counts = let e : 1 ≡ 0 = counts.1.1 in omega (arith, e)
 
 -- before a fault a prefix of the bytes may have been written, but not their end
@@ -83,7 +74,7 @@ no_end_before_a_fault sent = search rules
 
 -- a line cut short though only a file failed
 pub no_line_cut_by_a_file : ReportsLineAs whole [] (silent 0) (silent 1) → ⊥
-no_line_cut_by_a_file a' = search rules
+no_line_cut_by_a_file reported = search rules
 
 -- a message in the output
 abbrev byte : List ℕ
@@ -101,7 +92,8 @@ no_other_bytes (suc n) taken = search (rules, nat_tests)
 abbrev sound : Failing ℕ
 sound = record { inner = 0; due = 0; planned = 0; message_failures = 0 }
 
-pub no_plan_behind_success : FailsWhenDue File silent sound (record sound { planned = 1 }) (λ a b r. Unit {0}) done → ⊥
+pub no_plan_behind_success : FailsWhenDue {T = ℕ} File silent sound (record sound { planned = 1 })
+    (λ old new result. Unit {0}) (Ok 0) → ⊥
 no_plan_behind_success fails = let e : 1 ≡ 0 = fails.planned in omega (arith, e)
 
 -- and one at a file that is due, and is counted as unreported
@@ -111,7 +103,8 @@ failing = record { inner = 0; due = 1; planned = 0; message_failures = 0 }
 abbrev not_reported : Failing ℕ
 not_reported = record { inner = 0; due = 0; planned = 1; message_failures = 1 }
 
-pub no_file_is_a_planned_message_failure : FailsWhenDue File silent failing not_reported (λ a b r. Unit {0}) failed → ⊥
+pub no_file_is_a_planned_message_failure : FailsWhenDue {T = ℕ} File silent failing not_reported (λ a b r. Unit {0})
+    (Err Failed) → ⊥
 no_file_is_a_planned_message_failure fails = let e : 1 ≡ 0 = fails.message_failures in omega (arith, e)
 
 -- ---- openings of a desk in memory that no file gives

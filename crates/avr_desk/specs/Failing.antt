@@ -28,11 +28,6 @@ of_inner started_as start d = started_as start d.inner
 abbrev pub count_after : {D : Type 0} → Failing D → ℕ → ℕ
 count_after d count = if d.due == 1 then counted (count + 1) else count
 
--- the count of failures at the messages after a call for this stream
-abbrev pub message_failures_after : {D : Type 0} → Stream → Failing D → ℕ
-message_failures_after Messages d = count_after d d.message_failures
-message_failures_after stream d = d.message_failures
-
 -- The due call returns `Failed`, doesn't reach the inner desk, and is counted as planned. Any other call goes to the
 -- inner desk.
 pub record FailsWhenDue {D T : Type 0} (stream : Stream) (view : D → DeskState) (old new : Failing D)
@@ -41,4 +36,5 @@ pub record FailsWhenDue {D T : Type 0} (stream : Stream) (view : D → DeskState
   pub passed_on : old.due ≢ 1 → PassedOn (view old.inner) (view new.inner) r
   pub counted_down : new.due ≡ old.due - 1
   pub planned : new.planned ≡ count_after old old.planned
-  pub message_failures : new.message_failures ≡ message_failures_after stream old
+  pub message_failures : new.message_failures
+      ≡ elim stream [ Messages ↦ count_after old old.message_failures | other ↦ old.message_failures ]

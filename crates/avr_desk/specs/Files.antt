@@ -9,10 +9,7 @@ use Rattle.avr_desk.specs.declared.files.FileFault.TheVariants.{Absent, NotOpene
 use Rattle.avr_desk.specs.declared.stream.Stream.TheVariants.{File}
 
 abbrev pub file_fault_number : FileFault → ℕ
-file_fault_number Absent = 1
-file_fault_number NotOpened = 2
-file_fault_number NotRead = 3
-file_fault_number Memory = 4
+file_fault_number fault = elim fault [ Absent ↦ 1 | NotOpened ↦ 2 | NotRead ↦ 3 | Memory ↦ 4 ]
 
 -- the open file gave these bytes, and its end was seen if `ended`
 abbrev pub after_reading : Bytes → Bool → Record → Record

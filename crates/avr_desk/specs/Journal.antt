@@ -1,5 +1,6 @@
 -- The calls of a system for files, and those that a desk's record shows.
-use Rattle.std.specs.Prelude.{◌≡◌, ◌⊎◌, ℕ, ◌+◌, List, [], ◌∷◌, ◌++◌, Option, Some, None, Result, Ok, Err, if◌then◌else◌}
+use Rattle.std.specs.Prelude.{◌≡◌, ◌⊎◌, ℕ, ◌+◌, List, [], ◌∷◌, ◌++◌, Option, Some, None, Result, Ok, Err, flat_map, if◌then◌else◌}
+use Rattle.std.specs.Option.{option_len}
 use Rattle.avr_desk.specs.Named.{is_dash}
 use Rattle.avr_desk.specs.Record.{Bytes, Record, all_uses}
 use Rattle.avr_desk.specs.declared.record.FileUse.{FileUse}
@@ -76,11 +77,6 @@ pub record IsUncounted {S : Type 0} (has_done : SystemCalls → S → Type 0) (l
   pub done : Preserves has_done old new
   pub kept : CrashLeavesNoMore left old new
 
--- 1 if there is one, else 0
-abbrev pub count_of : {A : Type 0} → Option A → ℕ
-count_of None = 0
-count_of (Some it) = 1
-
 -- The system holds this many files, after some calls.
 abbrev pub Counts : {S : Type 0} → (SystemCalls → S → Type 0) → ℕ → S → Type 0
 Counts has_done holds now = (done : SystemCalls) × has_done done now × (done.holds ≡ holds)
@@ -93,11 +89,6 @@ calls_of (Opened (Absent name)) = []
 calls_of (Opened (Found reading)) = (if is_dash reading.name then Gives else Opens reading.name) ∷ []
 calls_of (Created writing) = made writing.name
 
--- the calls of these uses, in order
-abbrev pub all_calls : List FileUse → List FileCall
-all_calls [] = []
-all_calls (used ∷ uses) = calls_of used ++ all_calls uses
-
 -- the calls of all uses in a record, and the number of held files
 abbrev pub calls_of_record : Record → SystemCalls
-calls_of_record r = record { calls = all_calls (all_uses r); holds = count_of r.held }
+calls_of_record r = record { calls = flat_map calls_of (all_uses r); holds = option_len r.held }

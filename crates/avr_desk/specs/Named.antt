@@ -1,5 +1,5 @@
 -- Files by their names.
-use Rattle.std.specs.Prelude.{Bool, false, List, [], ◌∷◌, codes, Option, Some, if◌then◌else◌}
+use Rattle.std.specs.Prelude.{Bool, false, List, [], codes, Option, Some, fold, if◌then◌else◌}
 use Rattle.std.specs.Option.{option_map, unwrap_or}
 use Rattle.std.specs.Str.{bytes_eq}
 use Rattle.avr_desk.specs.Record.{Bytes, Record}
@@ -17,8 +17,7 @@ or_older name older f = if bytes_eq f.name name then Some f.bytes else older
 
 -- the bytes of the newest file of this name, else `older`
 abbrev pub newest : Bytes → Option Bytes → List Writing → Option Bytes
-newest name older [] = older
-newest name older (f ∷ fs) = newest name (or_older name older f) fs
+newest name = fold (or_older name)
 
 -- the file of this name is held
 abbrev pub holds : Bytes → Record → Bool

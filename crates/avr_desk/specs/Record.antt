@@ -1,5 +1,5 @@
 -- The record of a desk: what it was asked, and what it gave.
-use Rattle.std.specs.Prelude.{◌≡◌, ◌⊎◌, ◌==◌, ◌&&◌, ◌||◌, ◌+◌, ℕ, Bool, true, false, not, List, [], ◌∷◌, ◌++◌, take, length, Option, Some, None, Result, Ok, Err, OnOk, ⊤}
+use Rattle.std.specs.Prelude.{◌≡◌, ◌⊎◌, ◌==◌, ◌&&◌, ◌||◌, ◌+◌, ℕ, Bool, true, false, not, List, [], ◌∷◌, ◌++◌, take, length, Option, Some, None, Result, Ok, Err, OnOk, ⊤, filter_map}
 use Rattle.avr_desk.specs.declared.desk.DeskFault.{DeskFault}
 use Rattle.avr_desk.specs.declared.desk.DeskFault.TheVariants.{NotFound, Failed}
 use Rattle.avr_desk.specs.declared.record.Writing.{Writing}
@@ -45,11 +45,6 @@ showing kept failures message_failures =
 abbrev pub ChangesRecord : (Record → Record) → DeskState → DeskState → Type 0
 ChangesRecord change old new = new.kept ≡ change old.kept
 
--- the open file, if it is open to write
-abbrev pub file_of : Open → List Writing
-file_of (ToWrite x) = x ∷ []
-file_of _ = []
-
 -- the open file as a use, if one is open
 abbrev pub use_of : Open → List FileUse
 use_of Closed = []
@@ -58,14 +53,10 @@ use_of (ToWrite x) = Created x ∷ []
 
 -- the openings among these uses; below, the files created or replaced
 abbrev pub openings_among : List FileUse → List Opening
-openings_among [] = []
-openings_among (Opened opening ∷ uses) = opening ∷ openings_among uses
-openings_among (Created file ∷ uses) = openings_among uses
+openings_among = filter_map (λ used. elim used [ Opened opening ↦ Some opening | Created file ↦ None ])
 
 abbrev pub files_among : List FileUse → List Writing
-files_among [] = []
-files_among (Opened opening ∷ uses) = files_among uses
-files_among (Created file ∷ uses) = file ∷ files_among uses
+files_among = filter_map (λ used. elim used [ Opened opening ↦ None | Created file ↦ Some file ])
 
 -- all uses, the open file last
 abbrev pub all_uses : Record → List FileUse
@@ -77,7 +68,7 @@ all_openings r = openings_among r.uses ++ openings_among (use_of r.current)
 
 -- all files created or replaced, the one that is open to write last
 abbrev pub all_files : Record → List Writing
-all_files r = files_among r.uses ++ file_of r.current
+all_files r = files_among r.uses ++ files_among (use_of r.current)
 
 -- The open file is now this one. The one before is among the uses.
 abbrev pub with_open : Open → Record → Record

@@ -2,8 +2,8 @@
 ghost use Rattle.std.specs.Prelude.{◌≡◌, ◌∷◌, [], IfOk, MatchResult, Option, Some, true};
 ghost use Rattle.std.specs.IoError.{error_kind};
 ghost use Rattle.std.specs.declared.io.Error.{Error};
-ghost use Rattle.std.specs.Option.{option_copied};
-ghost use Rattle.avr_desk.specs.Journal.{AddsCalls, Counts, ChangesCalls, SystemCalls, Gives, CrashMayAlsoLeave, CrashLeavesNoMore, Opens, IsUncounted, TakesHold, with_calls, count_of, with_one_more_held, made};
+ghost use Rattle.std.specs.Option.{option_copied, option_len};
+ghost use Rattle.avr_desk.specs.Journal.{AddsCalls, Counts, ChangesCalls, SystemCalls, Gives, CrashMayAlsoLeave, CrashLeavesNoMore, Opens, IsUncounted, TakesHold, with_calls, with_one_more_held, made};
 ghost use Rattle.avr_desk.specs.Record.{Bytes};
 ghost use Rattle.ghosts.specs.Preserves.{Preserves};
 
@@ -75,7 +75,7 @@ pub trait FileSystem {
     /// The system's error, `NotFound` if there is no such file, and `ResourceBusy` if the file is held and another one
     /// has its name by now, or none.
     fn open_named(&mut self, name: &str, hold: Option<&Self::Hold>) -> io::Result<Self::File>
-        ensures named { Counts has_done (count_of (option_copied hold.entry)) self.old
+        ensures named { Counts has_done (option_len (option_copied hold.entry)) self.old
             → MatchResult result (λ file. is_of file name.now)
             (λ error. error_kind error ≡ ErrorKind.NotFound → lacks name.now) }
         ensures opens { AddsCalls has_done (Opens name.now ∷ []) self.old self.new result }
@@ -89,7 +89,7 @@ pub trait FileSystem {
     fn create_named(&mut self, name: &str, hold: Option<&Self::Hold>) -> io::Result<Self::File>
         ensures named { IfOk result (λ file. is_of file name.now) }
         ensures creates { AddsCalls has_done (made name.now) self.old self.new result }
-        ensures keeps { Counts has_done (count_of (option_copied hold.entry)) self.old
+        ensures keeps { Counts has_done (option_len (option_copied hold.entry)) self.old
             → CrashLeavesNoMore left self.old self.new };
 
     /// Fails with `ResourceBusy` if a file created by this name would be the held one, or one that a run makes beside it.

@@ -44,7 +44,7 @@ pub use message::{
     Message, file_message, memory_message, not_created_message, not_written_message, refuse,
     too_long_message,
 };
-pub use record::{FileUse, Open, Opening, Reading, Writing};
+pub use record::{FileUse, Open, Opening, Reading, Writing, is_dash};
 pub use stream::{Stream, write_all};
 pub use system::SystemDesk;
 pub use watched::{DeskCall, WatchDesk, WatchedDesk};

@@ -6,7 +6,7 @@ ghost use Rattle.avr_desk.specs.Record.{use_of};
 use crate::bytes::Bytes;
 use crate::desk::{ChipDesk, Desk, DeskFault};
 use crate::journal::{Call, Journal};
-use crate::record::{FileUse, Open, Opening, Reading, Writing, newest, newest_created};
+use crate::record::{FileUse, Open, Opening, Reading, Writing, is_dash, newest, newest_created};
 use std::alloc::{AllocError, Global};
 use std::marker::Model;
 use std::mem;
@@ -147,7 +147,6 @@ impl MemDesk {
 
     /// Returns the bytes of a file: those written since it was last created, else those last put. If `-` was created,
     /// its bytes are those written to standard output since then, except by `out`.
-    #[tactic(auto, using(crate::proofs::FileUses::Names::newest_append))]
     pub fn file(&self, name: &str) -> Option<&[u8]>
         ensures { option_copied result ≡ newest name.now None (self.now.stored ++ all_files self.now.kept) }
     {
@@ -185,7 +184,7 @@ impl MemDesk {
     fn contents(&self, name: &str) -> Option<&[u8]>
         ensures { option_copied result ≡ contents name.now self.now }
     {
-        if name == "-" {
+        if is_dash(name) {
             Some(self.input.as_slice())
         } else {
             self.file(name)

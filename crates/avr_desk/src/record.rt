@@ -1,6 +1,6 @@
 ghost use Rattle.std.specs.Prelude.{◌≡◌, IfOk, is_ok, true, if◌then◌else◌};
 ghost use Rattle.std.specs.Option.{option_copied};
-ghost use Rattle.avr_desk.specs.Named.{newest};
+ghost use Rattle.avr_desk.specs.Named.{is_dash, newest};
 ghost use Rattle.avr_desk.specs.Record.{files_among};
 
 use crate::bytes::Bytes;
@@ -106,6 +106,13 @@ impl Writing {
             older
         }
     }
+}
+
+/// Returns whether a name means standard input or output, and no file: the name `-`.
+pub fn is_dash(name: &str) -> bool
+    ensures { result ≡ is_dash name.now }
+{
+    name == "-"
 }
 
 /// Returns the bytes of the last file of this name, else `older`.

@@ -17,6 +17,7 @@ ghost use Rattle.avr_desk.specs.declared.system.OpenFile.TheVariants.{Nothing};
 use crate::desk::{ChipDesk, Desk, DeskFault};
 use crate::file_system::FileSystem;
 use crate::journal::{Call, Journal};
+use crate::record::is_dash;
 use crate::replacement::replace_named;
 use crate::stream::Stream;
 use ghosts::Outlet;
@@ -203,7 +204,7 @@ impl<R: FileSystem + Drop, O: Outlet + Drop, E: Outlet + Drop> Desk for SystemDe
         ensures stays { Preserves ⟦<Self as Desk>⟧.started_as self.old self.new }
     {
         let call = Call::Opened(name.as_bytes());
-        if name == "-" {
+        if is_dash(name) {
             let next = (OpenFile::Input(self.system.input()), call);
             open_next(&mut self.system, &mut self.opened, &mut self.journal, next);
             return Ok(());
@@ -231,7 +232,7 @@ impl<R: FileSystem + Drop, O: Outlet + Drop, E: Outlet + Drop> Desk for SystemDe
             (if is_ok result then is_dash name.now else writes_to_output self.old) self.old self.new result }
     {
         let call = Call::Created(name.as_bytes());
-        if name == "-" {
+        if is_dash(name) {
             let next = (OpenFile::Output, call);
             open_next(&mut self.system, &mut self.opened, &mut self.journal, next);
             return Ok(());
@@ -368,7 +369,7 @@ impl<R: FileSystem + Drop, O: Outlet + Drop, E: Outlet + Drop> ChipDesk for Syst
         ensures quiet { Leaves (record (with_log_of self.old self.new) { system = self.new.system })
             (writes_to_output self.old) self.old self.new result }
     {
-        if name == "-" {
+        if is_dash(name) {
             return Ok(());
         }
         match self.system.check_named(name, self.replacement.as_ref()) {

@@ -1,19 +1,18 @@
 -- What a true record of a desk shows.
-use Rattle.std.proofs.Common.{◌≡◌, ◌∙◌, sym, ap, subst, refl, ℕ, false, List, [], ◌∷◌, ◌++◌, Option, Some, None}
+use Rattle.std.proofs.Common.{◌≡◌, ◌∙◌, sym, ap, subst, refl, ℕ, false, List, Option, Some, None}
 use Rattle.std.specs.Prelude.{flat_map}
 use Rattle.std.specs.List.{list_any}
-use Rattle.std.specs.Option.{option_map_or}
+use Rattle.std.specs.Option.{option_len, option_map_or}
 use Rattle.std.specs.declared.io.Read.{Ghosts as Reads}
 use Rattle.std.specs.declared.io.Write.{Ghosts as Writes}
 use Rattle.avr_desk.proofs.FileUses.Uses.{files_used}
 use Rattle.avr_desk.specs.Handles.{IsTrueRecord}
-use Rattle.avr_desk.specs.Journal.{FileCall, SystemCalls, all_calls, calls_of, calls_of_record, count_of}
+use Rattle.avr_desk.specs.Journal.{FileCall, SystemCalls, calls_of, calls_of_record}
 use Rattle.avr_desk.specs.Named.{is_dash}
 use Rattle.avr_desk.specs.OpenFile.{is_output}
 use Rattle.avr_desk.specs.Record.{Bytes, Record, all_uses}
 use Rattle.avr_desk.specs.Shown.{IsTrueSince, Shown}
 use Rattle.avr_desk.specs.declared.file_system.FileSystem.{Ghosts}
-use Rattle.avr_desk.specs.declared.record.FileUse.{FileUse}
 use Rattle.avr_desk.specs.declared.record.Writing.{Writing}
 use Rattle.avr_desk.specs.declared.system.OpenFile.{OpenFile}
 use Rattle.avr_desk.specs.declared.system.OpenFile.TheVariants.{Output}
@@ -21,11 +20,7 @@ use Rattle.avr_laws.specs.Recorded.{RecordsFiles, RecordsOutput}
 
 -- ---- files
 
-calls_same : (uses : List FileUse) → all_calls uses ≡ flat_map calls_of uses
-calls_same [] = refl
-calls_same (used ∷ uses) = ap (λ (calls : List FileCall). calls_of used ++ calls) (calls_same uses)
-
-count_same : (held : Option Bytes) → count_of held ≡ option_map_or (λ (name : Bytes). 1) held 0
+count_same : (held : Option Bytes) → option_len held ≡ option_map_or (λ (name : Bytes). 1) held 0
 count_same None = refl
 count_same (Some name) = refl
 
@@ -34,9 +29,7 @@ done_by calls holds = record { calls = calls; holds = holds }
 
 done_same : (r : Record) → calls_of_record r
     ≡ done_by (flat_map calls_of (all_uses r)) (option_map_or (λ (name : Bytes). 1) r.held 0)
-done_same r =
-    ap (λ (calls : List FileCall). done_by calls (count_of r.held)) (calls_same (all_uses r))
-    ∙ ap (done_by (flat_map calls_of (all_uses r))) (count_same r.held)
+done_same r = ap (done_by (flat_map calls_of (all_uses r))) (count_same r.held)
 
 pub files_recorded : {S F I H O E : Type 0} (system : Ghosts S F I H) (reads : Reads F) (writes : Writes F)
     (input : Reads I) (d : Shown S F H I O E)

@@ -1,8 +1,7 @@
 -- The command line: its options, as `clap` reads them, and what they give.
-use Rattle.std.specs.Prelude.{ℕ, true, false, List, [], ◌∷◌, ◌≡◌, Some, codes, pos, Result, IfOk, unwrap_or, fold}
-use Rattle.clap.specs.declared.builder.command.Command.{Command}
+use Rattle.std.specs.Prelude.{ℕ, true, false, List, [], ◌∷◌, ◌≡◌, Some, codes, pos, Result, unwrap_or, fold}
 use Rattle.clap.specs.declared.builder.arg.Arg.{Arg}
-use Rattle.clap.specs.Words.{App, Row, Rule, app_of, rule_of, new_app, new_rule, with_rule, matches_of, first_of, all_of}
+use Rattle.clap.specs.Words.{App, Row, Rule, rule_of, new_app, new_rule, with_rule, matches_of, first_of, all_of}
 use Rattle.clap.specs.declared.builder.ArgAction.{ArgAction}
 use Rattle.clap.specs.declared.builder.ArgAction.TheVariants.{SetTrue, Append, Count}
 use Rattle.clap.specs.declared.builder.value_parser.ValueParser.TheVariants.{Signed}
@@ -56,10 +55,6 @@ option_rule o = kind_rule o.id.now o.kind
 -- the command with these options, too
 abbrev pub with_rules : App → List Rule → App
 with_rules = fold with_rule
-
--- what was built is this command, unless allocation failed
-pub record Builds {E : Type 0} (built : Result Command E) (a : App) : Type 0 where
-  pub shape : IfOk built (λ c. app_of c ≡ a)
 
 -- an option with this rule, of its own command alone
 pub record IsOption (arg : Arg) (rule : Rule) : Type 0 where

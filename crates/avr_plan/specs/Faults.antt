@@ -34,19 +34,13 @@ settings_fault_number Memory = 7
 settings_fault_number NoChip = 8
 
 abbrev pub bad_file_number : BadFile → ℕ
-bad_file_number (Record fault) = 1
-bad_file_number (Raw fault) = 2
-bad_file_number Elf = 3
-bad_file_number TooLong = 4
+bad_file_number fault = elim fault [ Record fault ↦ 1 | Raw fault ↦ 2 | Elf ↦ 3 | TooLong ↦ 4 ]
 
 abbrev pub read_fault_number : ReadFault → ℕ
-read_fault_number (File fault) = 1
-read_fault_number (Image bad) = 2
+read_fault_number fault = elim fault [ File fault ↦ 1 | Image bad ↦ 2 ]
 
 abbrev pub parts_fault_number : PartsFault → ℕ
-parts_fault_number (of_parts.File fault) = 1
-parts_fault_number of_parts.TooLong = 2
-parts_fault_number (of_parts.Parts fault) = 3
+parts_fault_number fault = elim fault [ of_parts.File fault ↦ 1 | of_parts.TooLong ↦ 2 | of_parts.Parts fault ↦ 3 ]
 
 abbrev pub task_fault_number : TaskFault → ℕ
 task_fault_number of_task.ReadOnly = 1
@@ -56,6 +50,5 @@ task_fault_number of_task.Memory = 4
 task_fault_number of_task.Unwarned = 5
 
 abbrev pub plan_fault_number : PlanFault → ℕ
-plan_fault_number (of_plan.PartFile fault) = 1
-plan_fault_number of_plan.NoPart = 2
-plan_fault_number (of_plan.Update index fault) = 3
+plan_fault_number fault =
+    elim fault [ of_plan.PartFile fault ↦ 1 | of_plan.NoPart ↦ 2 | of_plan.Update index fault ↦ 3 ]

@@ -28,18 +28,14 @@ abbrev pub CountsReadFault : DeskState → DeskState → ReadFault → Type 0
 CountsReadFault old new (File fault) = CountsFileFault old new fault
 CountsReadFault old new (Image bad) = HasSameCounts old new
 
--- The open file was read to its end, or its first 1,024 bytes were read.
-pub record ReadsFirstBytes (old new : DeskState) (prefix : FirstBytes) : Type 0 where
-  pub kept : ChangesRecord (after_reading prefix.bytes.items prefix.ended) old new
-  pub enough : MatchBool prefix.ended (length prefix.bytes.items ≤ 1024) (length prefix.bytes.items ≡ 1024)
-
 -- Some bytes of the open file were read, and its end wasn't seen.
 abbrev pub IsReadInPart : DeskState → DeskState → Type 0
 IsReadInPart old new = (bytes : Bytes) × ChangesRecord (after_reading bytes false) old new
 
--- The first bytes were read, or reading failed.
+-- The open file was read to its end, or its first 1,024 bytes were read; or reading failed.
 abbrev pub FirstBytesAreRead : DeskState → DeskState → Result FirstBytes FileFault → Type 0
-FirstBytesAreRead old new (Ok prefix) = ReadsFirstBytes old new prefix
+FirstBytesAreRead old new (Ok prefix) = ChangesRecord (after_reading prefix.bytes.items prefix.ended) old new
+    × MatchBool prefix.ended (length prefix.bytes.items ≤ 1024) (length prefix.bytes.items ≡ 1024)
 FirstBytesAreRead old new (Err fault) = (fault ≡ NotRead) × IsReadInPart old new
 
 -- After `before` the rest of the open file was read, to its end or past the limit. `given` is the image of both.

@@ -7,7 +7,6 @@ use Rattle.avr_image.specs.declared.fault.ImageFault.TheVariants as image_fault
 use Rattle.avr_desk.specs.Lines.{digits, warning, error, file_pieces, memory_pieces, too_long_pieces}
 use Rattle.avr_part.specs.Fault.{field_name}
 use Rattle.avr_part.specs.Mem.{name_of}
-use Rattle.avr_part.specs.declared.fault.Field.{Field}
 use Rattle.avr_part.specs.declared.fault.PartFault.{PartFault}
 use Rattle.avr_part.specs.declared.fault.PartFault.TheVariants as part_fault
 use Rattle.avr_part.specs.declared.part.Mem.{Mem}
@@ -24,14 +23,11 @@ no_end_line file = warning (file ∷ codes ": no end record" ∷ [])
 
 -- ---- parts
 
-abbrev pub field_pieces : Bytes → Field → Bytes → List Bytes
-field_pieces file field text = file ∷ codes ": " ∷ field_name field ∷ text ∷ []
-
 -- Any other fault of a part file is a failed allocation.
 abbrev pub part_file_pieces : Bytes → PartFault → List Bytes
 part_file_pieces file part_fault.NotToml = file ∷ codes ": not TOML" ∷ []
-part_file_pieces file (part_fault.Missing field) = field_pieces file field (codes " is missing")
-part_file_pieces file (part_fault.BadValue field) = field_pieces file field (codes " has a bad value")
+part_file_pieces file (part_fault.Missing field) = file ∷ codes ": " ∷ field_name field ∷ codes " is missing" ∷ []
+part_file_pieces file (part_fault.BadValue field) = file ∷ codes ": " ∷ field_name field ∷ codes " has a bad value" ∷ []
 part_file_pieces file part_fault.BadSizes = file ∷ codes ": sizes do not fit" ∷ []
 part_file_pieces file fault = memory_pieces
 
@@ -49,11 +45,6 @@ no_part_line id = error (no_part_pieces id)
 abbrev pub in_line_pieces : Bytes → ℕ → Bytes → List Bytes
 in_line_pieces file line text = file ∷ codes ": line " ∷ decimal line ∷ text ∷ []
 
-abbrev pub line_range_pieces : Bytes → ℕ → ℕ → List Bytes
-line_range_pieces file line address =
-    file ∷ codes ": line " ∷ decimal line ∷ codes ": address " ∷ digits (big_bytes 4 address)
-    ∷ codes " out of range" ∷ []
-
 -- Any other fault of a record file read in pieces is a failed allocation.
 abbrev pub record_pieces : Bytes → RecordFault → List Bytes
 record_pieces file (record_fault.BadMark line) = in_line_pieces file line (codes ": no record mark")
@@ -61,7 +52,9 @@ record_pieces file (record_fault.BadDigit line) = in_line_pieces file line (code
 record_pieces file (record_fault.BadLength line) = in_line_pieces file line (codes ": bad length")
 record_pieces file (record_fault.BadSum line) = in_line_pieces file line (codes ": bad checksum")
 record_pieces file (record_fault.BadType line) = in_line_pieces file line (codes ": bad record type")
-record_pieces file (record_fault.OutOfRange line address) = line_range_pieces file line address
+record_pieces file (record_fault.OutOfRange line address) =
+    file ∷ codes ": line " ∷ decimal line ∷ codes ": address " ∷ digits (big_bytes 4 address)
+    ∷ codes " out of range" ∷ []
 record_pieces file (record_fault.LineTooLong line) = in_line_pieces file line (codes ": line too long")
 record_pieces file (record_fault.BadCount line) = in_line_pieces file line (codes ": bad record count")
 record_pieces file fault = memory_pieces
@@ -71,13 +64,10 @@ abbrev pub range_pieces : Bytes → ℕ → List Bytes
 range_pieces name address = name ∷ codes ": address " ∷ digits (big_bytes 4 address) ∷ codes " out of range" ∷ []
 
 -- Raw bytes go past the memory. Any other fault of them is a failed allocation.
-abbrev pub raw_pieces : Bytes → ImageFault → List Bytes
-raw_pieces file (image_fault.OutOfRange address) = range_pieces file address
-raw_pieces file fault = memory_pieces
-
 abbrev pub bad_file_pieces : Bytes → BadFile → List Bytes
 bad_file_pieces file (bad_file.Record fault) = record_pieces file fault
-bad_file_pieces file (bad_file.Raw fault) = raw_pieces file fault
+bad_file_pieces file (bad_file.Raw (image_fault.OutOfRange address)) = range_pieces file address
+bad_file_pieces file (bad_file.Raw fault) = memory_pieces
 bad_file_pieces file bad_file.Elf = file ∷ codes ": ELF is not read" ∷ []
 bad_file_pieces file bad_file.TooLong = too_long_pieces file LARGEST_IMAGE_FILE
 
@@ -87,9 +77,6 @@ bad_file_line file bad = error (bad_file_pieces file bad)
 abbrev pub image_pieces : Bytes → ReadFault → List Bytes
 image_pieces file (read_fault.File fault) = file_pieces file fault
 image_pieces file (read_fault.Image bad) = bad_file_pieces file bad
-
-abbrev pub image_line : Bytes → ReadFault → Bytes
-image_line file fault = error (image_pieces file fault)
 
 abbrev pub value_pieces : Mem → ℕ → Bytes → List Bytes
 value_pieces memory place text = name_of memory ∷ codes ": value " ∷ decimal place ∷ text ∷ []

@@ -4,10 +4,10 @@ use Rattle.std.specs.Result.{result_map_both}
 use Rattle.avr_plan.specs.declared.settings.Settings.{Settings}
 use Rattle.avr_plan.specs.declared.update.Update.{Update}
 use Rattle.avr_desk.specs.Fault.{CountsNeverFall, HasFailedToReport}
-use Rattle.avr_desk.specs.Lines.{file_fault_line, memory_line, too_long_line}
+use Rattle.avr_desk.specs.Lines.{error, file_fault_line, memory_line, too_long_line}
 use Rattle.avr_desk.specs.Record.{DeskState, Bytes}
 use Rattle.avr_desk.specs.OutputEvents.{ReportsLine}
-use Rattle.avr_plan.specs.Lines.{image_line, no_part_line, part_file_line, read_only_line, values_line}
+use Rattle.avr_plan.specs.Lines.{image_pieces, no_part_line, part_file_line, read_only_line, values_line}
 use Rattle.avr_plan.specs.declared.part_choice.TheConstants.{LARGEST_PART_FILE}
 use Rattle.avr_plan.specs.declared.plan_fault.PartsFault.{PartsFault}
 use Rattle.avr_plan.specs.declared.plan_fault.PartsFault.TheVariants as of_parts
@@ -35,7 +35,7 @@ ReportsPartsFault None old new fault = ⊥
 abbrev pub ReportsTaskFault : Update → DeskState → DeskState → TaskFault → Type 0
 ReportsTaskFault u old new ReadOnly = ReportsLast (read_only_line u.memory) old new
 ReportsTaskFault u old new (Values fault) = ReportsLast (values_line u.memory fault) old new
-ReportsTaskFault u old new (File fault) = ReportsLast (image_line u.file fault) old new
+ReportsTaskFault u old new (File fault) = ReportsLast (error (image_pieces u.file fault)) old new
 ReportsTaskFault u old new Memory = ReportsLast memory_line old new
 ReportsTaskFault u old new Unwarned = HasFailedToReport old new
 

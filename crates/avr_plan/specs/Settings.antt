@@ -4,14 +4,14 @@ use Rattle.std.specs.Prelude.{if◌then◌else◌, ⊤, ok_or}
 use Rattle.std.specs.Option.{option_map_or}
 use Rattle.std.specs.Result.{result_map_both}
 use Rattle.std.specs.Str.{bytes_eq}
+use Rattle.avr_desk.specs.Named.{is_dash}
 use Rattle.clap.specs.Words.{Row, first_of, count_of}
 use Rattle.avr_part.specs.PartFile.{Bytes, ◌>>=◌}
 use Rattle.avr_plan.specs.Port.{port_number, port_of_option, port_to_serve}
-use Rattle.avr_plan.specs.Standard.{is_standard, is_port_taken, uses_input}
+use Rattle.avr_plan.specs.Standard.{is_port_taken, uses_input}
 use Rattle.avr_plan.specs.Update.{update_of}
 use Rattle.avr_plan.specs.declared.update.Update.{Update}
 use Rattle.avr_plan.specs.declared.settings.Port.{Port}
-use Rattle.avr_plan.specs.declared.settings.Port.TheVariants.{Stdio}
 use Rattle.avr_plan.specs.declared.settings.Switches.{Switches}
 use Rattle.avr_plan.specs.declared.settings.Settings.{Settings}
 use Rattle.avr_plan.specs.declared.settings.SettingsFault.{SettingsFault}
@@ -65,7 +65,7 @@ updates_of texts = if nat_lt 16 (length texts) then Err TooMany else updates_fro
 -- of `--parts` and `--chip`
 abbrev pub checked_streams : Port → List Update → Option Bytes → Option Bytes → Result ⊤ SettingsFault
 checked_streams port updates parts chip =
-    if (option_map_or is_standard parts false || option_map_or is_standard chip false)
+    if (option_map_or is_dash parts false || option_map_or is_dash chip false)
     || (is_port_taken port updates || nat_le 2 (count_by uses_input updates)) then Err StandardTaken else Ok tt
 
 -- inside: the standard streams are free, and these are the part and the part file; or why there are none
@@ -104,16 +104,12 @@ run_settings part e = do
 abbrev pub no_switches : Switches
 no_switches = switches_of []
 
--- the settings of a run over a caller's own link: a session with this part and no updates; its port is not used
-abbrev pub link_settings : Bytes → Settings
-link_settings part = record { part = part; port = Stdio; parts = None; updates = []; switches = no_switches }
-
 -- the settings of an emulator that serves at a port; programmer, updates and switches don't count
 abbrev pub serve_settings : Bytes → Bytes → Entries → Result Settings SettingsFault
 serve_settings part text e = do
   port ← port_to_serve text (port_number text) e.chip
   streams ← checked_streams port [] e.parts e.chip
-  Ok (record { part = part; port = port; parts = e.parts; updates = []; switches = switches_of [] })
+  Ok (record { part = part; port = port; parts = e.parts; updates = []; switches = no_switches })
 
 -- the settings of a service if `--serve` is given, else of a run
 abbrev pub settings_of : Entries → Result Settings SettingsFault

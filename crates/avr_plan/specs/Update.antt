@@ -65,15 +65,13 @@ update_by memory op named = do
   format ← if length named.0 == 0 then Err NoFile else ok_or (format_of op named.1) BadFormat
   Ok (record { memory = memory; op = op; format = format; file = named.0 })
 
--- what follows a memory's colon: the operation up to the next colon, or the end, and the file after it
-abbrev pub update_after : Mem → Bytes → Result Update UpdateFault
-update_after memory after =
-    let parts = unwrap_or (split_first after) (after, []) in
-    ok_or (op_named parts.0) BadOp >>= (λ op. update_by memory op (file_and_letter parts.1))
-
--- inside: an update with this operation's name, and what follows its colon
+-- an update with this operation's name, and what follows its colon
 abbrev pub update_with_op : Mem → Bytes → Bytes → Result Update UpdateFault
 update_with_op memory op rest = ok_or (op_named op) BadOp >>= (λ op. update_by memory op (file_and_letter rest))
+
+-- what follows a memory's colon: the operation up to the next colon, or the end, and the file after it
+abbrev pub update_after : Mem → Bytes → Result Update UpdateFault
+update_after memory after = let p = unwrap_or (split_first after) (after, []) in update_with_op memory p.0 p.1
 
 -- a text without a colon is a file, written to flash in the format that its first bytes show
 abbrev pub update_of : Bytes → Result Update UpdateFault

@@ -7,12 +7,14 @@ ghost use Rattle.avr_plan.specs.Settings.{GivesUnlessOutOfMemory, ReportsAnyway,
 ghost use Rattle.avr_plan.specs.Update.{update_of};
 ghost use Rattle.std.specs.Option.{option_map_or};
 ghost use Rattle.std.specs.List.{list_any};
-ghost use Rattle.avr_plan.specs.Standard.{is_standard, uses_standard, uses_input, is_port_taken};
+ghost use Rattle.avr_desk.specs.Named.{is_dash};
+ghost use Rattle.avr_plan.specs.Standard.{uses_standard, uses_input, is_port_taken};
 
 use crate::ports::{port_given, served};
 use crate::settings::{Port, Settings, SettingsFault, Switches};
 use crate::text::{Text, owned, owned_option};
 use crate::update::{Format, Op, Update, UpdateFault, Updates, parse_update};
+use avr_desk::is_dash;
 use clap::ArgMatches;
 use std::alloc::Global;
 
@@ -189,17 +191,11 @@ pub fn read_settings(alloc: Global, matches: &ArgMatches<'_>) -> Result<Settings
     }
 }
 
-fn is_standard(name: &str) -> bool
-    ensures { result ≡ is_standard name.now }
-{
-    name == "-"
-}
-
-fn is_given_standard(file: Option<&str>) -> bool
-    ensures { result ≡ option_map_or is_standard (option_map (λ s. s.now) file.entry) false }
+fn is_given_dash(file: Option<&str>) -> bool
+    ensures { result ≡ option_map_or is_dash (option_map (λ s. s.now) file.entry) false }
 {
     match file {
-        Some(name) => is_standard(name),
+        Some(name) => is_dash(name),
         None => false,
     }
 }
@@ -208,7 +204,7 @@ fn is_given_standard(file: Option<&str>) -> bool
 fn uses_standard(update: &Update) -> bool
     ensures { result ≡ uses_standard update.now }
 {
-    is_standard(update.file.as_str()) && !matches!(update.format, Format::Immediate)
+    is_dash(update.file.as_str()) && !matches!(update.format, Format::Immediate)
 }
 
 /// Returns whether the update reads standard input.
@@ -237,9 +233,9 @@ fn is_port_taken(port: &Port, updates: &[Update]) -> bool
 {
     match port {
         Port::Stdio => any_standard(updates),
-        Port::Emulated(file) => is_standard(file.as_str()),
+        Port::Emulated(file) => is_dash(file.as_str()),
         Port::Network(_) => false,
-        Port::Served { chip, .. } => is_standard(chip.as_str()),
+        Port::Served { chip, .. } => is_dash(chip.as_str()),
     }
 }
 
@@ -254,8 +250,8 @@ pub(crate) fn check_streams(
     ensures { result ≡ checked_streams port.now updates.now (option_map (λ s. s.now) parts.entry)
         (option_map (λ s. s.now) chip.entry) }
 {
-    let is_taken = is_given_standard(parts)
-        || is_given_standard(chip)
+    let is_taken = is_given_dash(parts)
+        || is_given_dash(chip)
         || is_port_taken(port, updates)
         || inputs(updates) >= 2;
     if is_taken {

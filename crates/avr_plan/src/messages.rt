@@ -1,5 +1,6 @@
-ghost use Rattle.std.specs.Prelude.{◌≡◌};
-ghost use Rattle.avr_plan.specs.Lines.{bad_file_pieces, field_pieces, image_pieces, in_line_pieces, line_range_pieces, no_part_pieces, part_file_pieces, range_pieces, raw_pieces, read_only_pieces, record_pieces, value_pieces, values_pieces};
+ghost use Rattle.std.specs.Prelude.{◌≡◌, ◌∷◌, [], codes};
+ghost use Rattle.avr_part.specs.Fault.{field_name};
+ghost use Rattle.avr_plan.specs.Lines.{bad_file_pieces, image_pieces, in_line_pieces, no_part_pieces, part_file_pieces, range_pieces, read_only_pieces, record_pieces, value_pieces, values_pieces};
 
 use crate::image_file::{LARGEST_IMAGE_FILE, ReadFault};
 use crate::intake::BadFile;
@@ -9,7 +10,7 @@ use avr_part::{Field, Mem, PartFault};
 use avr_records::RecordFault;
 
 fn field_message<'a>(file: &'a str, field: Field, wrong: &'a str) -> Message<'a>
-    ensures { result ≡ field_pieces file.now field wrong.now }
+    ensures { result ≡ file.now ∷ codes ": " ∷ field_name field ∷ wrong.now ∷ [] }
 {
     Message::new(&[
         Piece::Text(file),
@@ -49,19 +50,6 @@ fn in_line_message<'a>(file: &'a str, line: u32, wrong: &'a str) -> Message<'a>
     ])
 }
 
-fn line_range_message<'a>(file: &'a str, line: u32, address: u32) -> Message<'a>
-    ensures { result ≡ line_range_pieces file.now line address }
-{
-    Message::new(&[
-        Piece::Text(file),
-        Piece::Text(": line "),
-        Piece::Number(line),
-        Piece::Text(": address "),
-        Piece::Address(address),
-        Piece::Text(" out of range"),
-    ])
-}
-
 fn record_message<'a>(file: &'a str, fault: RecordFault) -> Message<'a>
     ensures { result ≡ record_pieces file.now fault }
 {
@@ -71,7 +59,14 @@ fn record_message<'a>(file: &'a str, fault: RecordFault) -> Message<'a>
         RecordFault::BadLength(line) => in_line_message(file, line, ": bad length"),
         RecordFault::BadSum(line) => in_line_message(file, line, ": bad checksum"),
         RecordFault::BadType(line) => in_line_message(file, line, ": bad record type"),
-        RecordFault::OutOfRange(line, address) => line_range_message(file, line, address),
+        RecordFault::OutOfRange(line, address) => Message::new(&[
+            Piece::Text(file),
+            Piece::Text(": line "),
+            Piece::Number(line),
+            Piece::Text(": address "),
+            Piece::Address(address),
+            Piece::Text(" out of range"),
+        ]),
         RecordFault::LineTooLong(line) => in_line_message(file, line, ": line too long"),
         RecordFault::BadCount(line) => in_line_message(file, line, ": bad record count"),
         // A file that is read in pieces has none of these, unless allocation fails.
@@ -90,22 +85,14 @@ fn range_message<'a>(name: &'a str, address: u32) -> Message<'a>
     ])
 }
 
-fn raw_message<'a>(file: &'a str, fault: ImageFault) -> Message<'a>
-    ensures { result ≡ raw_pieces file.now fault }
-{
-    match fault {
-        ImageFault::OutOfRange(address) => range_message(file, address),
-        // A raw file has no other fault, except that allocation failed.
-        _ => memory_message(),
-    }
-}
-
 fn bad_file_message<'a>(file: &'a str, fault: BadFile) -> Message<'a>
     ensures { result ≡ bad_file_pieces file.now fault }
 {
     match fault {
         BadFile::Record(fault) => record_message(file, fault),
-        BadFile::Raw(fault) => raw_message(file, fault),
+        BadFile::Raw(ImageFault::OutOfRange(address)) => range_message(file, address),
+        // A raw file has no other fault, except that allocation failed.
+        BadFile::Raw(_) => memory_message(),
         BadFile::Elf => Message::about(file, ": ELF is not read"),
         BadFile::TooLong => too_long_message(file, LARGEST_IMAGE_FILE as u32),
     }

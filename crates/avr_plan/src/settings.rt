@@ -1,7 +1,7 @@
 //! The settings of a run, and why a command line has none.
-ghost use Rattle.std.specs.Prelude.{◌≡◌, IfOk};
+ghost use Rattle.std.specs.Prelude.{◌≡◌, [], None, IfOk};
 ghost use Rattle.avr_plan.specs.Faults.{settings_fault_number};
-ghost use Rattle.avr_plan.specs.Settings.{link_settings, no_switches};
+ghost use Rattle.avr_plan.specs.Settings.{no_switches};
 
 use crate::text::Text;
 use crate::update::{UpdateFault, Updates};
@@ -93,7 +93,8 @@ impl Settings {
     /// settings.switches.erase = true;
     /// ```
     pub fn for_link(alloc: Global, part: &str) -> Result<Settings, AllocError>
-        ensures { IfOk result (λ s. s ≡ link_settings part.now) }
+        ensures { IfOk result (λ s. s
+            ≡ record { part = part.now; port = Port.Stdio; parts = None; updates = []; switches = no_switches }) }
     {
         Ok(Settings {
             part: Text::new(alloc, part)?,

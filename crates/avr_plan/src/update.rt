@@ -119,19 +119,19 @@ pub struct Update {
 pub enum UpdateFault {
     /// No memory has the name before the first colon.
     #[error("no such memory")]
-    BadMemory,
+    BadMemory = 1,
     /// The operation is missing, or not `r`, `w` or `v`.
     #[error("no such operation")]
-    BadOp,
+    BadOp = 2,
     /// The letter names no format of this operation.
     #[error("no such format here")]
-    BadFormat,
+    BadFormat = 3,
     /// The file's name is empty or missing.
     #[error("no file named")]
-    NoFile,
+    NoFile = 4,
     /// Allocation failed.
     #[error("out of memory")]
-    Memory,
+    Memory = 5,
 }
 
 impl UpdateFault {
@@ -143,13 +143,7 @@ impl UpdateFault {
     pub fn number(&self) -> u8
         ensures { result ≡ update_fault_number self.now }
     {
-        match self {
-            UpdateFault::BadMemory => 1,
-            UpdateFault::BadOp => 2,
-            UpdateFault::BadFormat => 3,
-            UpdateFault::NoFile => 4,
-            UpdateFault::Memory => 5,
-        }
+        *self as u8
     }
 }
 

@@ -1,5 +1,6 @@
 -- A held file that is replaced and then released.
-use Rattle.std.specs.Prelude.{MatchResult, Result, Ok, Err}
+use Rattle.std.proofs.Common.{rules}
+use Rattle.std.specs.Prelude.{MatchResult, Result}
 use Rattle.ghosts.specs.Preserves.{Preserves}
 use Rattle.avr_desk.specs.Journal.{ChangesCalls, SystemCalls, with_calls, with_one_more_held, made}
 use Rattle.avr_desk.specs.Record.{Bytes}
@@ -11,7 +12,4 @@ pub put_and_left : {S A E : Type 0} (Replaced : Type 0) (has_done : SystemCalls 
     → ((done : SystemCalls) → has_done (with_one_more_held done) put → has_done done new)
     → MatchResult result (λ done. Replaced × ChangesCalls has_done (with_calls (made name)) old new)
     (λ error. Preserves has_done old new)
-put_and_left Replaced has_done name (Ok a) holds (replaced, makes) leaves =
-    (replaced, λ done was. leaves (with_calls (made name) done) (makes (with_one_more_held done) (holds done was)))
-put_and_left Replaced has_done name (Err e) holds stays leaves =
-    λ done was. leaves done (stays (with_one_more_held done) (holds done was))
+put_and_left Replaced has_done name result holds put leaves = search rules

@@ -1,13 +1,13 @@
 -- A desk in memory: its record stays true of the files that it began with, call after call.
-use Rattle.std.proofs.Common.{◌≡◌, ◌∙◌, sym, ap, subst, refl, arith, ℕ, ◌==◌, ◌&&◌, ◌||◌, not, Bool, false, List, [], ◌∷◌, ◌++◌, append_assoc, append-nil, take, drop, length, Some, None, min, if◌then◌else◌, rules}
+use Rattle.std.proofs.Common.{◌≡◌, sym, subst, arith, ℕ, ◌==◌, ◌&&◌, ◌||◌, not, Bool, false, List, [], ◌∷◌, ◌++◌, append_assoc, append-nil, take, drop, length, Some, None, min, if◌then◌else◌, rules}
 use Rattle.std.proofs.Math.Seq.{drop-append_seam}
 use Rattle.std.proofs.lemmas.Bool.Decides.{nat_tests}
 use Rattle.std.proofs.lemmas.Grind.{common_steps}
 use Rattle.std.proofs.lemmas.List.{take-append-drop}
 use Rattle.ghosts.specs.Preserves.{Preserves}
-use Rattle.avr_desk.specs.Memory.{MemDeskState, Stock, stock_of, content_of_name, contents, updated}
+use Rattle.avr_desk.specs.Memory.{MemDeskState, Stock, contents, updated}
 use Rattle.avr_desk.specs.Named.{bytes_given}
-use Rattle.avr_desk.specs.Record.{Bytes, all_files, all_uses, files_among, noted, nothing_kept, with_absent, with_open, with_replaced, written_on}
+use Rattle.avr_desk.specs.Record.{Bytes, all_uses, files_among, noted, with_absent, with_open, with_replaced, written_on}
 use Rattle.avr_desk.proofs.FileUses.Uses.{files_used}
 use Rattle.avr_desk.specs.Truth.{IsReadPrefix, OpeningsAreTrue, HoldsTrue}
 use Rattle.avr_desk.specs.declared.record.FileUse.{FileUse}
@@ -38,71 +38,39 @@ true_behind stock made (Created file ∷ first) last are =
 
 -- so all openings were true, by the files that had been made
 pub all_true : (stock : Stock) (m : MemDeskState) → HoldsTrue stock m → OpeningsAreTrue stock [] (all_uses m.kept)
-all_true stock m holds = grind (arith, nat_tests, true_append)
-
--- a new desk has the files that it begins with
-pub begins_true : (m : MemDeskState) → m.kept ≡ nothing_kept → HoldsTrue (stock_of m) m
-begins_true m fresh = grind (arith, nat_tests)
+all_true stock m holds = search (rules, true_append)
 
 -- ---- one call
-
--- a call doesn't change what the desk began with
-stock_same : (old new : MemDeskState) → new.input ≡ old.input → new.stored ≡ old.stored → stock_of new ≡ stock_of old
-stock_same old new input stored = search rules
 
 -- the same uses and open file
 pub same_true : (old new : MemDeskState) → new.input ≡ old.input → new.stored ≡ old.stored → new.opened ≡ old.opened
     → new.kept.uses ≡ old.kept.uses → new.kept.current ≡ old.kept.current → Preserves HoldsTrue old new
 same_true old new input stored opened uses current = search rules
 
--- a name has the same bytes as before, among all files
-stands : (stock : Stock) (m : MemDeskState) (name : Bytes) → HoldsTrue stock m
-    → contents name m ≡ content_of_name stock (all_files m.kept) name
-stands stock m name holds = ap (λ (s : Stock). content_of_name s (all_files m.kept) name) holds.began
-
 pub created_true : (name : Bytes) (old new : MemDeskState)
     → new ≡ updated (with_open (ToWrite (record { name = name; bytes = [] })) old.kept) old new
     → Preserves HoldsTrue old new
-created_true name old new is = λ stock holds. subst (HoldsTrue stock) (sym is)
-    (record { began = holds.began; uses = all_true stock old holds; current = tt })
+created_true name old new is = search (rules, all_true)
 
 pub replaced_true : (name bytes : Bytes) (old new : MemDeskState)
     → new ≡ updated (with_replaced name bytes old.kept) old new → Preserves HoldsTrue old new
-replaced_true name bytes old new is = λ stock holds. subst (HoldsTrue stock) (sym is) (record {
-  began = holds.began;
-  uses = true_append stock [] (all_uses old.kept) _ (all_true stock old holds) tt;
-  current = tt;
-})
+replaced_true name bytes old new is = search (rules, all_true, true_append)
 
 pub absent_true : (name : Bytes) (old new : MemDeskState) → contents name old ≡ None
     → new ≡ record (updated (with_absent name old.kept) old new) { opened = new.opened }
     → Preserves HoldsTrue old new
-absent_true name old new none is = λ stock holds. subst (HoldsTrue stock) (sym is) (record {
-  began = holds.began;
-  uses = true_append stock [] (all_uses old.kept) _ (all_true stock old holds) (
-    ap (λ fs. content_of_name stock fs name) (files_used old.kept) ∙ sym (stands stock old name holds) ∙ none,
-    tt,
-  );
-  current = tt;
-})
+absent_true name old new none is = search (rules, all_true, true_append, files_used)
 
 -- a file with these bytes is opened
 pub opened_true : (name : Bytes) (old new : MemDeskState) → contents name old ≡ Some new.opened
     → new ≡ record (updated (with_open (ToRead (record { name = name; bytes = []; ended = false })) old.kept) old new)
     { opened = new.opened } → Preserves HoldsTrue old new
-opened_true name old new there is = λ stock holds. subst (HoldsTrue stock) (sym is) (record {
-  began = holds.began;
-  uses = all_true stock old holds;
-  current = (
-    ap (λ fs. content_of_name stock fs name) (files_used old.kept) ∙ sym (stands stock old name holds) ∙ there,
-    record { unread = new.opened; whole = refl; ends = λ e. absurd (cc) },
-  );
-})
+opened_true name old new there is = search (rules, all_true, files_used)
 
 -- the state that a desk shows is the one inside
 pub from_inside : (inside now new : MemDeskState) → inside ≡ now → Preserves HoldsTrue inside new
     → Preserves HoldsTrue now new
-from_inside inside now new is stays = λ stock holds. stays stock (subst (HoldsTrue stock) (sym is) holds)
+from_inside inside now new is stays = rw (← is) stays
 
 -- bytes of the open file are read, or its end is seen, which needs room in the buffer
 module _ (old new : MemDeskState) (ends : Bool) (n room : ℕ) (whole gave piece : Bytes) (whole_is : whole ≡ old.opened)
@@ -122,7 +90,7 @@ module _ (old new : MemDeskState) (ends : Bool) (n room : ℕ) (whole gave piece
   pub read_true : (ok : Bool) → new.kept.uses ≡ old.kept.uses
       → new.kept.current ≡ (if ok then noted piece ends old.kept.current else old.kept.current) → new.opened
       ≡ old.opened → Preserves HoldsTrue old new
-  read_true ok uses current same = search (rules, stock_same, prefix_on)
+  read_true ok uses current same = search (rules, prefix_on)
 
 pub written_true : (bytes : Bytes) (old new : MemDeskState) → new.input ≡ old.input → new.stored ≡ old.stored
     → new.opened ≡ old.opened

@@ -1,22 +1,19 @@
 -- The system calls that uses of files show.
-use Rattle.std.proofs.Common.{◌≡◌, ap, refl, Bool, true, false, List, [], ◌∷◌, ◌++◌, if◌then◌else◌, rules}
-use Rattle.avr_desk.specs.Journal.{Gives, Makes, Opens, FileCall, all_calls, calls_of, made}
+use Rattle.std.proofs.Common.{◌≡◌, ap, Bool, true, false, [], ◌∷◌, ◌++◌, flat_map, if◌then◌else◌, rules}
+use Rattle.std.proofs.lemmas.Grind.{flat_map-append}
+use Rattle.avr_desk.specs.Journal.{Gives, Makes, Opens, FileCall, calls_of, made}
 use Rattle.avr_desk.specs.Named.{is_dash}
 use Rattle.avr_desk.specs.Record.{Bytes, Record, all_uses, use_of, with_open, with_replaced}
 use Rattle.avr_desk.specs.declared.record.FileUse.{FileUse}
 use Rattle.avr_desk.specs.declared.record.Open.{Open}
 
-pub calls_append : (first last : List FileUse) → all_calls (first ++ last) ≡ all_calls first ++ all_calls last
-calls_append [] last = refl
-calls_append (used ∷ first) last = search (rules, calls_append first last)
-
 pub calls_opened : (o : Open) (used : FileUse) (r : Record) → use_of o ≡ used ∷ []
-    → all_calls (all_uses (with_open o r)) ≡ all_calls (all_uses r) ++ calls_of used
-calls_opened o used r is = search (rules, calls_append)
+    → flat_map calls_of (all_uses (with_open o r)) ≡ flat_map calls_of (all_uses r) ++ calls_of used
+calls_opened o used r is = search (rules, flat_map-append)
 
 pub calls_replaced : (name bytes : Bytes) (r : Record)
-    → all_calls (all_uses (with_replaced name bytes r)) ≡ all_calls (all_uses r) ++ made name
-calls_replaced name bytes r = search (rules, calls_append)
+    → flat_map calls_of (all_uses (with_replaced name bytes r)) ≡ flat_map calls_of (all_uses r) ++ made name
+calls_replaced name bytes r = search (rules, flat_map-append)
 
 -- ---- `-` is standard input and output
 

@@ -1,9 +1,9 @@
 -- Pieces of a line, written one after another.
 use Rattle.std.proofs.lemmas.Grind.{common_steps}
 use Rattle.std.proofs.lemmas.Bool.Decides.{nat_tests}
-use Rattle.std.proofs.Common.{◌≡◌, ap, refl, subst, arith, ℕ, ◌+◌, List, [], ◌∷◌, ◌++◌, append_assoc, append-nil, take, drop, length, map, get_or, ◌<◌, ◌≤◌, OnOk, OnErr, Result, Ok, Err}
+use Rattle.std.proofs.Common.{◌≡◌, refl, subst, arith, ℕ, ◌+◌, List, [], ◌∷◌, ◌++◌, append_assoc, append-nil, take, drop, length, map, get_or, ◌<◌, ◌≤◌, OnOk, OnErr, Result, Ok, Err}
 use Rattle.std.specs.List.{concat}
-use Rattle.std.proofs.lemmas.List.{drop_more, length-append, take-append-drop, take_all}
+use Rattle.std.proofs.lemmas.List.{drop_more, take-append-drop, take_all}
 use Rattle.avr_desk.specs.Record.{Record, after_err, showing}
 use Rattle.avr_desk.specs.Stream.{SendsPart}
 use Rattle.avr_desk.specs.declared.stream.Stream.TheVariants.{Messages}
@@ -35,21 +35,7 @@ all_text_more ps i d l = grind (arith, common_steps, all_text-append, append-nil
 pub line_longer : (mark so_far : List ℕ) (ps : List Piece) (i : ℕ) (d : Piece) (room : ℕ) → i < length ps
     → so_far ≡ mark ++ all_text (take i ps) → room < length so_far + length (text_of (get_or ps i d))
     → room < length (line mark (map text_of ps))
-line_longer mark so_far ps i d room within is over =
-    let before = all_text (take i ps) in
-    let it = text_of (get_or ps i d) in
-    let after = all_text (drop (i + 1) ps) in
-    omega (
-      arith,
-      over,
-      ap length is,
-      length-append mark before,
-      length-append mark (all_text ps ++ 10 ∷ []),
-      length-append (all_text ps) (10 ∷ []),
-      ap length (all_text_at ps i d within),
-      length-append before (it ++ after),
-      length-append it after,
-    )
+line_longer mark so_far ps i d room within is over = grind (arith, common_steps, all_text_at ps i d within)
 
 -- a part of the ith piece was sent after the mark and the pieces before; without the counts
 pub line_breaks : (old now new : Record) (mark : List ℕ) (ps : List Piece) (i : ℕ) (d : Piece) → i < length ps

@@ -3,7 +3,7 @@ use Rattle.std.proofs.lemmas.Bool.Decides.{nat_tests}
 use Rattle.std.proofs.Common.{◌≡◌, ◌∙◌, ap, arith, ℕ, ◌+◌, ◌-◌, ◌++◌, append_assoc, take, drop, length, [], ◌≤◌, rules}
 use Rattle.std.proofs.Math.Seq.{take-add, take-append-add}
 use Rattle.std.proofs.lemmas.Grind.{common_steps}
-use Rattle.std.proofs.lemmas.List.{length-append, length-drop, take-append-le}
+use Rattle.std.proofs.lemmas.List.{take-append-le}
 use Rattle.avr_desk.specs.Record.{Record, Bytes, showing}
 use Rattle.avr_desk.specs.Stream.{after_sent, SendsPart}
 use Rattle.avr_desk.specs.declared.stream.Stream.{Stream}
@@ -30,12 +30,8 @@ pub sent_on_part : (s : Stream) (old now new : Record) (bytes : Bytes) (m : ℕ)
     → now ≡ after_sent s (take m bytes) old
     → SendsPart s (showing now 0 0) (showing new 0 0) (take (length bytes - m) (drop m bytes))
     → SendsPart s (showing old 0 0) (showing new 0 0) bytes
-sent_on_part s old now new bytes m within first part =
-    let size : length (take (length bytes - m) (drop m bytes)) ≡ length bytes - m =
-    ap length (slice_rest bytes m) ∙ length-drop m bytes in
-    let n : ℕ = part.0 in
-    let bound : n ≤ length (take (length bytes - m) (drop m bytes)) = part.1 in
-    (m + n, omega (arith, size, bound, within), sent_on s old now new bytes m n first part.2)
+sent_on_part s old now new bytes m within first (n, bound, then) =
+    (m + n, grind (arith, common_steps), sent_on s old now new bytes m n first then)
 
 -- some bytes are sent, then others
 pub sent_next : (s : Stream) (old now new : Record) (a b : Bytes) → now ≡ after_sent s a old → new ≡ after_sent s b now
@@ -46,9 +42,8 @@ sent_next s old now new a b first then = then ∙ ap (after_sent s b) first ∙ 
 pub sent_next_part : (s : Stream) (old now new : Record) (a b c : Bytes) → now ≡ after_sent s a old
     → SendsPart s (showing now 0 0) (showing new 0 0) b
     → SendsPart s (showing old 0 0) (showing new 0 0) (a ++ (b ++ c))
-sent_next_part s old now new a b c first then =
-    let e = sent_next s old now new a (take then.0 b) first then.2 in
-    let within : then.0 ≤ length b = then.1 in
-    let cut : take (length a + then.0) (a ++ (b ++ c)) ≡ a ++ take then.0 b =
-    take-append-add a (b ++ c) then.0 ∙ ap (λ (x : Bytes). a ++ x) (take-append-le then.0 b c within) in grind
-    (arith, nat_tests, length-append)
+sent_next_part s old now new a b c first (n, within, then) = (
+  length a + n,
+  grind (arith, common_steps),
+  grind (arith, common_steps, sent_next, take-append-add, take-append-le),
+)

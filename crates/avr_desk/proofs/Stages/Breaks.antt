@@ -11,7 +11,7 @@ use Rattle.avr_desk.specs.declared.record.Reading.{Reading}
 use Rattle.avr_desk.specs.Lines.{memory_line, not_opened_line}
 use Rattle.avr_desk.specs.OutputEvents.{OutputEvent, Opens, PrintsLine, ReportsLineAs, ReportsFailureAs, after, after_events}
 use Rattle.avr_desk.proofs.Stages.Outputs.{after_append}
-use Rattle.avr_desk.proofs.FileUses.Uses.{openings_append}
+use Rattle.std.proofs.lemmas.List.Elements.{filter_map-append}
 use Rattle.avr_desk.specs.StageRuns.{BreakCause, NoMemory, NoMemoryForFile, events_of_break, BreakFitsNext, AllocationPoints, AllocatesThere, ReportsBreakAs, StageRefused, RunsStage}
 use Rattle.avr_desk.specs.Stage.{Stage, Refused, StageResult, events_with_refusal, ◌>>=◌, next_opening, file_stage}
 use Rattle.avr_desk.proofs.Stages.Played.{output_more}
@@ -20,10 +20,12 @@ use Rattle.avr_desk.proofs.Stages.Played.{output_more}
 
 -- So a status other than that of a plan is the refusal that the stage returns.
 pub sound_refusal : {A : Type 0} (taking : AllocationPoints) (stage : Stage A) (before after : Record)
-    (k l m n status : ℕ) → NoFailureCounted k l → ((prefix : Bytes) → after.messages ≡ prefix ++ memory_line → ⊥)
-    → RunsStage taking stage (showing before k m) (showing after l n) (Err status)
-    → StageRefused stage (showing before k m) (showing after l n)
-sound_refusal taking stage before after k l m n status sound other l' = search (rules, nat_tests, after_append)
+    (failed failed_now unprinted unprinted_now status : ℕ) → NoFailureCounted failed failed_now
+    → ((prefix : Bytes) → after.messages ≡ prefix ++ memory_line → ⊥)
+    → RunsStage taking stage (showing before failed unprinted) (showing after failed_now unprinted_now) (Err status)
+    → StageRefused stage (showing before failed unprinted) (showing after failed_now unprinted_now)
+sound_refusal taking stage before after failed failed_now unprinted unprinted_now status sound other goes =
+    search (rules, nat_tests, after_append)
 
 -- ---- what openings a desk shows
 
@@ -36,7 +38,7 @@ openings_in [] = []
 openings_in (event ∷ events) = opening_in event ++ openings_in events
 
 one_shown : (event : OutputEvent) (r : Record) → all_openings (after event r) ≡ all_openings r ++ opening_in event
-one_shown event r = search (rules, nat_tests, openings_append, append-nil)
+one_shown event r = search (rules, nat_tests, filter_map-append, append-nil)
 
 -- each opening is shown
 pub openings_shown : (events : List OutputEvent) (r : Record)
@@ -77,12 +79,12 @@ only_reported r notice line kept = grind (arith, nat_tests, append_cancel_left)
 -- A stage that begins like this, at a desk that shows no opening. Either the file could not be opened, and that was
 -- reported; or an allocation before any output failed, and that was reported.
 module _ {A : Type 0} (taking : AllocationPoints) (name notice : Bytes) (stage : Stage A) (begins : Begins name stage)
-    (r : Record) (k l m n : ℕ) where
+    (r : Record) (failed failed_now unprinted unprinted_now : ℕ) where
   abbrev Old : DeskState
-  Old = showing r k m
+  Old = showing r failed unprinted
 
   abbrev New : DeskState
-  New = showing (after_err notice r) l n
+  New = showing (after_err notice r) failed_now unprinted_now
 
   abbrev ReportedAs : Type 0
   ReportedAs = ReportsFailureAs (not_opened_line name) notice Old New
@@ -116,7 +118,8 @@ module _ {A : Type 0} (taking : AllocationPoints) (name notice : Bytes) (stage :
 
 -- it was read to its end, and this is its outcome
 module _ {A : Type 0} (name : Bytes) (limit : ℕ) (judge : Bytes → Result A Bytes) (bytes notice : Bytes) (good : A)
-    (given : judge bytes ≡ Ok good) (taking : AllocationPoints) (r : Record) (k l m n : ℕ) where
+    (given : judge bytes ≡ Ok good) (taking : AllocationPoints) (r : Record)
+    (failed failed_now unprinted unprinted_now : ℕ) where
   abbrev reading : Reading
   reading = record { name = name; bytes = bytes; ended = true }
 
@@ -124,10 +127,10 @@ module _ {A : Type 0} (name : Bytes) (limit : ℕ) (judge : Bytes → Result A B
   done = Opens (Found reading) ∷ PrintsLine notice ∷ []
 
   abbrev Before : DeskState
-  Before = showing r k m
+  Before = showing r failed unprinted
 
   abbrev After : DeskState
-  After = showing (after_events done r) l n
+  After = showing (after_events done r) failed_now unprinted_now
 
   -- a break before the file was opened or while it was, or after it, if nothing more is reported
   by_prefix : (openings : List Opening) (whole later : List OutputEvent) (break : BreakCause) (line : Bytes)
@@ -154,12 +157,12 @@ module _ {A : Type 0} (name : Bytes) (limit : ℕ) (judge : Bytes → Result A B
 module _ {A : Type 0} (line notice : Bytes) (stage : Stage A)
     (refuses : (openings : List Opening) → stage openings
     ≡ record { output_events = []; stage_outcome = Refused line; openings_left = openings })
-    (taking : AllocationPoints) (r : Record) (k l m n : ℕ) where
+    (taking : AllocationPoints) (r : Record) (failed failed_now unprinted unprinted_now : ℕ) where
   abbrev Here : DeskState
-  Here = showing r k m
+  Here = showing r failed unprinted
 
   abbrev There : DeskState
-  There = showing (after_err notice r) l n
+  There = showing (after_err notice r) failed_now unprinted_now
 
   abbrev pub ReportsOne : Type 0
   ReportsOne = ReportsLineAs line notice Here There

@@ -48,12 +48,6 @@ module _ {A : Type 0} (taking : AllocationPoints) (name : Bytes) (limit : ℕ) (
       runs_open (OnlyAtStart false) taking name (content_stage name limit judge) (Absent name) old mid new (Err status)
       refl breaks counted (λ passed emitted never. absurd (never_allocates passed emitted never))
       (runs_to_refusal {A = A} (OnlyAtStart false) mid new (not_opened_line name) status one notice)
-  goes_file_fault file_fault.NotOpened old mid new status breaks rose counted one notice =
-      runs_until_break taking name (content_stage name limit judge) file_fault.NotOpened old mid new status (λ e. cc)
-      breaks rose counted one notice
-  goes_file_fault file_fault.NotRead old mid new status breaks rose counted one notice =
-      runs_until_break taking name (content_stage name limit judge) file_fault.NotRead old mid new status (λ e. cc)
-      breaks rose counted one notice
-  goes_file_fault file_fault.Memory old mid new status breaks rose counted one notice =
-      runs_until_break taking name (content_stage name limit judge) file_fault.Memory old mid new status (λ e. cc)
-      breaks rose counted one notice
+  goes_file_fault fault old mid new status breaks rose counted one notice =
+      runs_until_break taking name (content_stage name limit judge) fault old mid new status (λ e. cc) breaks rose
+      counted one notice

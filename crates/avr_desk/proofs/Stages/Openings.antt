@@ -1,18 +1,17 @@
 -- Stages that begin by opening a file.
-use Rattle.std.proofs.Common.{◌≡◌, refl, subst, ap, arith, ℕ, List, [], ◌∷◌, Bool, false, Result, Err, rules}
+use Rattle.std.proofs.Common.{◌≡◌, refl, subst, ap, arith, ℕ, List, [], ◌∷◌, Result, Err, rules}
 use Rattle.std.proofs.lemmas.Bool.Decides.{nat_tests}
-use Rattle.avr_desk.specs.Fault.{CountsNeverFall, HasFailedAt, HasSameCounts}
-use Rattle.avr_desk.specs.Files.{CountsReadResult, EndsOrExceedsLimit, ReadsFile, with_read, FileBreaks, CountsFileFault}
-use Rattle.avr_desk.specs.Record.{DeskState, Record, ChangesRecord, after_err, nothing_kept, showing, Bytes}
+use Rattle.avr_desk.specs.Fault.{CountsNeverFall, HasSameCounts}
+use Rattle.avr_desk.specs.Files.{EndsOrExceedsLimit, ReadsFile, FileBreaks, CountsFileFault}
+use Rattle.avr_desk.specs.Record.{DeskState, Record, ChangesRecord, after_err, showing, Bytes}
 use Rattle.avr_desk.specs.declared.files.FileFault.{FileFault}
 use Rattle.avr_desk.specs.declared.files.FileFault.TheVariants as file_fault
 use Rattle.avr_desk.specs.declared.record.Opening.{Opening}
 use Rattle.avr_desk.specs.declared.record.Opening.TheVariants.{Found}
 use Rattle.avr_desk.specs.declared.record.Reading.{Reading}
-use Rattle.avr_desk.specs.declared.stream.Stream.TheVariants.{File}
 use Rattle.avr_desk.proofs.Stages.Outputs.{kept_append}
-use Rattle.avr_desk.proofs.Lines.ReportedAs.{failure_reported, follows_on, follows_same}
-use Rattle.avr_desk.specs.Lines.{file_fault_line, memory_line, not_opened_line, not_read_line}
+use Rattle.avr_desk.proofs.Lines.ReportedAs.{failure_reported, follows_on}
+use Rattle.avr_desk.specs.Lines.{file_fault_line, not_opened_line, not_read_line}
 use Rattle.avr_desk.specs.OutputEvents.{OutputEvent, Opens, PrintsLine, ReportsLine, after_events}
 use Rattle.avr_desk.proofs.Stages.Played.{runs_then}
 use Rattle.avr_desk.specs.StageRuns.{BreakCause, NotOpened, NotRead, NoMemoryForFile, events_of_break, BreakFitsNext, AllocatesThere, AllocationPoints, ReportsBreakAs, RunsStage, opened_and_read_in_part}
@@ -59,60 +58,34 @@ broke_opening : {A : Type 0} (taking : AllocationPoints) (name : Bytes) (next : 
 broke_opening taking name next break notice old new status taken one is is_reported kept follows =
     grind (arith, nat_tests)
 
--- the file could not be opened
-goes_unopened : {A : Type 0} (taking : AllocationPoints) (name : Bytes) (next : Opening → Stage A)
-    (old mid new : DeskState) (status : ℕ) → mid.kept ≡ old.kept → CountsNeverFall old mid → HasFailedAt File old mid
-    → status ≡ 1 → ReportsLine mid new (not_opened_line name)
-    → RunsStage taking (open_stage name >>= next) old new (Err status)
-goes_unopened taking name next old mid new status same rose failed one notice =
-    broke_opening taking name next (NotOpened name) notice.notice old new status tt one (λ more. ([], refl))
-    (failure_reported old mid new (not_opened_line name) rose failed notice)
-    (subst (λ (kept : Record). new.kept ≡ after_err notice.notice kept) same notice.kept)
-    (follows_on old mid new rose notice.follows)
-
--- or could not be read to its end
-goes_unread : {A : Type 0} (taking : AllocationPoints) (name bytes : Bytes) (next : Opening → Stage A)
-    (old mid new : DeskState) (status : ℕ) → ChangesRecord (with_read name bytes false) old mid
-    → CountsNeverFall old mid → HasFailedAt File old mid → status ≡ 1 → ReportsLine mid new (not_read_line name)
-    → RunsStage taking (open_stage name >>= next) old new (Err status)
-goes_unread taking name bytes next old mid new status kept rose failed one notice =
-    broke_opening taking name next (NotRead name bytes) notice.notice old new status tt one (λ more. ([], refl))
-    (failure_reported old mid new (not_read_line name) rose failed notice)
-    (kept_append (opened_and_read_in_part name bytes ∷ []) (PrintsLine notice.notice ∷ []) old.kept mid.kept new.kept
-    kept notice.kept) (follows_on old mid new rose notice.follows)
-
--- or allocation failed for it
-goes_unheld : {A : Type 0} (taking : AllocationPoints) (name bytes : Bytes) (ended : Bool) (next : Opening → Stage A)
-    (old mid new : DeskState) (status : ℕ) → ChangesRecord (with_read name bytes ended) old mid → HasSameCounts old mid
-    → status ≡ 1 → ReportsLine mid new memory_line → RunsStage taking (open_stage name >>= next) old new (Err status)
-goes_unheld taking name bytes ended next old mid new status kept same one notice =
-    let reading : Reading = record { name = name; bytes = bytes; ended = ended } in
-    broke_opening taking name next (NoMemoryForFile reading) notice.notice old new status tt one (λ more. ([], refl))
-    (search rules)
-    (kept_append (Opens (Found reading) ∷ []) (PrintsLine notice.notice ∷ []) old.kept mid.kept new.kept kept
-    notice.kept) (follows_on old mid new (follows_same old mid same) notice.follows)
-
--- any fault of the file except that it doesn't exist
+-- the file could not be opened, could not be read to its end, or allocation failed for it
 pub runs_until_break : {A : Type 0} (taking : AllocationPoints) (name : Bytes) (next : Opening → Stage A)
     (fault : FileFault) (old mid new : DeskState) (status : ℕ) → (fault ≡ file_fault.Absent → ⊥)
     → FileBreaks name old mid fault → CountsNeverFall old mid → CountsFileFault old mid fault → status ≡ 1
     → ReportsLine mid new (file_fault_line name fault)
     → RunsStage taking (open_stage name >>= next) old new (Err status)
 runs_until_break taking name next file_fault.Absent old mid new status there breaks rose counted one notice =
-    search rules
-runs_until_break taking name next fault old mid new status there breaks rose counted one notice =
-    search (rules, goes_unopened, goes_unread, goes_unheld)
+    absurd (there refl)
+runs_until_break taking name next file_fault.NotOpened old mid new status there same rose failed one notice =
+    broke_opening taking name next (NotOpened name) notice.notice old new status tt one (λ more. ([], refl))
+    (failure_reported old mid new (not_opened_line name) rose failed notice)
+    (subst (λ (kept : Record). new.kept ≡ after_err notice.notice kept) same notice.kept)
+    (follows_on old mid new rose notice.follows)
+runs_until_break taking name next file_fault.NotRead old mid new status there (bytes, kept) rose failed one notice =
+    broke_opening taking name next (NotRead name bytes) notice.notice old new status tt one (λ more. ([], refl))
+    (failure_reported old mid new (not_read_line name) rose failed notice)
+    (kept_append (opened_and_read_in_part name bytes ∷ []) (PrintsLine notice.notice ∷ []) old.kept mid.kept new.kept
+    kept notice.kept) (follows_on old mid new rose notice.follows)
+runs_until_break taking name next file_fault.Memory old mid new status there (bytes, ended, kept) rose same one notice =
+    let reading : Reading = record { name = name; bytes = bytes; ended = ended } in
+    broke_opening taking name next (NoMemoryForFile reading) notice.notice old new status tt one (λ more. ([], refl))
+    (search rules)
+    (kept_append (Opens (Found reading) ∷ []) (PrintsLine notice.notice ∷ []) old.kept mid.kept new.kept kept
+    notice.kept) (follows_on old mid new rose notice.follows)
 
 -- ---- a whole file in memory
 
--- its record
 pub breaks_as : (name : Bytes) (old mid : Record) (fault : FileFault)
     → ReadsFile name (showing old 0 0) (showing mid 0 0) (Err fault)
     → FileBreaks name (showing old 0 0) (showing mid 0 0) fault
 breaks_as name old mid fault reads = search rules
-
--- its counts
-pub counted_as : (k l m n : ℕ) (fault : FileFault)
-    → CountsReadResult (showing nothing_kept k m) (showing nothing_kept l n) (Err fault)
-    → CountsFileFault (showing nothing_kept k m) (showing nothing_kept l n) fault
-counted_as k l m n x counts = grind (arith, nat_tests)

@@ -125,19 +125,12 @@ broke_here taking stage old new break notice taken is is_reported kept follows =
 refused_by : {A : Type 0} (taking : AllocationPoints) (old new : DeskState) (line notice : List ℕ)
     → ReportsLineAs line notice old new → ChangesRecord (after_events (PrintsLine notice ∷ [])) old new
     → CountsNeverFall old new → RunsStage {A = A} taking (result_stage (Err line)) old new (Err 1)
-refused_by {A} taking old new line notice (inl whole) kept follows = (
-  refl,
-  inl (
-    line,
-    reported_whole {A = A} old new line
-        (subst (λ bytes. ChangesRecord (after_events (PrintsLine bytes ∷ [])) old new) whole.0 kept) whole.1,
-  ),
-)
+refused_by {A} taking old new line notice (inl (is, same)) kept follows =
+    (refl, inl (line, reported_whole {A = A} old new line (rw is at kept) same))
 refused_by {A} taking old new line notice (inr part) kept follows = (
   refl,
   inr (broke_here taking (result_stage {A = A} (Err line)) old new (LineNotPrinted line) notice tt (λ more. ([], refl))
-      part
-      kept follows),
+      part kept follows),
 )
 
 pub runs_to_refusal : {A : Type 0} (taking : AllocationPoints) (old new : DeskState) (line : List ℕ) (status : ℕ)
@@ -158,15 +151,13 @@ runs_without_memory taking stage old new status allocates one notice = (
 
 pub went_settled : {A : Type 0} (r : Result A (List ℕ)) (a : A) (d : DeskState) → r ≡ Ok a
     → StageCompleted (result_stage r) d d (Produced a)
-went_settled r a d is = subst (λ x. StageCompleted (result_stage x) d d (Produced a)) (sym is)
-    (completed_without_events d a)
+went_settled r a d is = rw is (completed_without_events d a)
 
 pub goes_unsettled : {A : Type 0} (taking : AllocationPoints) (r : Result A (List ℕ)) (line : List ℕ)
     (old new : DeskState) (status : ℕ) → r ≡ Err line → status ≡ 1 → ReportsLine old new line
     → RunsStage taking (result_stage r) old new (Err status)
 goes_unsettled taking r line old new status is one notice =
-    subst (λ x. RunsStage taking (result_stage x) old new (Err status)) (sym is)
-    (runs_to_refusal taking old new line status one notice)
+    rw is (runs_to_refusal taking old new line status one notice)
 
 pub completed_silently : (d : DeskState) → StageCompleted (output_stage []) d d (Produced tt)
 completed_silently d =

@@ -9,7 +9,8 @@ use Rattle.clap.specs.Words.{Row, first_of, matches_of}
 use Rattle.avr_part.specs.PartFile.{Bytes, ◌>>=◌}
 use Rattle.avr_plan.specs.Port.{port_number, port_of_option}
 use Rattle.avr_plan.specs.Settings.{Entries, checked_programmer, checked_streams, settings_of, run_settings, serve_settings, switches_of, updates_of}
-use Rattle.avr_plan.specs.Standard.{is_port_taken, is_standard, uses_input, uses_standard}
+use Rattle.avr_desk.specs.Named.{is_dash}
+use Rattle.avr_plan.specs.Standard.{is_port_taken, uses_input, uses_standard}
 use Rattle.avr_plan.specs.declared.settings.Port.{Port}
 use Rattle.avr_plan.specs.declared.settings.Port.TheVariants.{Stdio, Emulated, Served}
 use Rattle.avr_plan.specs.declared.settings.Settings.{Settings}
@@ -24,8 +25,8 @@ use Rattle.avr_laws.specs.AskedSettings.{AsksFor, AsksToServe, NamesPort}
 -- ---- standard streams
 
 record AreFree (port : Port) (updates : List Update) (parts chip : Option Bytes) : Type 0 where
-  parts_file : option_map_or is_standard parts false ≡ false
-  chip_file : option_map_or is_standard chip false ≡ false
+  parts_file : option_map_or is_dash parts false ≡ false
+  chip_file : option_map_or is_dash chip false ≡ false
   port_free : is_port_taken port updates ≡ false
   input : nat_le 2 (count_by uses_input updates) ≡ false
 
@@ -37,10 +38,10 @@ checked : (port : Port) (updates : List Update) (parts chip : Option Bytes) → 
     → checked_streams port updates parts chip ≡ Ok tt
 checked port updates parts chip are = rw (are.parts_file, are.chip_file, are.port_free, are.input) refl
 
-not_standard : (name : Option Bytes) → option_map_or is_standard name false ≡ false → name ≡ Some (codes "-") → ⊥
+not_standard : (name : Option Bytes) → option_map_or is_dash name false ≡ false → name ≡ Some (codes "-") → ⊥
 not_standard name none is = search rules
 
-names_file : (name : Option Bytes) → (name ≡ Some (codes "-") → ⊥) → option_map_or is_standard name false ≡ false
+names_file : (name : Option Bytes) → (name ≡ Some (codes "-") → ⊥) → option_map_or is_dash name false ≡ false
 names_file name other = search (rules, bytes_eq-Decides, cases_Bool)
 
 port_apart : (text : Bytes) (port : Port) (updates : List Update) → NamesPort text port

@@ -1,10 +1,11 @@
 -- A run over the emulator finds the chip of its file, and leaves it there.
 use Rattle.std.proofs.Common.{◌≡◌, ◌∙◌, ap, ℕ, List, [], ◌∷◌, ◌++◌, append_assoc, rules, arith}
 use Rattle.std.proofs.lemmas.Grind.{common_steps}
+use Rattle.std.proofs.lemmas.List.Elements.{filter_map-append}
 use Rattle.avr_tool.specs.Loading.{chip_stage}
 use Rattle.avr_plan.specs.declared.settings.Settings.{Settings}
 use Rattle.avr_desk.proofs.Desks.InMemory.{all_true, true_behind}
-use Rattle.avr_desk.proofs.FileUses.Uses.{files_absent, files_append, files_used}
+use Rattle.avr_desk.proofs.FileUses.Uses.{files_absent, files_used}
 use Rattle.avr_desk.specs.Memory.{MemDeskState, Stock, memory_state}
 use Rattle.avr_desk.specs.StageRuns.{StageCompleted}
 use Rattle.avr_desk.specs.Record.{Bytes, DeskState, all_files, all_uses, files_among}
@@ -71,7 +72,7 @@ module _ (settings : Settings) (file : Bytes) (stock : Stock) (old new : MemDesk
       r.saved played_past)
 
   first_files : files_among first_uses ≡ all_files old.kept
-  first_files = search (rules, files_append, none_made)
+  first_files = search (rules, filter_map-append, none_made)
 
   -- until the session begins nothing is created
   pub loaded_files : all_files r.loaded_desk.kept ≡ all_files old.kept

@@ -1,7 +1,7 @@
 -- The chip that a run over the emulator leaves in its file.
 use Rattle.std.proofs.Common.{◌≡◌, ◌∙◌, sym, refl, inl, inr, arith, ℕ, ◌+◌, false, List, [], ◌∷◌, ◌++◌, Some, rules}
 use Rattle.avr_plan.specs.declared.settings.Settings.{Settings}
-use Rattle.avr_desk.proofs.FileUses.Names.{newest_append}
+use Rattle.std.proofs.lemmas.List.Sums.{fold-append}
 use Rattle.avr_desk.proofs.FileUses.Uses.{files_replaced}
 use Rattle.avr_desk.specs.Memory.{MemDeskState, Stock, memory_state}
 use Rattle.avr_desk.specs.Named.{is_dash}
@@ -28,7 +28,7 @@ module _ (file : Bytes) (stock : Stock) (no_dash : is_dash file ≡ false) where
   -- with status 0 the chip's, because a session of status 0 has sent something
   zero_held : (out : List ℕ) (old new : DeskState) (bytes : Bytes) (ran : ℕ) → (out ≡ [] → ran ≡ 0 → ⊥)
       → IsSavedIfSent out old new file bytes ran 0 → contents_held stock new.kept file ≡ Some bytes
-  zero_held out old new bytes ran some saved = search (rules, files_replaced, newest_append)
+  zero_held out old new bytes ran some saved = search (rules, files_replaced, fold-append)
 
 -- a session that ran begins with a frame
 first_frame : (plan : Plan) (tape : Tape)

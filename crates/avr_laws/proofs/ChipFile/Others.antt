@@ -1,7 +1,7 @@
 -- What names mean after a run over the emulator: the files that memories were read into, and the chip file.
 use Rattle.std.proofs.Common.{◌≡◌, ◌⊎◌, refl, true, false, ℕ, List, [], ◌∷◌, ◌++◌, append-nil, Option, rules}
 use Rattle.std.proofs.lemmas.Bool.{cases_Bool}
-use Rattle.avr_desk.proofs.FileUses.Names.{newest_append}
+use Rattle.std.proofs.lemmas.List.Sums.{fold-append}
 use Rattle.avr_desk.proofs.FileUses.Uses.{files_replaced}
 use Rattle.avr_desk.specs.Memory.{Stock, content_of_name}
 use Rattle.avr_desk.specs.Named.{is_dash, newest, or_older}
@@ -23,7 +23,7 @@ no_dash name (f ∷ fs) older dash =
 
 stood_newest : (stock : Stock) (made : List Writing) (name : Bytes) → is_dash name ≡ false
     → content_of_name stock made name ≡ newest name (content_of_name stock [] name) made
-stood_newest stock made name isnt = search (rules, newest_append, append-nil)
+stood_newest stock made name isnt = search (rules, fold-append, append-nil)
 
 pub stood_named : (stock : Stock) (fs : List Writing) (name : Bytes)
     → content_of_name stock (named_files fs) name ≡ newest name (content_of_name stock [] name) (named_files fs)
@@ -31,7 +31,7 @@ stood_named stock fs name = search (rules, cases_Bool, no_dash, stood_newest)
 
 stood_more : (stock : Stock) (made : List Writing) (f : Writing) (name : Bytes) → (f.name ≡ name → ⊥)
     → content_of_name stock (made ++ f ∷ []) name ≡ content_of_name stock made name
-stood_more stock made f name differs = search (rules, cases_Bool, stood_newest, newest_append, other)
+stood_more stock made f name differs = search (rules, cases_Bool, stood_newest, fold-append, other)
 
 -- ---- a save with status 0
 

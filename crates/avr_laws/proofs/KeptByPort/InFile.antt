@@ -2,8 +2,9 @@
 use Rattle.std.proofs.Common.{◌≡◌, ◌∙◌, inl, inr, ap, sym, refl, ℕ, List, [], ◌∷◌, ◌++◌, append-nil, append_assoc, Option, None, Some, arith, rules}
 use Rattle.std.proofs.lemmas.Grind.{common_steps}
 use Rattle.std.proofs.lemmas.Bool.Decides.{nat_tests}
+use Rattle.std.proofs.lemmas.List.Elements.{filter_map-append}
 use Rattle.avr_plan.specs.declared.settings.Settings.{Settings}
-use Rattle.avr_desk.proofs.FileUses.Uses.{files_used, openings_append}
+use Rattle.avr_desk.proofs.FileUses.Uses.{files_used}
 use Rattle.avr_desk.proofs.Stages.Breaks.{openings_in, openings_shown}
 use Rattle.avr_desk.specs.Record.{Bytes, DeskState, ChangesRecord, Record, all_files, all_openings, with_replaced}
 use Rattle.avr_desk.specs.OutputEvents.{OutputEvent, Opens, after_events}
@@ -61,7 +62,7 @@ quiet output_events reads k =
 -- ---- what was opened
 
 openings_replaced : (name bytes : Bytes) (r : Record) → all_openings (with_replaced name bytes r) ≡ all_openings r
-openings_replaced name bytes r = grind (arith, nat_tests, append-nil, openings_append)
+openings_replaced name bytes r = grind (arith, nat_tests, append-nil, filter_map-append)
 
 -- ---- with status 0 the chip is saved
 

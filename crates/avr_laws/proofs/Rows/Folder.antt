@@ -8,6 +8,7 @@
 -- now.
 use Rattle.std.proofs.Common.{◌≡◌, ◌∙◌, ap, sym, subst, refl, arith, rules, inl, inr, ◌+◌, Bool, true, false, List, [], ◌∷◌, ◌++◌, Option, Some, None, Result, Ok, Err}
 use Rattle.std.specs.Prelude.{◌⊎◌, codes, IfErr, IfOk, MatchOption, MatchResult, OnOk, if◌then◌else◌}
+use Rattle.std.specs.Option.{option_len}
 use Rattle.std.proofs.lemmas.Bool.{cases_Bool}
 use Rattle.std.proofs.lemmas.Slice.Eq.{bytes_eq-Decides}
 use Rattle.std.specs.IoError.{error_kind}
@@ -22,7 +23,7 @@ use Rattle.avr_desk.specs.declared.record.Writing.{Writing}
 use Rattle.avr_desk.specs.declared.system.OpenFile.TheVariants.{Nothing}
 use Rattle.std.specs.declared.io.Error.{Error}
 use Rattle.std.specs.declared.io.ErrorKind.TheVariants as ErrorKind
-use Rattle.avr_desk.specs.Journal.{FileCall, SystemCalls, Gives, Opens, AddsCalls, ChangesCalls, Counts, CrashLeavesNoMore, CrashMayAlsoLeave, IsUncounted, TakesHold, count_of, made, with_calls, with_one_more_held}
+use Rattle.avr_desk.specs.Journal.{FileCall, SystemCalls, Gives, Opens, AddsCalls, ChangesCalls, Counts, CrashLeavesNoMore, CrashMayAlsoLeave, IsUncounted, TakesHold, made, with_calls, with_one_more_held}
 use Rattle.avr_desk.specs.Record.{Bytes, Record, nothing_kept}
 use Rattle.avr_desk.specs.declared.folder.Folder.{Ghosts}
 use Rattle.ghosts.specs.Preserves.{Preserves}
@@ -141,7 +142,7 @@ module _ (run : Run) where
   -- ---- the members of the trait
 
   abbrev has_done : SystemCalls → System → Type 0
-  has_done done s = done ≡ record { calls = s.calls; holds = count_of s.at.held }
+  has_done done s = done ≡ record { calls = s.calls; holds = option_len s.at.held }
 
   abbrev left : System → Bytes → Option Bytes → Type 0
   left s name found = left_at (s.at ∷ s.past) name found
@@ -477,7 +478,7 @@ module _ (run : Run) where
     holds = (
       refl,
       λ done is. ap with_one_more_held is ∙ ap (λ (h : Option (Bytes × Option Bytes)).
-          with_one_more_held (record { calls = s.calls; holds = count_of h })) none,
+          with_one_more_held (record { calls = s.calls; holds = option_len h })) none,
     );
     leaves = locking_leaves s place was;
   }
@@ -597,7 +598,7 @@ module _ (run : Run) where
   unlock_met s held was is = record {
     leaves = λ done have.
         let calls : done.calls ≡ s.calls = ap (λ (d : SystemCalls). d.calls) have in
-        let count : done.holds + 1 ≡ 1 = ap (λ (d : SystemCalls). d.holds) have ∙ ap count_of is in
+        let count : done.holds + 1 ≡ 1 = ap (λ (d : SystemCalls). d.holds) have ∙ ap option_len is in
         let none : done.holds ≡ 0 = omega (arith, count) in
         search (rules, calls, none);
     keeps = unlock_leaves s;

@@ -53,7 +53,7 @@ module _ (old now new : DeskState) (first last : Intake) (room left n : ℕ) (bu
         → ((found : Found) (size : ℕ) (text : Bytes) → WasFed found size last text
         → bad ≡ fault_of_long_file found (text ++ take left buf) size)
         → ReadsRest limit found size before old new (Err bad)
-    rest_long bad more within' most gives =
+    rest_long bad more fits most gives =
         let bytes = going.bytes ++ take n buf in
         let all = before ++ going.bytes in
         let whole : before ++ bytes ≡ all ++ take n buf = sym (append_assoc before going.bytes (take n buf)) in
@@ -68,7 +68,7 @@ module _ (old now new : DeskState) (first last : Intake) (room left n : ℕ) (bu
           bytes = bytes;
           ended = false;
           kept = search (rules, read_piece);
-          whole = (omega (arith, sum, more), omega (arith, sum, within', most));
+          whole = (omega (arith, sum, more), omega (arith, sum, fits, most));
           gives = search rules;
         }
 

@@ -1,5 +1,5 @@
 -- What the first bytes of a file decide about the whole.
-use Rattle.std.proofs.Common.{◌≡◌, ◌∙◌, sym, ap, refl, ℕ, [], ◌++◌, Some, None, Err, append-nil, subst, rules}
+use Rattle.std.proofs.Common.{◌≡◌, ◌∙◌, sym, ap, refl, ℕ, [], ◌++◌, Some, None, Err, append-nil, rules}
 use Rattle.avr_image.specs.Raw as raw_file
 use Rattle.avr_desk.specs.Record.{Bytes}
 use Rattle.avr_records.proofs.Readers.Fed.{reads_sound}
@@ -30,8 +30,7 @@ record-decides found size reader fault text piece takes is =
     ap (ended_lines_fault reader.kind (text ++ piece)) (sym takes.of_size)
     ∙ none_or (ended_lines_fault reader.kind (text ++ piece) (memory_size reader))
     fault is in
-    subst (λ f. HasCertainFault f size (Record fault) (text ++ piece)) (sym takes.of_kind)
-    (decides-record reader.kind size fault (text ++ piece) own)
+    rw takes.of_kind (decides-record reader.kind size fault (text ++ piece) own)
 
 pub decided-whole : (found : Found) (size : ℕ) (fault : BadFile) (text : Bytes) → HasCertainFault found size fault text
     → Err fault ≡ image_of_file found text size
@@ -53,9 +52,8 @@ records-long found size reader text takes =
     let none : ended_lines_fault reader.kind text size ≡ None =
     ap (ended_lines_fault reader.kind text) (sym takes.of_size)
     ∙ reads_sound reader.kind reader.progress reader.part text takes.stands.reads in
-    subst (λ f. TooLong ≡ fault_of_long_file f text size) (sym takes.of_kind) (sound-long reader.kind size text none)
+    rw takes.of_kind (sound-long reader.kind size text none)
 
 pub raw-too-long : (found : Found) (size : ℕ) (reader : raw_file.RawReaderState) (text : Bytes)
     → RawReaderWasFed found size reader text → TooLong ≡ fault_of_long_file found text size
-raw-too-long found size reader text takes = subst (λ f. TooLong ≡ fault_of_long_file f text size) (sym takes.of_kind)
-    refl
+raw-too-long found size reader text takes = rw takes.of_kind refl

@@ -7,19 +7,14 @@ use Rattle.avr_image.proofs.Lemmas.{laid_size, from_zero_is_a_span}
 use Rattle.avr_desk.specs.Record.{Bytes}
 use Rattle.avr_records.specs.declared.kind.Ending.{Ending}
 use Rattle.avr_records.specs.declared.kind.Found.{Found}
-use Rattle.avr_records.specs.declared.kind.Found.TheVariants as file
 use Rattle.avr_plan.specs.ImageFile.{image_of_file, image_within, kind_of}
 
 abbrev Image : Type 0
 Image = List (Option ℕ)
 
-raw-size : (bytes : Bytes) (size : ℕ) (p : Image × Ending) → image_of_file file.Raw bytes size ≡ Ok p
-    → length p.0 ≡ size
-raw-size bytes size p is = search (rules, from_zero_is_a_span, laid_size, length-replicate)
-
 whole-size : (found : Found) (bytes : Bytes) (size : ℕ) (p : Image × Ending) → image_of_file found bytes size ≡ Ok p
     → length p.0 ≡ size
-whole-size found bytes size p is = search (rules, laid_size, length-replicate, raw-size)
+whole-size found bytes size p is = search (rules, from_zero_is_a_span, laid_size, length-replicate)
 
 -- an image of a file
 pub image-size : (limit : ℕ) (format : Format) (bytes : Bytes) (size : ℕ) (image : Image) (last : Ending)

@@ -3,7 +3,7 @@ use Rattle.std.proofs.Common.{◌≡◌, sym, ap, ℕ, false, List, Option, Ok, 
 use Rattle.avr_plan.specs.declared.settings.Switches.{Switches}
 use Rattle.avr_plan.specs.declared.update.Format.{Format}
 use Rattle.avr_desk.specs.Fault.{CountsNeverFall, HasSameCounts}
-use Rattle.avr_desk.specs.Lines.{memory_line}
+use Rattle.avr_desk.specs.Lines.{error, memory_line}
 use Rattle.avr_desk.specs.declared.files.FileFault.TheVariants as file_fault
 use Rattle.avr_desk.specs.Record.{DeskState, Bytes}
 use Rattle.avr_desk.specs.OutputEvents.{ReportsLine}
@@ -13,7 +13,7 @@ use Rattle.avr_desk.proofs.Stages.Files.{goes_whole, went_whole, goes_file_fault
 use Rattle.avr_desk.proofs.Stages.Played.{runs_then, runs_first_only, goes_unsettled, completed_then, went_settled}
 use Rattle.avr_plan.specs.declared.image_file.TheConstants.{LARGEST_IMAGE_FILE}
 use Rattle.avr_plan.specs.ImageReading.{ReadsImage, ImageIsRead, CountsReadFault}
-use Rattle.avr_plan.specs.Lines.{bad_file_line, image_line}
+use Rattle.avr_plan.specs.Lines.{bad_file_line, image_pieces}
 use Rattle.avr_plan.specs.Planning.{file_image_stage, checked_image, or_line, warning_events}
 use Rattle.avr_desk.specs.StageRuns.{OnlyAtStart, RunsStage, StageCompleted}
 use Rattle.avr_desk.specs.Stage.{Stage, Produced, ◌>>=◌, result_stage, output_stage, file_stage}
@@ -93,7 +93,7 @@ module _ (switches : Switches) (file : Bytes) (format : Format) (size : ℕ) whe
   -- the file gave no image
   pub goes_without_image : (old mid new : DeskState) (fault : ReadFault) (status : ℕ)
       → ImageIsRead LARGEST_IMAGE_FILE format size file old mid (Err fault) → CountsNeverFall old mid
-      → CountsReadFault old mid fault → status ≡ 1 → ReportsLine mid new (image_line file fault)
+      → CountsReadFault old mid fault → status ≡ 1 → ReportsLine mid new (error (image_pieces file fault))
       → RunsStage (OnlyAtStart false) (file_image_stage switches file format size) old new (Err status)
   goes_without_image old mid new (fault_of.File fault) status reads rose counted one notice =
       search (rules, goes_unread, goes_file_fault)

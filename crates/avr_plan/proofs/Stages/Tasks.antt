@@ -1,24 +1,20 @@
 -- The tasks of updates.
-use Rattle.std.proofs.Common.{◌≡◌, sym, ap, subst, ℕ, ◌+◌, All, drop, List, [], ◌∷◌, ◌++◌, refl, Bool, true, false, if◌then◌else◌, Option, Result, Ok, Err, rules}
+use Rattle.std.proofs.Common.{◌≡◌, sym, ap, subst, ℕ, ◌+◌, All, drop, List, [], ◌∷◌, ◌++◌, refl, Bool, false, Option, Result, Err, rules}
 use Rattle.avr_plan.specs.declared.settings.Switches.{Switches}
 use Rattle.avr_plan.specs.declared.update.Format.{Format}
 use Rattle.avr_plan.specs.declared.update.Format.TheVariants.{Immediate}
-use Rattle.avr_plan.specs.declared.update.Op.TheVariants as op
 use Rattle.avr_plan.specs.declared.update.Update.{Update}
 use Rattle.avr_desk.specs.Record.{DeskState, Bytes}
-use Rattle.avr_desk.specs.OutputEvents.{OutputEvent, ReportsLine}
+use Rattle.avr_desk.specs.OutputEvents.{OutputEvent}
 use Rattle.avr_desk.specs.declared.record.Opening.{Opening}
-use Rattle.avr_part.specs.Mem.{is_writable}
 use Rattle.avr_part.specs.Part.{Part}
 use Rattle.avr_part.specs.declared.part.Mem.{Mem}
-use Rattle.avr_desk.proofs.Stages.Played.{runs_to_refusal, runs_then, runs_first_only, goes_within}
-use Rattle.avr_plan.specs.Lines.{read_only_line}
-use Rattle.avr_plan.specs.Planning.{file_image_stage, image_stage, update_image, write_stage, task_stage, tasks_stage}
+use Rattle.avr_desk.proofs.Stages.Played.{runs_then, runs_first_only, goes_within}
+use Rattle.avr_plan.specs.Planning.{file_image_stage, image_stage, task_stage, tasks_stage}
 use Rattle.avr_desk.specs.StageRuns.{OnlyAtStart, RunsStage, StageCompleted}
 use Rattle.avr_plan.specs.AllocationPoints.{AtAllocatingTask, has_immediate_values, op_allocates}
-use Rattle.avr_desk.specs.Stage.{Stage, Produced, ◌>>=◌, result_stage}
+use Rattle.avr_desk.specs.Stage.{Produced}
 use Rattle.avr_plan.specs.declared.planned.Task.{Task}
-use Rattle.avr_plan.specs.declared.planned.Task.TheVariants.{Write}
 
 -- a format that isn't one of values is that of a file
 file_stage-is : (switches : Switches) (memory : Mem) (size : ℕ) (file : Bytes) (format : Format)
@@ -26,46 +22,20 @@ file_stage-is : (switches : Switches) (memory : Mem) (size : ℕ) (file : Bytes)
     → file_image_stage switches file format size ≡ image_stage switches memory size file format
 file_stage-is switches memory size file format other = search rules
 
-module _ (switches : Switches) (memory : Mem) (size size' : ℕ) (file file' : Bytes) (format : Format)
-    (old new : DeskState) (result : Result (List (Option ℕ)) ℕ) (sizes : size ≡ size') (files : file ≡ file') where
+module _ (switches : Switches) (memory : Mem) (size own_size : ℕ) (file own_file : Bytes) (format : Format)
+    (old new : DeskState) (result : Result (List (Option ℕ)) ℕ) (sizes : size ≡ own_size)
+    (files : file ≡ own_file) where
   goes_of_same : (allocates : Bool) → has_immediate_values format ≡ allocates
       → RunsStage (OnlyAtStart allocates) (image_stage switches memory size file format) old new result
-      → RunsStage (OnlyAtStart (has_immediate_values format)) (image_stage switches memory size' file' format) old new
-      result
+      → RunsStage (OnlyAtStart (has_immediate_values format)) (image_stage switches memory own_size own_file format)
+      old new result
   goes_of_same allocates values goes = search rules
 
   pub goes_of_file : (format ≡ Immediate → ⊥)
       → RunsStage (OnlyAtStart false) (file_image_stage switches file format size) old new result
-      → RunsStage (OnlyAtStart (has_immediate_values format)) (image_stage switches memory size' file' format) old new
-      result
+      → RunsStage (OnlyAtStart (has_immediate_values format)) (image_stage switches memory own_size own_file format)
+      old new result
   goes_of_file other goes = goes_of_same false (search rules) (search (rules, file_stage-is))
-
--- there is no task without an image
-pub goes_without_image : (switches : Switches) (part : Part) (u : Update) (make : List (Option ℕ) → Task)
-    (old new : DeskState) (status : ℕ)
-    → RunsStage (OnlyAtStart (has_immediate_values u.format)) (update_image switches part u) old new (Err status)
-    → RunsStage (OnlyAtStart (has_immediate_values u.format))
-    (update_image switches part u >>= λ image. result_stage (Ok (make image))) old new (Err status)
-goes_without_image switches part u make old new status goes =
-    runs_first_only (OnlyAtStart (has_immediate_values u.format)) (update_image switches part u)
-    (λ image. result_stage (Ok (make image))) old new status goes
-
-abbrev writes : Switches → Part → Update → Stage Task
-writes switches part u = update_image switches part u >>= λ image. result_stage (Ok (Write u.memory image))
-
-pub goes_writable : (switches : Switches) (part : Part) (u : Update) (old new : DeskState) (result : Result Task ℕ)
-    → true ≡ is_writable u.memory
-    → RunsStage (OnlyAtStart (has_immediate_values u.format)) (writes switches part u) old new result
-    → RunsStage (OnlyAtStart (op_allocates u op.Write)) (write_stage switches part u) old new result
-goes_writable switches part u old new result is goes = search rules
-
-pub goes_read_only : (switches : Switches) (part : Part) (u : Update) (old new : DeskState) (status : ℕ)
-    → false ≡ is_writable u.memory → status ≡ 1 → ReportsLine old new (read_only_line u.memory)
-    → RunsStage (OnlyAtStart (op_allocates u op.Write)) (write_stage switches part u) old new (Err status)
-goes_read_only switches part u old new status is one notice =
-    subst (λ b. RunsStage (OnlyAtStart (if b then has_immediate_values u.format else false))
-    (if b then writes switches part u else result_stage (Err (read_only_line u.memory))) old new (Err status)) is
-    (runs_to_refusal (OnlyAtStart false) old new (read_only_line u.memory) status one notice)
 
 -- ---- one task after another
 
@@ -121,4 +91,4 @@ module _ (switches : Switches) (part : Part) (tasks : List Task) (updates : List
       (search (rules, goes_within, at_first, runs_first_only))
 
 pub all_one : (P : Task → Type 0) (task : Task) → P task → All P (task ∷ [])
-all_one P task p x3 d l = search rules
+all_one P task holds index other within = search rules

@@ -20,7 +20,7 @@ Image = List (Option ℕ)
 
 pub given_values : (text : Bytes) (size : ℕ) (image : Image) → OrOutOfMemory (Ok image) (image_of_values text size)
     → Ok image ≡ image_of_values text size
-given_values text size image x3 = search rules
+given_values text size image gives = search rules
 
 pub went_values : (switches : Switches) (memory : Mem) (size : ℕ) (text : Bytes) (d : DeskState) (image : Image)
     → OrOutOfMemory (Ok image) (image_of_values text size)

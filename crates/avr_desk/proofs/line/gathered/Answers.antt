@@ -1,25 +1,13 @@
-use Rattle.std.proofs.Common.{◌∙◌, ap, sym, ℕ, List, [], ◌++◌, append_assoc, take, get_or, rules}
+use Rattle.std.proofs.lemmas.Grind.{common_steps}
+use Rattle.std.proofs.Common.{[], arith, rules}
 use Rattle.std.proofs.lemmas.Result.{err_from_is_err_and}
-use Rattle.avr_desk.specs.Lines.{text_of}
 use Rattle.avr_desk.specs.declared.line.Piece.{Piece}
 use Rattle.avr_desk.specs.declared.line.Piece.TheVariants.{Text}
-use Rattle.avr_desk.proofs.Lines.Pieces.{all_text, all_text_more, line_longer}
+use Rattle.avr_desk.proofs.Lines.Pieces.{all_text_more, line_longer}
 use Rattle.avr_desk.proofs.line.gathered.Goals as goal
 
 pub loop-piece-preserved : goal.loop-piece-preserved
-loop-piece-preserved c =
-    let ps = c.args.pieces.now in
-    let i = c.loop-piece.piece-index in
-    let d : Piece = Text (record { ref_ptr = (0, 0); now = [] }) in
-    let mark = c.args.mark.now in
-    let it = text_of (get_or ps i d) in
-    record {
-      so_far = c.in_ok-try_extend_from_slice-2.ensures.ok
-          ∙ ap (λ (b : List ℕ). c.loop-piece.line.items ++ b) c.text.ensures
-          ∙ ap (λ (b : List ℕ). b ++ it) c.loop-piece.invariant.so_far
-          ∙ append_assoc mark (all_text (take i ps)) it
-          ∙ ap (λ (b : List ℕ). mark ++ b) (sym (all_text_more ps i d c.loop-piece-test.true));
-    }
+loop-piece-preserved c = grind (arith, common_steps, all_text_more)
 
 pub returns-in_err-try_extend_from_slice-2-clause-long : goal.returns-in_err-try_extend_from_slice-2-clause-long
 returns-in_err-try_extend_from_slice-2-clause-long c =

@@ -3,7 +3,7 @@ use Rattle.avr_desk.specs.StageRuns.{OnlyAtStart}
 use Rattle.avr_plan.specs.declared.part_choice.TheConstants.{LARGEST_PART_FILE}
 use Rattle.avr_plan.proofs.Stages.Parts.{went_parts, goes_bad_parts, goes_long_parts}
 use Rattle.avr_desk.proofs.Stages.Files.{goes_file_fault}
-use Rattle.avr_desk.proofs.Stages.Openings.{breaks_as, counted_as}
+use Rattle.avr_desk.proofs.Stages.Openings.{breaks_as}
 use Rattle.avr_desk.proofs.Stages.Played.{went_settled}
 use Rattle.avr_plan.specs.Planning.{checked_parts}
 use Rattle.avr_plan.proofs.part_choice.given_parts.Goals as goal
@@ -15,7 +15,7 @@ pub returns-in-Err-clause-goes : goal.returns-in-Err-clause-goes
 returns-in-Err-clause-goes g c =
     rw (c.in-Some.is, ← c.as_str-file.ensures) (goes_file_fault (OnlyAtStart false) _ LARGEST_PART_FILE
     (checked_parts _) _ _ _ _ _ (breaks_as _ _ _ _ c.in-Err.ensures.kept) c.in-Err.ensures.counts.0
-    (counted_as _ _ _ _ _ c.in-Err.ensures.counts) refl (rw c.file_message.ensures at c.refuse.ensures.notice))
+    c.in-Err.ensures.counts.1 refl (rw c.file_message.ensures at c.refuse.ensures.notice))
 
 pub returns-then-not-contents-clause-goes : goal.returns-then-not-contents-clause-goes
 returns-then-not-contents-clause-goes g c =

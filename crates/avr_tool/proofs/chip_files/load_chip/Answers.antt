@@ -1,7 +1,7 @@
 use Rattle.std.proofs.Common.{refl, true, rules}
 use Rattle.avr_desk.specs.StageRuns.{OnlyAtStart}
 use Rattle.avr_desk.specs.declared.record.Opening.TheVariants.{Absent}
-use Rattle.avr_desk.proofs.Stages.Openings.{breaks_as, counted_as, runs_open, runs_until_break}
+use Rattle.avr_desk.proofs.Stages.Openings.{breaks_as, runs_open, runs_until_break}
 use Rattle.avr_tool.specs.Loading.{AtOpened, chip_given}
 use Rattle.avr_tool.proofs.Chips.{opened_at, goes_ended, goes_past}
 use Rattle.avr_tool.proofs.chip_files.load_chip.Goals as goal
@@ -17,7 +17,7 @@ returns-in_default-clause-goes g c =
     let counts = c.in-Err.ensures.counts in
     runs_until_break AtOpened c.args.file.now (chip_given c.args.part.now c.args.file.now) c.in-Err.fault _ _ _ _
     c.in_default.not-Absent (breaks_as _ _ _ c.in-Err.fault c.in-Err.ensures.kept) counts.0
-    (counted_as _ _ _ _ c.in-Err.fault counts) (search rules) (rw c.file_message.ensures at c.refuse.ensures.notice)
+    counts.1 (search rules) (rw c.file_message.ensures at c.refuse.ensures.notice)
 
 pub returns-then-not-contents-clause-goes : goal.returns-then-not-contents-clause-goes
 returns-then-not-contents-clause-goes g c =

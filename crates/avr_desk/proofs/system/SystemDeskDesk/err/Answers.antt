@@ -6,10 +6,10 @@ pub returns-in-Err-clause-write : goal.returns-in-Err-clause-write
 returns-in-Err-clause-write g c =
     let took = c.in-Err.ensures.taken in
     is_write (search rules) (rw (← c.self.view_is) (took.0, took.1, took.2.0)) (search rules) (search rules)
-    (from_inside _ _ _ _ _ _ c.self.view_is (err_true _ _ _ _ _ _ _ took.2.0 took.2.1))
+    (from_inside _ _ _ _ _ _ c.self.view_is (err_true _ _ _ _ _ _ _ _ _ _ _ took.2.0 took.2.1))
 
 pub returns-in-Ok-clause-write : goal.returns-in-Ok-clause-write
 returns-in-Ok-clause-write g c =
     let took = c.in-Ok.ensures.taken in
     is_write (search rules) (rw (← c.self.view_is) took.0.0) (search rules) (search rules)
-    (from_inside _ _ _ _ _ _ c.self.view_is (err_true _ _ _ _ _ _ _ took.0.0 took.0.1))
+    (from_inside _ _ _ _ _ _ c.self.view_is (err_true _ _ _ _ _ _ _ _ _ _ _ took.0.0 took.0.1))
