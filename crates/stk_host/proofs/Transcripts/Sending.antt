@@ -1,7 +1,7 @@
 -- Bytes sent in parts, and the rest of a range.
 use Rattle.std.proofs.lemmas.Grind.{common_steps}
 use Rattle.std.proofs.Common.{◌≡◌, ℕ, ◌+◌, ◌-◌, ◌<◌, ◌≤◌, List, [], ◌∷◌, ◌++◌, length, take, drop, sym, ap, ◌∙◌, append_assoc, arith, Err, rules}
-use Rattle.std.proofs.lemmas.List.{drop-take, drop-drop, take-append-drop, length-take, length-drop, take_all}
+use Rattle.std.proofs.lemmas.List.{drop-take, drop-drop, take-append-drop, length-take, length-drop}
 use Rattle.std.proofs.Math.Seq.{take-add}
 use Rattle.std.specs.Prelude.{slice_range}
 use Rattle.ghosts.specs.Failures.{OneFailureCounted}
@@ -65,11 +65,3 @@ range_later xs a b n le = search (rules, drop-drop n a xs, drop-take n (b - (a +
 pub range_consumed : (xs : List ℕ) (a b n : ℕ) (all : List ℕ) → a ≤ b → slice_range xs a b ≡ all → n ≤ length all
     → slice_range xs (a + n) b ≡ drop n all
 range_consumed xs a b n all order is le = search (rules, length-take, range_later)
-
--- the bytes after the first n, in the form of a slice
-pub behind : (bytes : List ℕ) (n : ℕ) → take (length bytes - n) (drop n bytes) ≡ drop n bytes
-behind bytes n = take_all (length bytes - n) (drop n bytes) (rw length-drop (omega arith))
-
-pub part_fits : (bytes : List ℕ) (n m : ℕ) → n ≤ length bytes → m ≤ length (take (length bytes - n) (drop n bytes))
-    → n + m ≤ length bytes
-part_fits bytes n m le part = let fits = rw (behind bytes n, length-drop) at part in omega arith
