@@ -56,7 +56,7 @@ impl Link for Bench {
         let count = buffer.len().min(waits.len()).min(AT_MOST);
         buffer[..count].copy_from_slice(&waits[..count]);
         let heard = if count == 0 { Heard::Silence } else { Heard::Bytes(count) };
-        let Ok(()) = self.passed.receive_piece(heard, buffer) else {
+        let Ok(()) = self.passed.add_received(heard, buffer) else {
             self.failures = self.failures.saturating_add(1);
             return Err(LinkFault::Failed);
         };

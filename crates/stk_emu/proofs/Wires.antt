@@ -1,5 +1,4 @@
 -- What arrives over a wire, and what each of its calls preserves.
-pub mod Ports
 pub mod NoiseCuts
 pub mod Waiting
 pub mod Kept

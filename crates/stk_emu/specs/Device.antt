@@ -23,15 +23,12 @@ abbrev pub refusal : List ℕ
 refusal = 0xB0 ∷ 0xC1 ∷ []
 
 -- A good frame is executed; any other is refused and changes nothing.
-abbrev pub reply_body : {P : Type 0} → Device P → List ℕ → P → List ℕ
-reply_body m piece p = if is_good piece then m.reply (body_of piece) p else refusal
-
 abbrev pub after_frame : {P : Type 0} → Device P → List ℕ → P → P
 after_frame m piece p = if is_good piece then m.after (body_of piece) p else p
 
 -- A reply's frame has the sequence number of the command's frame.
 abbrev pub reply_frame : {P : Type 0} → Device P → List ℕ → P → List ℕ
-reply_frame m piece p = frame (seq_of piece) (reply_body m piece p)
+reply_frame m piece p = frame (seq_of piece) (if is_good piece then m.reply (body_of piece) p else refusal)
 
 -- The replies to whole frames, joined; below, the device after them.
 abbrev pub replies : {P : Type 0} → Device P → List (List ℕ) → P → List ℕ

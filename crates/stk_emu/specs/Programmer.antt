@@ -11,7 +11,6 @@ use Rattle.stk_frame.specs.declared.command.ReadBlock.{ReadBlock}
 use Rattle.stk_frame.specs.declared.command.ReadByte.{ReadByte}
 use Rattle.stk_frame.specs.declared.protocol.TheConstants.{EXTENDED_ADDRESS}
 use Rattle.stk_frame.specs.Decoding.{command_of}
-use Rattle.stk_emu.specs.declared.flash.Block.{Block}
 use Rattle.stk_emu.specs.declared.programmer.TheConstants.{LARGEST_READ}
 
 -- The state of the emulated programmer.
@@ -156,13 +155,6 @@ flash_reads wide cmd address i zero chip = ([], chip)
 flash_reads wide cmd address i (suc n) chip =
     read_then (at_address (for_half cmd i) (word_at address i) 0)
     (after_instructions (extension wide (word_at address i)) chip) (flash_reads wide cmd address (suc i) n)
-
--- The instructions that load a block of flash, and the bytes read of one.
-abbrev pub block_loads : Block → List ℕ → List (List ℕ)
-block_loads block bytes = flash_loads block.wide block.command block.address 0 bytes
-
-abbrev pub block_reads : Block → ℕ → ChipState → BytesAndChip
-block_reads block count chip = flash_reads block.wide block.command block.address 0 count chip
 
 abbrev pub eeprom_reads : ℕ → ℕ → ℕ → ℕ → ChipState → BytesAndChip
 eeprom_reads cmd address i zero chip = ([], chip)

@@ -1,7 +1,7 @@
 //! A list of fates, which are checked when they are added.
-ghost use Rattle.std.specs.Prelude.{◌≡◌, ◌++◌, ◌∷◌, ◌↔◌, [], length, IsTrue, IfErr, OnOk, OnErr};
+ghost use Rattle.std.specs.Prelude.{◌≡◌, ◌++◌, ◌∷◌, ◌↔◌, [], length, IsTrue, Err, OnOk, OnErr};
 ghost use Rattle.stk_emu.specs.Wire.{AreLawful, IsLawfulFate};
-ghost use Rattle.stk_emu.specs.Fates.{ExplainsRefusal, fates_fault_number};
+ghost use Rattle.stk_emu.specs.Fates.{fates_fault_number};
 
 use crate::fate::{Fate, noise_is_lawful};
 use std::alloc::Global;
@@ -19,10 +19,10 @@ use thiserror::Error;
 pub enum FatesFault {
     /// The noise is longer than 2,048 bytes or has a good frame ([`noise_is_lawful`]).
     #[error("noise is not lawful")]
-    UnlawfulNoise,
+    UnlawfulNoise = 1,
     /// Allocation failed.
     #[error("out of memory")]
-    Memory,
+    Memory = 2,
 }
 
 impl FatesFault {
@@ -34,10 +34,7 @@ impl FatesFault {
     pub fn number(&self) -> u8
         ensures { result ≡ fates_fault_number self.now }
     {
-        match self {
-            FatesFault::UnlawfulNoise => 1,
-            FatesFault::Memory => 2,
-        }
+        *self as u8
     }
 }
 
@@ -111,7 +108,8 @@ impl Fates {
     pub fn push(&mut self, fate: Fate) -> Result<(), FatesFault>
         ensures pushed { OnOk result (self.new ≡ self.old ++ fate ∷ []) }
         ensures lawful { OnOk result (IsLawfulFate fate) }
-        ensures refused { IfErr result (λ fault. ExplainsRefusal fault fate) }
+        ensures unlawful { result ≡ Err FatesFault.UnlawfulNoise → IsLawfulFate fate → ⊥ }
+        ensures memory { result ≡ Err FatesFault.Memory → IsLawfulFate fate }
         ensures same { OnErr result (self.new ≡ self.old) }
     {
         if !is_lawful(&fate) {

@@ -2,7 +2,7 @@
 
 ghost use Rattle.std.specs.Prelude.{◌≡◌, ◌<◌, ◌≤◌, ◌+◌, ◌++◌, length};
 ghost use Rattle.stk_frame.specs.declared.protocol.TheConstants.{EXTENDED_ADDRESS, LARGEST_BODY};
-ghost use Rattle.stk_emu.specs.Programmer.{after_instructions, page_writes, block_loads, block_reads};
+ghost use Rattle.stk_emu.specs.Programmer.{after_instructions, flash_loads, page_writes, flash_reads};
 
 use crate::programmer::Body;
 use crate::spi::{at_address, extend, for_half, word_at};
@@ -26,7 +26,8 @@ pub(crate) struct Block {
 pub(crate) fn load_page(chip: &mut Chip, block: Block, bytes: &[u8])
     requires address { block.address < EXTENDED_ADDRESS }
     requires count { length bytes.now < 65536 }
-    ensures { chip.new ≡ after_instructions (block_loads block bytes.now) chip.old }
+    ensures { chip.new ≡ after_instructions
+        (flash_loads block.wide block.command block.address 0 bytes.now) chip.old }
 {
     if block.command == LOAD && !bytes.is_empty() {
         if chip.load_block((block.address % 256) as u8, bytes) {
@@ -56,8 +57,9 @@ pub(crate) fn write_page(chip: &mut Chip, block: Block, is_asked: bool)
 pub(crate) fn read(chip: &mut Chip, block: Block, count: u16, out: &mut Body)
     requires address { block.address < EXTENDED_ADDRESS }
     requires room { length out.old.items + count ≤ LARGEST_BODY }
-    ensures bytes { out.new.items ≡ out.old.items ++ (block_reads block count chip.old).0 }
-    ensures chip { chip.new ≡ (block_reads block count chip.old).1 }
+    ensures bytes { out.new.items ≡ out.old.items
+        ++ (flash_reads block.wide block.command block.address 0 count chip.old).0 }
+    ensures chip { chip.new ≡ (flash_reads block.wide block.command block.address 0 count chip.old).1 }
 {
     if block.command == READ && count != 0 {
         // The loop below, if it comes to that, sends the extended address again.

@@ -36,11 +36,10 @@ const MODE_WRITE: u8 = 0x80;
 /// The emulated programmer, with the chip at its pins.
 #[derive(Drop)]
 pub(crate) struct Programmer {
-    /// Whether it is in programming mode.
-    mode: bool,
+    is_programming: bool,
     address: u32,
     /// Whether the extended address is sent before instructions for flash.
-    wide: bool,
+    has_extended_address: bool,
     parameters: [u8; 256],
     chip: Chip,
 }
@@ -53,9 +52,9 @@ impl Model for Programmer {
     ghost Value = { State };
 
     ghost view = { λ p. record {
-      mode = p.mode;
+      mode = p.is_programming;
       address = p.address;
-      wide = p.wide;
+      wide = p.has_extended_address;
       parameters = p.parameters;
       chip = p.chip;
     } };
@@ -104,9 +103,9 @@ impl Programmer {
         ensures { result ≡ fresh_programmer chip }
     {
         Programmer {
-            mode: false,
+            is_programming: false,
             address: 0,
-            wide: false,
+            has_extended_address: false,
             parameters: [0; 256],
             chip,
         }
@@ -129,9 +128,9 @@ impl Programmer {
     pub fn restart(&mut self)
         ensures { self.new ≡ restarted_programmer self.old }
     {
-        self.mode = false;
+        self.is_programming = false;
         self.address = 0;
-        self.wide = false;
+        self.has_extended_address = false;
         self.parameters = [0; 256];
         self.chip.spi(PROGRAMMING_ENABLE);
     }
@@ -160,14 +159,14 @@ impl Programmer {
         ensures { (out.new.items, self.new) ≡ execute_command (Command.LoadAddress address) self.old }
     {
         self.address = address % EXTENDED_ADDRESS;
-        self.wide = EXTENDED_ADDRESS <= address;
+        self.has_extended_address = EXTENDED_ADDRESS <= address;
         reply_with(out, &[CMD_LOAD_ADDRESS, STATUS_CMD_OK]);
     }
 
     fn enter_progmode(&mut self, fields: &EnterProgmode, out: &mut Body)
         ensures { (out.new.items, self.new) ≡ enter_progmode fields.now self.old }
     {
-        self.mode = false;
+        self.is_programming = false;
         if fields.poll_index > 4 {
             return fail(out, CMD_ENTER_PROGMODE_ISP);
         }
@@ -178,7 +177,7 @@ impl Programmer {
         if !is_polled {
             return fail(out, CMD_ENTER_PROGMODE_ISP);
         }
-        self.mode = true;
+        self.is_programming = true;
         reply_with(out, &[CMD_ENTER_PROGMODE_ISP, STATUS_CMD_OK]);
     }
 
@@ -186,7 +185,7 @@ impl Programmer {
     fn leave_progmode(&mut self, out: &mut Body)
         ensures { (out.new.items, self.new) ≡ execute_command (Command.LeaveProgmode 0 0) self.old }
     {
-        self.mode = false;
+        self.is_programming = false;
         reply_with(out, &[CMD_LEAVE_PROGMODE_ISP, STATUS_CMD_OK]);
     }
 
@@ -194,7 +193,7 @@ impl Programmer {
     fn chip_erase(&mut self, instruction: [u8; 4], out: &mut Body)
         ensures { (out.new.items, self.new) ≡ execute_command (Command.ChipErase 0 0 instruction) self.old }
     {
-        if !self.mode {
+        if !self.is_programming {
             return fail(out, CMD_CHIP_ERASE_ISP);
         }
         self.chip.spi(instruction);
@@ -204,7 +203,7 @@ impl Programmer {
     fn program_byte(&mut self, code: u8, instruction: [u8; 4], out: &mut Body)
         ensures { (out.new.items, self.new) ≡ program_byte code instruction self.old }
     {
-        if !self.mode {
+        if !self.is_programming {
             return fail(out, code);
         }
         self.chip.spi(instruction);
@@ -215,7 +214,7 @@ impl Programmer {
         ensures { (out.new.items, self.new) ≡ read_byte code fields.now self.old }
     {
         let place = fields.return_address;
-        if !self.mode || place < 1 || place > 4 {
+        if !self.is_programming || place < 1 || place > 4 {
             return fail(out, code);
         }
         let bytes = self.chip.spi(fields.instruction);
@@ -242,7 +241,7 @@ impl Programmer {
         ensures { result ≡ record { wide = self.now.wide; command = command; address = self.now.address } }
     {
         Block {
-            wide: self.wide,
+            wide: self.has_extended_address,
             command,
             address: self.address,
         }
@@ -253,7 +252,7 @@ impl Programmer {
     {
         let count = fields.count;
         let bytes = fields.bytes.bytes();
-        if !self.mode
+        if !self.is_programming
             || count == 0
             || count % 2 != 0
             || usize::from(count) != bytes.len()
@@ -274,7 +273,7 @@ impl Programmer {
     {
         let count = fields.count;
         let bytes = fields.bytes.bytes();
-        if !self.mode || count == 0 || usize::from(count) != bytes.len() {
+        if !self.is_programming || count == 0 || usize::from(count) != bytes.len() {
             return fail(out, CMD_PROGRAM_EEPROM_ISP);
         }
         let address = self.address;
@@ -293,7 +292,7 @@ impl Programmer {
         ensures { (out.new.items, self.new) ≡ read_flash fields.now self.old }
     {
         let count = fields.count;
-        if !self.mode || count == 0 || count % 2 != 0 || count > LARGEST_READ {
+        if !self.is_programming || count == 0 || count % 2 != 0 || count > LARGEST_READ {
             return fail(out, CMD_READ_FLASH_ISP);
         }
         reply_with(out, &[CMD_READ_FLASH_ISP, STATUS_CMD_OK]);
@@ -307,7 +306,7 @@ impl Programmer {
         ensures { (out.new.items, self.new) ≡ read_eeprom fields.now self.old }
     {
         let count = fields.count;
-        if !self.mode || count == 0 || count > LARGEST_READ {
+        if !self.is_programming || count == 0 || count > LARGEST_READ {
             return fail(out, CMD_READ_EEPROM_ISP);
         }
         reply_with(out, &[CMD_READ_EEPROM_ISP, STATUS_CMD_OK]);
@@ -320,7 +319,7 @@ impl Programmer {
         ensures { (out.new.items, self.new) ≡ spi_multi send receive start bytes.now self.old }
     {
         let end = usize::from(start) + usize::from(receive);
-        if !self.mode || send != 4 || end > 4 {
+        if !self.is_programming || send != 4 || end > 4 {
             return fail(out, CMD_SPI_MULTI);
         }
         let [a, b, c, d] = bytes else {

@@ -29,7 +29,7 @@ pub trait Recorder: Drop {
         ensures { transcript self.new ≡ transcript self.old ++ piece.Sent bytes.now ∷ [] };
 
     /// Records what was received; its bytes are at the start of the buffer. If allocation fails, nothing changes.
-    fn receive_piece(&mut self, heard: Heard, buffer: &[u8]) -> Result<(), AllocError>
+    fn add_received(&mut self, heard: Heard, buffer: &[u8]) -> Result<(), AllocError>
         requires { FitsBuffer heard (length buffer.now) }
         ensures ok { OnOk result (transcript self.new ≡ transcript self.old ++ piece.Got
             (piece.items_of heard buffer.now) ∷ []) }
@@ -55,8 +55,8 @@ impl Recorder for Log {
         Log::add_sent(self, bytes);
     }
 
-    fn receive_piece(&mut self, heard: Heard, buffer: &[u8]) -> Result<(), AllocError> {
-        Log::receive_piece(self, heard, buffer)
+    fn add_received(&mut self, heard: Heard, buffer: &[u8]) -> Result<(), AllocError> {
+        Log::add_received(self, heard, buffer)
     }
 }
 
@@ -108,7 +108,7 @@ impl Recorder for Unlogged {
         self.history = self.history.then(&Piece::Sent(bytes, bytes.len()));
     }
 
-    fn receive_piece(&mut self, heard: Heard, buffer: &[u8]) -> Result<(), AllocError> {
+    fn add_received(&mut self, heard: Heard, buffer: &[u8]) -> Result<(), AllocError> {
         self.history = self.history.then(&Piece::Received(&heard, buffer));
         Ok(())
     }

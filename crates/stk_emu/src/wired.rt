@@ -267,7 +267,7 @@ impl<R: Recorder> Link for Wired<R> {
         } else {
             Heard::Bytes(count)
         };
-        let Ok(()) = self.log.receive_piece(heard, &buffer[..count]) else {
+        let Ok(()) = self.log.add_received(heard, &buffer[..count]) else {
             return Err(self.fail());
         };
         self.waits.drop_next(count);

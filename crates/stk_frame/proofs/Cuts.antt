@@ -11,10 +11,8 @@ use Rattle.stk_frame.specs.Cut.{cut, rest, pieces_after, rest_after, piece_size,
 -- the bytes already taken are only counted
 behind_is : (taken : ℕ) (bytes : List ℕ)
     → (pieces_after taken bytes ≡ cut (drop taken bytes)) × (rest_after taken bytes ≡ rest (drop taken bytes))
-behind_is zero [] = (refl, refl)
-behind_is (suc taken) [] = (refl, refl)
-behind_is zero (b ∷ bs) = (refl, refl)
 behind_is (suc taken) (b ∷ bs) = behind_is taken bs
+behind_is _ _ = (refl, refl)
 
 start_only : (a : ℕ) (y : List ℕ) → (a == 27) ≡ false → piece_size (a ∷ y) ≡ 1
 start_only a y e = search rules
@@ -86,11 +84,6 @@ cut_joined = by_pieces (λ x. concat (cut x) ++ rest x ≡ x) (λ x part. rw (cu
     (λ x whole inner. search (rules, cut_piece, rest_piece, append_assoc, take-append-drop))
 
 pub taken_size : (y : List ℕ) → piece_size y ≤ length y → piece_size (take (piece_size y) y) ≡ piece_size y
-taken_size [] whole = absurd (omega arith)
-taken_size (a ∷ []) whole = search (rules, start_only)
-taken_size (a ∷ b ∷ []) whole = search (rules, start_only)
-taken_size (a ∷ b ∷ c ∷ []) whole = search (rules, start_only)
-taken_size (a ∷ b ∷ c ∷ d ∷ []) whole = search (rules, start_only)
 taken_size (a ∷ b ∷ c ∷ d ∷ e ∷ more) whole = elim (cases_Bool (a == 27)) [
   | inl start ↦
       let y : List ℕ = a ∷ b ∷ c ∷ d ∷ e ∷ more in
@@ -99,6 +92,7 @@ taken_size (a ∷ b ∷ c ∷ d ∷ e ∷ more) whole = elim (cases_Bool (a == 2
       omega arith in is)
   | inr other ↦ (search (rules, start_only))
 ]
+taken_size _ whole = search (rules, start_only)
 
 -- the cutting finds pieces, and a part of one is left
 pieces_whole : (x : List ℕ) → All IsPiece (cut x)

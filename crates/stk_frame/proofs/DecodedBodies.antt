@@ -4,14 +4,11 @@ use Rattle.std.proofs.lemmas.Bool.{eqb-true, cases_Bool, cond-true, cond-false}
 use Rattle.std.specs.Prelude.{◌==◌, MatchOption, ◌↔◌, option_map}
 use Rattle.byteorder.specs.Endian.{big_bytes, big_number}
 use Rattle.stk_frame.specs.declared.command.Command.{Command}
-use Rattle.stk_frame.specs.declared.command.Command.TheVariants.{ProgramFlash, ReadFlash, ProgramEeprom, ReadEeprom}
-use Rattle.stk_frame.specs.Commands.{body, program_block_fields, read_block_fields, read_byte_fields}
-use Rattle.stk_frame.specs.Decoding.{FieldsFit, command_of, enter_progmode_of, program_block_of, read_block_of, instruction, read_byte_of}
+use Rattle.stk_frame.specs.declared.command.Command.TheVariants.{ProgramFlash, ReadFlash, ProgramEeprom, ReadEeprom, ReadFuse}
+use Rattle.stk_frame.specs.Commands.{body, fields as encoded_fields, program_block_fields}
+use Rattle.stk_frame.specs.Decoding.{FieldsFit, command_of, program_block_of, read_block_of, instruction, read_byte_of}
 
-abbrev IsReadBack : Command → Type 0
-IsReadBack c = command_of (body c) ≡ Some c
-
-pub read_back : (c : Command) → FieldsFit c → IsReadBack c
+pub read_back : (c : Command) → FieldsFit c → command_of (body c) ≡ Some c
 read_back c fits = search rules
 
 -- What was read is a command of exactly this body.
@@ -37,25 +34,10 @@ four_back : (a b c d : ℕ) → a < 256 → b < 256 → c < 256 → d < 256
     → big_bytes 4 (big_number 4 (a ∷ b ∷ c ∷ d ∷ [])) ≡ a ∷ b ∷ c ∷ d ∷ []
 four_back a b c d e f g h = search rules
 
-set_parameter_sound : (fields : List ℕ) → Sound 0x02 fields (command_of (0x02 ∷ fields))
-set_parameter_sound fields = search rules
-
-get_parameter_sound : (fields : List ℕ) → Sound 0x03 fields (command_of (0x03 ∷ fields))
-get_parameter_sound fields = search rules
-
 load_address_sound : (fields : List ℕ) → Below fields → Sound 0x06 fields (command_of (0x06 ∷ fields))
 load_address_sound (a ∷ b ∷ c ∷ d ∷ []) below =
     search (rules, four_back a b c d (below 0) (below 1) (below 2) (below 3))
 load_address_sound _ below = record { emits = tt }
-
-enter_progmode_sound : (fields : List ℕ) → Sound 0x10 fields (enter_progmode_of fields)
-enter_progmode_sound fields = search rules
-
-leave_progmode_sound : (fields : List ℕ) → Sound 0x11 fields (command_of (0x11 ∷ fields))
-leave_progmode_sound fields = search rules
-
-chip_erase_sound : (fields : List ℕ) → Sound 0x12 fields (command_of (0x12 ∷ fields))
-chip_erase_sound fields = search rules
 
 program_block_back : (fields : List ℕ) → Below fields
     → Back program_block_fields (λ f. f.count < 65536) fields (program_block_of fields)
@@ -63,14 +45,15 @@ program_block_back (h ∷ l ∷ m ∷ d ∷ x ∷ y ∷ z ∷ p ∷ q ∷ bytes)
 program_block_back _ below = record { emits = tt }
 
 read_block_back : (fields : List ℕ) → Below fields
-    → Back read_block_fields (λ f. f.count < 65536) fields (read_block_of fields)
+    → Back (λ f. encoded_fields (ReadFlash f)) (λ f. f.count < 65536) fields (read_block_of fields)
 read_block_back (h ∷ l ∷ x ∷ []) below = search (rules, pair_back h l (below 0) (below 1))
 read_block_back _ below = record { emits = tt }
 
 instruction_back : (fields : List ℕ) → Back (λ bytes. bytes) (λ bytes. length bytes ≡ 4) fields (instruction fields)
 instruction_back fields = search rules
 
-read_byte_back : (fields : List ℕ) → Back read_byte_fields (λ f. length f.instruction ≡ 4) fields (read_byte_of fields)
+read_byte_back : (fields : List ℕ)
+    → Back (λ f. encoded_fields (ReadFuse f)) (λ f. length f.instruction ≡ 4) fields (read_byte_of fields)
 read_byte_back fields = search rules
 
 spi_multi_sound : (fields : List ℕ) → Sound 0x1D fields (command_of (0x1D ∷ fields))
@@ -84,12 +67,12 @@ row own code fields read others is other = search (rules, cases_Bool, cond-true,
 with_fields_sound : (code : ℕ) (fields : List ℕ) → Below fields → Sound code fields (command_of (code ∷ fields))
 with_fields_sound code fields below =
     row 0x01 code fields _ _ (search rules)
-    (row 0x02 code fields _ _ (set_parameter_sound fields)
-    (row 0x03 code fields _ _ (get_parameter_sound fields)
+    (row 0x02 code fields _ _ (search rules)
+    (row 0x03 code fields _ _ (search rules)
     (row 0x06 code fields _ _ (load_address_sound fields below)
-    (row 0x10 code fields _ _ (enter_progmode_sound fields)
-    (row 0x11 code fields _ _ (leave_progmode_sound fields)
-    (row 0x12 code fields _ _ (chip_erase_sound fields)
+    (row 0x10 code fields _ _ (search rules)
+    (row 0x11 code fields _ _ (search rules)
+    (row 0x12 code fields _ _ (search rules)
     (row 0x13 code fields _ _ (made 0x13 fields ProgramFlash _ (λ f k. (refl, k)) (program_block_back fields below))
     (row 0x14 code fields _ _ (made 0x14 fields ReadFlash _ (λ f k. (refl, k)) (read_block_back fields below))
     (row 0x15 code fields _ _ (made 0x15 fields ProgramEeprom _ (λ f k. (refl, k)) (program_block_back fields below))

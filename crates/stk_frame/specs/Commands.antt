@@ -3,10 +3,7 @@ use Rattle.std.specs.Prelude.{ℕ, List, [], ◌∷◌, ◌++◌, ◌+◌, lengt
 use Rattle.byteorder.specs.Endian.{big_bytes}
 use Rattle.stk_frame.specs.declared.command.Command.{Command}
 use Rattle.stk_frame.specs.declared.command.Command.TheVariants.{SignOn, SetParameter, GetParameter, LoadAddress, EnterProgmode, LeaveProgmode, ChipErase, ProgramFlash, ReadFlash, ProgramEeprom, ReadEeprom, ProgramFuse, ReadFuse, ProgramLock, ReadLock, ReadSignature, ReadOsccal, SpiMulti}
-use Rattle.stk_frame.specs.declared.command.EnterProgmode.{EnterProgmode as EnterFields}
 use Rattle.stk_frame.specs.declared.command.ProgramBlock.{ProgramBlock}
-use Rattle.stk_frame.specs.declared.command.ReadBlock.{ReadBlock}
-use Rattle.stk_frame.specs.declared.command.ReadByte.{ReadByte}
 use Rattle.stk_frame.specs.declared.answer.Shape.{Shape}
 use Rattle.stk_frame.specs.declared.answer.Shape.TheVariants.{Name, Bytes, Closed}
 use Rattle.stk_frame.specs.declared.answer.FrameFault.{FrameFault}
@@ -34,21 +31,10 @@ code (ReadSignature f) = CMD_READ_SIGNATURE_ISP
 code (ReadOsccal f) = CMD_READ_OSCCAL_ISP
 code (SpiMulti send_count receive_count receive_start bytes) = CMD_SPI_MULTI
 
--- The fields of each command whose fields are a struct, in AVR068's order.
-abbrev pub enter_progmode_fields : EnterFields → List ℕ
-enter_progmode_fields f =
-    f.timeout ∷ f.stab_delay ∷ f.command_delay ∷ f.synch_loops ∷ f.byte_delay ∷ f.poll_value ∷ f.poll_index
-    ∷ f.instruction
-
+-- The fields of a block that is programmed, in AVR068's order.
 abbrev pub program_block_fields : ProgramBlock → List ℕ
 program_block_fields f =
     big_bytes 2 f.count ++ f.mode ∷ f.delay ∷ f.cmd1 ∷ f.cmd2 ∷ f.cmd3 ∷ f.poll1 ∷ f.poll2 ∷ f.bytes
-
-abbrev pub read_block_fields : ReadBlock → List ℕ
-read_block_fields f = big_bytes 2 f.count ++ f.cmd1 ∷ []
-
-abbrev pub read_byte_fields : ReadByte → List ℕ
-read_byte_fields f = f.return_address ∷ f.instruction
 
 -- The bytes of a command's fields, in their order, each number with its highest byte first.
 abbrev pub fields : Command → List ℕ
@@ -56,19 +42,20 @@ fields SignOn = []
 fields (SetParameter number value) = number ∷ value ∷ []
 fields (GetParameter number) = number ∷ []
 fields (LoadAddress address) = big_bytes 4 address
-fields (EnterProgmode f) = enter_progmode_fields f
+fields (EnterProgmode f) = f.timeout ∷ f.stab_delay ∷ f.command_delay ∷ f.synch_loops ∷ f.byte_delay ∷ f.poll_value
+    ∷ f.poll_index ∷ f.instruction
 fields (LeaveProgmode pre_delay post_delay) = pre_delay ∷ post_delay ∷ []
 fields (ChipErase erase_delay poll_method instruction) = erase_delay ∷ poll_method ∷ instruction
 fields (ProgramFlash f) = program_block_fields f
-fields (ReadFlash f) = read_block_fields f
+fields (ReadFlash f) = big_bytes 2 f.count ++ f.cmd1 ∷ []
 fields (ProgramEeprom f) = program_block_fields f
-fields (ReadEeprom f) = read_block_fields f
+fields (ReadEeprom f) = big_bytes 2 f.count ++ f.cmd1 ∷ []
 fields (ProgramFuse instruction) = instruction
-fields (ReadFuse f) = read_byte_fields f
+fields (ReadFuse f) = f.return_address ∷ f.instruction
 fields (ProgramLock instruction) = instruction
-fields (ReadLock f) = read_byte_fields f
-fields (ReadSignature f) = read_byte_fields f
-fields (ReadOsccal f) = read_byte_fields f
+fields (ReadLock f) = f.return_address ∷ f.instruction
+fields (ReadSignature f) = f.return_address ∷ f.instruction
+fields (ReadOsccal f) = f.return_address ∷ f.instruction
 fields (SpiMulti send_count receive_count receive_start bytes) = send_count ∷ receive_count ∷ receive_start ∷ bytes
 
 -- The body of a command's frame.

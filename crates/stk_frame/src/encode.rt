@@ -2,7 +2,7 @@
 ghost use Rattle.std.specs.Prelude.{◌≡◌, ◌+◌, ◌<◌, ◌≤◌, ◌++◌, length, ◌∷◌, [], drop};
 ghost use Rattle.byteorder.specs.Endian.{big_bytes};
 ghost use Rattle.stk_frame.specs.Frame.{frame, xor_all};
-ghost use Rattle.stk_frame.specs.Commands.{body, fields, enter_progmode_fields, program_block_fields};
+ghost use Rattle.stk_frame.specs.Commands.{body, fields, program_block_fields};
 
 use crate::command::{Command, EnterProgmode, ProgramBlock};
 use crate::protocol::{HEADER_SIZE, LARGEST_BODY, LARGEST_FRAME, MESSAGE_START, TOKEN};
@@ -117,8 +117,8 @@ fn put_program_block<const CAP: usize>(out: &mut ArrayVec<u8, CAP>, block: &Prog
 }
 
 fn put_enter_progmode<const CAP: usize>(out: &mut ArrayVec<u8, CAP>, enter: &EnterProgmode)
-    requires { length out.old.items + length (enter_progmode_fields enter.now) ≤ CAP }
-    ensures { out.new.items ≡ out.old.items ++ enter_progmode_fields enter.now }
+    requires { length out.old.items + length (fields (Command.EnterProgmode enter.now)) ≤ CAP }
+    ensures { out.new.items ≡ out.old.items ++ fields (Command.EnterProgmode enter.now) }
 {
     put(
         out,

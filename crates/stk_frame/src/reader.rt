@@ -47,14 +47,15 @@ pub struct FrameReader {
 }
 
 impl Model for FrameReader {
-    ghost use Rattle.std.specs.Prelude.{List, ℕ};
-    ghost use Rattle.stk_frame.specs.Reader.{IsHeld};
+    ghost use Rattle.std.specs.Prelude.{List, ℕ, ◌≤◌, length};
+    ghost use Rattle.stk_frame.specs.Cut.{piece_size};
 
     ghost Value = { List ℕ };
 
     ghost view = { λ reader. reader.held.items };
 
-    ghost invariant = { λ reader. IsHeld reader.held.items };
+    // It holds less than a whole piece, or one whole frame.
+    ghost invariant = { λ reader. length reader.held.items ≤ piece_size reader.held.items };
 }
 
 /// Returns the size of the body, if the header is one of a frame.
@@ -190,6 +191,7 @@ impl FrameReader {
     /// let spoiled = [0x1B, 0x01, 0x00, 0x01, 0x0E, 0x01, 0x15];
     /// assert!(rt; reader.feed(&spoiled) == (7, Event::Spoiled));
     /// ```
+    #[tactic(auto, using(crate::proofs::FedReaders::within_span, crate::proofs::FedReaders::fed_span))]
     pub fn feed(&mut self, piece: &[u8]) -> (usize, Event)
         ensures within { result.0 ≤ length piece.now }
         ensures all { result.1 ≡ Event.More → result.0 ≡ length piece.now }

@@ -1,19 +1,17 @@
 -- What calls over a link ensure: listening, conversations, and the calls of `Host`.
-use Rattle.std.specs.Prelude.{ℕ, Bool, true, List, [], ◌∷◌, ◌++◌, ◌≡◌, ◌<◌, ◌≤◌, length, Option, None, Some, Result, Ok, Err, IfOk, IfErr, IfSome, IsOkAnd, OnErr, ◌⊎◌}
+use Rattle.std.specs.Prelude.{ℕ, Bool, true, List, [], ◌∷◌, ◌++◌, ◌≡◌, ◌<◌, ◌≤◌, length, Option, None, Some, Result, Ok, Err, IfOk, IfErr, IfSome, IsOkAnd, ◌⊎◌}
 use Rattle.stk_frame.specs.declared.protocol.TheConstants.{LARGEST_BODY, LARGEST_FRAME}
 use Rattle.stk_frame.specs.declared.command.Command.{Command}
 use Rattle.stk_frame.specs.declared.answer.Shape.{Shape}
 use Rattle.stk_frame.specs.declared.answer.Shape.TheVariants.{Name, Bytes, Closed}
 use Rattle.stk_frame.specs.Commands.{body, shape, FitsShape}
 use Rattle.stk_frame.specs.Cut.{body_of}
-use Rattle.stk_frame.specs.Reader.{HoldsFrame}
 use Rattle.stk_frame.specs.Names.{command_names, name_in, status_names}
 use Rattle.ghosts.specs.Preserves.{Preserves}
 use Rattle.stk_host.specs.declared.link.Link.{Ghosts}
 use Rattle.stk_host.specs.declared.link.Heard.{Heard}
 use Rattle.stk_host.specs.declared.link.Heard.TheVariants as heard
 use Rattle.stk_host.specs.declared.link.Item.TheVariants as item
-use Rattle.stk_host.specs.declared.link.LinkFault.{LinkFault}
 use Rattle.stk_host.specs.declared.listen.Reading.{Reading}
 use Rattle.stk_host.specs.declared.listen.Reading.TheVariants as read
 use Rattle.stk_host.specs.declared.conversation.Reply.{Reply}
@@ -26,10 +24,10 @@ use Rattle.stk_host.specs.Tape.{on_tape}
 use Rattle.stk_host.specs.Steps as steps
 use Rattle.stk_host.specs.Steps.{play}
 use Rattle.stk_host.specs.Operations.{host_fault, signature_checked}
-use Rattle.stk_host.specs.Transcript.{LinkState, Got, Grows, LinkCounts}
+use Rattle.stk_host.specs.Transcript.{LinkState, Got, Grows}
 use Rattle.stk_host.specs.Dialog.{Dialog}
 use Rattle.stk_host.specs.Play.{Progress, RunsOverLink, BreaksOverLink}
-use Rattle.stk_host.specs.Reach.{Reaches, ReceivesReply, ReceivesNoReply}
+use Rattle.stk_host.specs.Reach.{Reaches}
 use Rattle.stk_host.specs.State.{ConversationState, HostState, data_held, lasting_fault}
 
 -- At most 281 bytes are unread: those of one piece.
@@ -44,39 +42,12 @@ ReceivesPiece heard.Silence unread old new =
     (unread ≡ []) × Grows old.transcript (Got (item.Silence ∷ []) ∷ []) new.transcript
 ReceivesPiece heard.End unread old new = (unread ≡ []) × Grows old.transcript (Got (item.End ∷ []) ∷ []) new.transcript
 
--- What `Unread::receive_piece` ensures: it receives a piece of at most `most` bytes, and only that piece is unread
--- then.
-pub record ReceivesNextPiece {L : Type 0} (link : Ghosts L) (most : ℕ) (old new : L) (unread : List ℕ)
-    (result : Result Heard LinkFault) : Type 0 where
-  pub within : length unread ≤ most
-  pub fits : length unread ≤ LARGEST_FRAME
-  pub ok : IfOk result (λ heard. ReceivesPiece heard unread (link.view old) (link.view new))
-  pub err : OnErr result (Grows (link.view old).transcript [] (link.view new).transcript)
-  pub counts : LinkCounts (link.view old) (link.view new) result
-  pub comes : Preserves link.started_as old new
-
 -- How listening ended, with the body of the reply that the reader holds.
 abbrev pub reading_of : Reading → List ℕ → tape.Reading
 reading_of read.Replied held = tape.Replied (body_of held)
 reading_of read.Silent held = tape.Silent
 reading_of read.Ended held = tape.Ended
 reading_of read.Babbled held = tape.Babbled
-
--- If a reply was received, the reader holds its frame.
-abbrev pub HoldsReply : Reading → List ℕ → Type 0
-HoldsReply read.Replied held = HoldsFrame held
-HoldsReply _ held = Unit {0}
-
--- What `listen` ensures: how it ends, what the reader holds, and which bytes are unread then.
-pub record ListensForReply {L : Type 0} (link : Ghosts L) (seq : ℕ) (old new : L) (before after held : List ℕ)
-    (result : Result Reading LinkFault) : Type 0 where
-  pub ok : IfOk result (λ reading. ReceivesReply seq before (link.view old) (link.view new)
-      (reading_of reading held) after)
-  pub holds : IfOk result (λ reading. HoldsReply reading held)
-  pub err : OnErr result (ReceivesNoReply seq before (link.view old) (link.view new))
-  pub counts : LinkCounts (link.view old) (link.view new) result
-  pub fits : length after ≤ LARGEST_FRAME
-  pub comes : Preserves link.started_as old new
 
 -- A reply of the code, with its data, as a reply of a dialog.
 abbrev pub reply_of : Reply → List ℕ → steps.Reply
@@ -210,8 +181,3 @@ status_named fault = None
 abbrev pub opening_result : List ℕ → Bool → Result (List ℕ) HostFault → Result (List ℕ) HostFault
 opening_result wanted force (Ok found) = signature_checked wanted force found
 opening_result wanted force (Err fault) = Err fault
-
--- The bytes of a read, or none after a fault.
-abbrev pub emptied_on_fault : Result (Unit {0}) HostFault → List ℕ → List ℕ
-emptied_on_fault (Ok done) bytes = bytes
-emptied_on_fault (Err fault) bytes = []

@@ -1,5 +1,5 @@
 -- The states of this crate's links, and what one call does.
-use Rattle.std.specs.Prelude.{ℕ, Bool, List, [], ◌∷◌, ◌++◌, ◌≡◌, ◌≢◌, ◌==◌, ◌≤◌, ◌<◌, ◌+◌, ◌-◌, replicate, take, Option, Some, None, Result, Err, OnErr}
+use Rattle.std.specs.Prelude.{ℕ, List, [], ◌∷◌, ◌++◌, ◌≡◌, ◌≢◌, ◌≤◌, ◌<◌, ◌+◌, ◌-◌, replicate, take, Option, Some, None, Result, Err, OnErr}
 use Rattle.std.specs.Io.KnownBytes.{Keeps, Appends, Consumes, IsAtEnd}
 use Rattle.std.specs.declared.io.ErrorKind.{ErrorKind}
 use Rattle.std.specs.declared.io.ErrorKind.TheVariants.{WouldBlock, TimedOut, Interrupted}
@@ -10,7 +10,7 @@ use Rattle.stk_host.specs.declared.link.Item.TheVariants.{Byte, Silence, End}
 use Rattle.stk_host.specs.declared.link.LinkFault.{LinkFault}
 use Rattle.stk_host.specs.declared.link.LinkFault.TheVariants.{Failed}
 use Rattle.stk_host.specs.Tape.{Tape, on_tape, leading_bytes, bytes_on_tape}
-use Rattle.ghosts.specs.Failures.{counted, OneFailureCounted}
+use Rattle.ghosts.specs.Failures.{counted}
 use Rattle.stk_host.specs.Transcript.{Transcript, LinkState, TakesPart, HasFailed, heard, sent}
 
 -- A log: the transcript, and its room for pieces and for bytes sent.
@@ -108,16 +108,6 @@ pub record FailingState (L : Type 0) : Type 0 where
   pub due : ℕ
   pub cut : ℕ
   pub failed : ℕ
-
--- A call of a failing link was counted. `is_due` states whether it is the one that fails.
-pub record CountsCall {L : Type 0} (old new : FailingState L) (is_due : Bool) : Type 0 where
-  pub value : is_due ≡ (old.due == 1)
-  pub due : new.due ≡ old.due - 1
-  pub inner : new.inner ≡ old.inner
-  pub cut : new.cut ≡ old.cut
-  pub failed : old.due ≡ 1 → OneFailureCounted old.failed new.failed
-  pub sound : old.due ≢ 1 → new.failed ≡ old.failed
-  pub counted : old.failed ≤ new.failed
 
 -- The due call fails without calling the inner link. Any other call fails only if the inner link does.
 pub record FailsAsPlanned {A L : Type 0} (view : L → LinkState) (old new : FailingState L)

@@ -1,6 +1,7 @@
 //! A link that fails once, at a chosen call: for tests of code that uses links.
-ghost use Rattle.std.specs.Prelude.{◌≡◌, ◌==◌, ◌<◌, ◌≤◌, ◌+◌, ◌-◌, length, min, Err, IfOk};
-ghost use Rattle.stk_host.specs.Links.{failing_link_state, CountsCall, FailsAsPlanned};
+ghost use Rattle.std.specs.Prelude.{◌≡◌, ◌≢◌, ◌==◌, ◌<◌, ◌≤◌, ◌+◌, ◌-◌, length, min, Err, IfOk};
+ghost use Rattle.stk_host.specs.Links.{failing_link_state, FailsAsPlanned};
+ghost use Rattle.ghosts.specs.Failures.{OneFailureCounted};
 ghost use Rattle.ghosts.specs.Preserves.{Preserves};
 ghost use Rattle.stk_host.specs.Transcript.{Sends, Receives, FitsBuffer};
 
@@ -81,7 +82,13 @@ impl<L> FailingLink<L> {
 
     /// Counts a call, and returns whether it is the one that fails.
     fn is_due(&mut self) -> bool
-        ensures { CountsCall self.old self.new result }
+        ensures value { result ≡ (self.old.due == 1) }
+        ensures due { self.new.due ≡ self.old.due - 1 }
+        ensures inner { self.new.inner ≡ self.old.inner }
+        ensures cut { self.new.cut ≡ self.old.cut }
+        ensures failed { self.old.due ≡ 1 → OneFailureCounted self.old.failed self.new.failed }
+        ensures sound { self.old.due ≢ 1 → self.new.failed ≡ self.old.failed }
+        ensures counted { self.old.failed ≤ self.new.failed }
     {
         let is_due = self.due == 1;
         self.due = self.due.saturating_sub(1);

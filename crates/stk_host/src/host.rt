@@ -1,5 +1,5 @@
 //! The host: operations over a link, and the fault after which nothing more is sent.
-ghost use Rattle.std.specs.Prelude.{◌≡◌, ◌<◌, ◌≤◌, ◌^◌, ℕ, List, [], length, Some, None, Ok, Err, IfOk, OnOk, OnErr, MatchOption, true, false, ◌∷◌};
+ghost use Rattle.std.specs.Prelude.{◌≡◌, ◌<◌, ◌≤◌, ◌^◌, ℕ, List, [], length, Some, None, Ok, Err, IfOk, OnOk, OnErr, MatchOption, true, false, ◌∷◌, if◌then◌else◌, is_ok};
 ghost use Rattle.std.specs.Result.{result_and};
 ghost use Rattle.avr_part.specs.Mem.{is_writable};
 ghost use Rattle.avr_part.specs.Part.{size_of};
@@ -8,7 +8,7 @@ ghost use Rattle.stk_host.specs.declared.fault.HostFault.TheVariants as fault;
 ghost use Rattle.ghosts.specs.Preserves.{Preserves};
 ghost use Rattle.stk_host.specs.Operations.{opening, closing, erasing, writing, reading, comparison, verifying, handshake};
 ghost use Rattle.stk_host.specs.State.{lasting_fault};
-ghost use Rattle.stk_host.specs.Calls.{Calls, opening_result, emptied_on_fault, Converses, EndsSteps};
+ghost use Rattle.stk_host.specs.Calls.{Calls, opening_result, Converses, EndsSteps};
 ghost use Rattle.stk_frame.specs.HostCommands.{leave, read_signature};
 ghost use Rattle.stk_host.specs.Steps.{step};
 
@@ -89,7 +89,7 @@ fn check_signature(
 
 /// Empties the vector after a fault.
 fn clear_on_fault(outcome: &Result<(), HostFault>, out: &mut Vec<u8>)
-    ensures { out.new.items ≡ emptied_on_fault outcome.now out.old.items }
+    ensures { out.new.items ≡ (if is_ok outcome.now then out.old.items else []) }
 {
     if outcome.is_err() {
         out.clear();

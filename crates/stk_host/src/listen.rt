@@ -1,6 +1,9 @@
 //! Waits for a reply, and keeps the bytes received and not yet read.
-ghost use Rattle.std.specs.Prelude.{◌≡◌, ◌<◌, ◌≤◌, ◌↔◌, IsTrue, length, take, drop, [], true, false, None};
-ghost use Rattle.stk_host.specs.Calls.{ReceivesNextPiece, ListensForReply};
+ghost use Rattle.std.specs.Prelude.{◌≡◌, ◌<◌, ◌≤◌, ◌↔◌, IsTrue, IfOk, OnErr, length, take, drop, [], true, false, None};
+ghost use Rattle.ghosts.specs.Preserves.{Preserves};
+ghost use Rattle.stk_host.specs.Calls.{ReceivesPiece, reading_of};
+ghost use Rattle.stk_host.specs.Reach.{ReceivesReply, ReceivesNoReply};
+ghost use Rattle.stk_host.specs.Transcript.{Grows, LinkCounts};
 ghost use Rattle.stk_frame.specs.declared.protocol.TheConstants.{LARGEST_FRAME};
 ghost use Rattle.stk_frame.specs.Reader.{frames_of_event, EventMatchesHeld, HoldsFrame};
 ghost use Rattle.stk_host.specs.Tape.{is_reply, first_reply};
@@ -62,14 +65,19 @@ impl Unread {
         self.start += count;
     }
 
-    /// Receives the next piece, of at most `most` bytes.
+    /// Receives the next piece, of at most `most` bytes. Only that piece is unread then.
     pub(crate) fn receive_piece<L: Link>(
         &mut self,
         link: &mut L,
         most: usize,
     ) -> Result<Heard, LinkFault>
         requires { 0 < most }
-        ensures { ReceivesNextPiece L.Link most link.old link.new self.new result }
+        ensures within { length self.new ≤ most }
+        ensures fits { length self.new ≤ LARGEST_FRAME }
+        ensures ok { IfOk result (λ heard. ReceivesPiece heard self.new (L.view link.old) (L.view link.new)) }
+        ensures err { OnErr result (Grows (L.view link.old).transcript [] (L.view link.new).transcript) }
+        ensures counts { LinkCounts (L.view link.old) (L.view link.new) result }
+        ensures comes { Preserves L.started_as link.old link.new }
     {
         self.start = 0;
         self.end = 0;
@@ -115,7 +123,13 @@ pub(crate) fn listen<L: Link>(
     seq: u8,
 ) -> Result<Reading, LinkFault>
     requires { length unread.old ≤ LARGEST_FRAME }
-    ensures { ListensForReply L.Link seq link.old link.new unread.old unread.new reader.new result }
+    ensures ok { IfOk result (λ reading. ReceivesReply seq unread.old (L.view link.old) (L.view link.new)
+        (reading_of reading reader.new) unread.new) }
+    ensures holds { IfOk result (λ reading. reading ≡ Reading.Replied → HoldsFrame reader.new) }
+    ensures err { OnErr result (ReceivesNoReply seq unread.old (L.view link.old) (L.view link.new)) }
+    ensures counts { LinkCounts (L.view link.old) (L.view link.new) result }
+    ensures fits { length unread.new ≤ LARGEST_FRAME }
+    ensures comes { Preserves L.started_as link.old link.new }
 {
     reader.reset();
     let mut count = 0;

@@ -41,11 +41,18 @@ impl Model for Log {
 
     ghost Value = { LogState };
 
-    ghost use Rattle.stk_host.specs.Log.{log_state, CountsMatchMarks};
+    ghost use Rattle.std.specs.Prelude.{◌≡◌, ◌-◌, length, vec_len, vec_capacity};
+    ghost use Rattle.stk_host.specs.Log.{transcript_of, sent_count, received_count};
 
-    ghost view = { log_state };
+    ghost view = { λ log. record {
+      transcript = transcript_of log.marks.items log.out.items log.back.items;
+      piece_room = vec_capacity log.marks - vec_len log.marks;
+      byte_room = vec_capacity log.out - vec_len log.out;
+    } };
 
-    ghost invariant = { CountsMatchMarks };
+    // The marks count exactly the bytes that are stored.
+    ghost invariant = { λ log. (sent_count log.marks.items ≡ length log.out.items)
+        × (received_count log.marks.items ≡ length log.back.items) };
 }
 
 impl Log {
@@ -96,7 +103,7 @@ impl Log {
     }
 
     /// Adds what was received; its bytes are at the start of the buffer. If allocation fails, nothing is added.
-    pub fn receive_piece(&mut self, heard: Heard, buffer: &[u8]) -> Result<(), AllocError>
+    pub fn add_received(&mut self, heard: Heard, buffer: &[u8]) -> Result<(), AllocError>
         requires { FitsBuffer heard (length buffer.now) }
         ensures ok { OnOk result (self.new.transcript ≡ self.old.transcript ++ transcript.Got
             (transcript.items_of heard buffer.now) ∷ []) }

@@ -173,7 +173,7 @@ impl Link for TapeLink {
     {
         let most = self.cut.min(buffer.len());
         let heard = give_piece(&self.items[self.at..], &mut buffer[..most]);
-        let Ok(()) = self.log.receive_piece(heard, buffer) else {
+        let Ok(()) = self.log.add_received(heard, buffer) else {
             self.failures = self.failures.saturating_add(1);
             return Err(LinkFault::Failed);
         };

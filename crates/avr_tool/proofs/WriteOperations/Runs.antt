@@ -1,6 +1,7 @@
 -- The runs of a write do what the write does.
 use Rattle.std.proofs.lemmas.Grind.{common_steps}
 use Rattle.std.proofs.Common.{◌≡◌, ℕ, zero, suc, ◌+◌, ◌-◌, ◌*◌, ◌/◌, ◌%◌, ◌≤◌, ◌<◌, List, ◌∷◌, length, refl, ap, ◌∙◌, arith, inl, inr, ◌⊎◌, true, false, Option, Some, None, is_some, unwrap_or, rules}
+use Rattle.std.proofs.Math.Nat.{zero-mod}
 use Rattle.std.proofs.lemmas.Bool.{cases_Bool, cond-true}
 use Rattle.avr_image.specs.Image.{byte_at, filled_bytes, run_end, first_from}
 use Rattle.avr_image.specs.Walk.{IsNextHeld}
@@ -10,7 +11,7 @@ use Rattle.avr_part.specs.Part.{Part, IsPart}
 use Rattle.stk_frame.specs.declared.command.Command.{Command}
 use Rattle.stk_host.specs.Places.{each_from}
 use Rattle.stk_host.specs.WriteSteps.{page_end, run_step, run_steps_at}
-use Rattle.stk_host.proofs.ImagePlaces.PagesAndRuns.{IsNextRun, next_run, last_run, zero_border}
+use Rattle.stk_host.proofs.ImagePlaces.PagesAndRuns.{IsNextRun, next_run, last_run}
 use Rattle.stk_emu.specs.Effect.{Memories, Image, Write, effect, effects, with_image, are_locked}
 use Rattle.stk_emu.specs.WriteOperations.{image_at, write_operations_of}
 use Rattle.stk_emu.proofs.Memories.LaidImages.{get_laid, length-laid, in_part, some_at}
@@ -96,7 +97,7 @@ module _ (part : Part) (sound : IsPart part) (image : Image) where
     | inl lock ↦ search (rules, runs_locked, cond-true)
     | inr free ↦
         let r : Loaded (each_from (run_steps_at part image) 0 (part.eeprom_size - 0)) m 0 m.eeprom =
-        runs_free part.eeprom_size 0 m m.eeprom free fits (omega arith) (inl (zero_border part.eeprom_page)) in
+        runs_free part.eeprom_size 0 m m.eeprom free fits (omega arith) (inl (zero-mod part.eeprom_page)) in
         let all : part.eeprom_size ≡ part.eeprom_size - 0 = omega arith in
         ap (λ count. effects part (write_operations_of (each_from (run_steps_at part image) 0 count)) m) all
         ∙ (grind (arith, common_steps, all_laid))

@@ -1,7 +1,7 @@
 -- Images laid over memories, and buffers that are loaded byte by byte.
 use Rattle.std.proofs.lemmas.Grind.{common_steps}
 use Rattle.std.proofs.Common.{◌≡◌, ℕ, zero, suc, ◌+◌, ◌-◌, ◌≤◌, ◌<◌, List, [], ◌∷◌, ◌++◌, length, get_or, set, map, refl, sym, ap, ap₂, ◌∙◌, append_assoc, arith, replicate, Option, Some, None, unwrap_or, length-append, rules}
-use Rattle.std.proofs.lemmas.List.{length-replicate, length-map, get_or-replicate, get_or_append_left, get_or-append_right, get_or_past, set_at, replicate-append-replicate}
+use Rattle.std.proofs.lemmas.List.{length-replicate, length-map, get_or-map, get_or-replicate, get_or_append_left, get_or-append_right, get_or_past, set_at, replicate-append-replicate}
 use Rattle.std.proofs.lemmas.Nat.{and_assoc}
 use Rattle.avr_part.specs.Memory.{map_indexed_from, overlaid_byte, byte_and_page}
 use Rattle.avr_part.proofs.Changes.{changed_is}
@@ -72,9 +72,7 @@ overlaid_laid start loads xs =
     (λ i l. search (rules, get_laid, before_part, in_part, get_or_past)))
 
 pub some_at : (page : List ℕ) (j : ℕ) → j < length page → get_or (map Some page) j None ≡ Some (get_or page j 0)
-some_at [] j l = absurd (omega arith)
-some_at (x ∷ page) zero l = refl
-some_at (x ∷ page) (suc j) l = some_at page j (omega arith)
+some_at page j l = get_or-map Some page j 0 None l
 
 pub anded_in : (start : ℕ) (page xs : List ℕ)
     → map_indexed_from 0 (byte_and_page start page) xs ≡ and_in (image_at start page) xs
@@ -88,10 +86,6 @@ abbrev pub put : {A : Type 0} → (ℕ → A) → ℕ → List ℕ → List A �
 put f place [] buffer = buffer
 put f place (d ∷ ds) buffer = put f (suc place) ds (set buffer place (f d))
 
-at_end : {A : Type 0} (prefix : List A) (a : A) (place : ℕ) → length prefix ≡ place
-    → length (prefix ++ a ∷ []) ≡ suc place
-at_end prefix a place at = rw length-append (omega arith)
-
 pub put_is : {A : Type 0} (f : ℕ → A) (e : A) (ds : List ℕ) (prefix : List A) (place k : ℕ) → length prefix ≡ place
     → put f place ds (prefix ++ replicate (length ds + k) e) ≡ prefix ++ (map f ds ++ replicate k e)
 put_is f e [] prefix place k at = ap (λ n. prefix ++ replicate n e) (omega arith)
@@ -101,7 +95,7 @@ put_is f e (d ∷ ds) prefix place k at =
       rules,
       set_at,
       append_assoc,
-      put_is f e ds (prefix ++ f d ∷ []) (suc place) k (at_end prefix (f d) place at) ∙ append_assoc prefix (f d
+      put_is f e ds (prefix ++ f d ∷ []) (suc place) k (rw length-append (omega arith)) ∙ append_assoc prefix (f d
           ∷ []) (map f ds ++ replicate k e),
     )
 

@@ -1,30 +1,20 @@
 -- What a frame brings over the wire, and how the host reads it.
 use Rattle.std.proofs.lemmas.Grind.{common_steps}
 use Rattle.std.proofs.Common.{◌≡◌, ℕ, ◌*◌, ◌≤◌, ◌<◌, ◌≢◌, List, [], ◌∷◌, ◌++◌, length, refl, sym, ap, ◌∙◌, append_assoc, arith, inl, inr, Some, None, length-append, rules}
-use Rattle.std.proofs.lemmas.Bool.{cases_Bool}
-use Rattle.std.specs.Prelude.{filter}
 use Rattle.stk_frame.specs.declared.protocol.TheConstants.{LARGEST_FRAME}
 use Rattle.stk_frame.specs.Frame.{frame}
-use Rattle.stk_frame.specs.Cut.{cut, is_good}
+use Rattle.stk_frame.specs.Cut.{cut}
 use Rattle.stk_frame.proofs.Laws.{cut_first, frame_is_piece, frame_is_good, body_of_frame}
 use Rattle.stk_host.specs.declared.link.Item.TheVariants.{Silence}
 use Rattle.stk_host.specs.Tape.{Tape, Replied, Silent, answer, on_tape, first_reply, past_skipped, reply_byte_limit}
 use Rattle.stk_host.specs.Dialog.{next}
-use Rattle.stk_host.proofs.Tapes.Readings.{reading_found, reading_silent, on_tape_append, further_zero}
+use Rattle.stk_host.proofs.Tapes.Readings.{none_good, reading_found, reading_silent, on_tape_append, further_zero}
 use Rattle.stk_emu.specs.declared.fate.Fate.{Fate}
 use Rattle.stk_emu.specs.declared.fate.Fate.TheVariants.{Good, HeldAnswer, CommandRefused, AnswerSpoiled}
 use Rattle.stk_emu.specs.Device.{Device, refusal}
 use Rattle.stk_emu.specs.Wire.{IsLawfulFate, first_fate, exchange_of_fate, brought_by_fate, released_replies, late_after, Wire, arrival, wire_after_frame}
 use Rattle.stk_emu.specs.Lawful.{IsLawful, IsFrameBody, Late, no_late_replies, waiting, later, IsEmptyOrEarlier, NoneHasNumber}
 use Rattle.stk_emu.specs.Exchange.{after_exchange, reading_of_exchange}
-
--- without a good frame there is no reply
-none_good : (n : ℕ) (pieces : List (List ℕ)) → filter is_good pieces ≡ [] → first_reply n pieces ≡ None
-none_good n [] e = refl
-none_good n (piece ∷ pieces) e = elim (cases_Bool (is_good piece)) [
-  | inl good ↦ let f = rw good at e in cc
-  | inr bad ↦ rw bad (ap (past_skipped (length piece)) (none_good n pieces (rw bad at e)))
-]
 
 frame_cut : (n : ℕ) (bytes more : List ℕ) → IsFrameBody bytes → cut (frame n bytes ++ more) ≡ frame n bytes ∷ cut more
 frame_cut n bytes more b = cut_first (frame n bytes) more (frame_is_piece n bytes b.some b.few)

@@ -1,23 +1,16 @@
 -- Noise, cut piece by piece.
-use Rattle.std.proofs.Common.{◌≡◌, ◌≢◌, ℕ, ◌+◌, ◌-◌, length-drop, List, [], ◌∷◌, ◌++◌, length, take, drop, refl, ap, sym, ◌∙◌, true, inl, inr, rules}
+use Rattle.std.proofs.Common.{◌≡◌, ◌≢◌, ℕ, ◌+◌, ◌-◌, length-drop, List, [], ◌∷◌, ◌++◌, length, take, drop, ap, sym, ◌∙◌, true, rules}
 use Rattle.std.specs.Prelude.{filter}
-use Rattle.std.proofs.lemmas.Bool.{cases_Bool, cond-true}
+use Rattle.std.proofs.lemmas.Bool.{cond-true}
 use Rattle.std.proofs.lemmas.List.{take-append-drop, take_all}
 use Rattle.std.proofs.Math.Seq.{take-add}
 use Rattle.std.proofs.lemmas.List.Elements.{filter-append}
-use Rattle.stk_frame.specs.Cut.{cut, is_frame, is_good}
+use Rattle.stk_frame.specs.Cut.{cut, is_good}
 use Rattle.stk_frame.specs.declared.reader.Event.{Event}
 use Rattle.stk_frame.specs.declared.reader.Event.TheVariants.{Frame}
 use Rattle.stk_frame.specs.Reader.{MayHaveBeenFed, Fed, EventMatchesHeld, frames_of_event}
 use Rattle.stk_frame.proofs.Cuts.{cut_append}
-
--- no frames, so no good ones
-pub no_good : (pieces : List (List ℕ)) → filter is_frame pieces ≡ [] → filter is_good pieces ≡ []
-no_good [] e = refl
-no_good (piece ∷ pieces) e = elim (cases_Bool (is_frame piece)) [
-  | inl t ↦ let kept = rw t at e in cc
-  | inr f ↦ rw f (no_good pieces (rw f at e))
-]
+use Rattle.stk_host.proofs.Tapes.Readings.{no_good}
 
 good_fed : (old used new : List ℕ) (fs : List (List ℕ)) (text : List ℕ) → Fed old used new fs → MayHaveBeenFed old text
     → filter is_good (cut text) ≡ [] → filter is_good (cut (text ++ used)) ≡ filter is_good fs

@@ -1,7 +1,7 @@
 -- What waits to be received, as bytes and places of timeouts.
 use Rattle.std.proofs.Common.{◌≡◌, ℕ, zero, suc, ◌+◌, ◌-◌, ◌<◌, ◌≤◌, List, [], ◌∷◌, ◌++◌, length, take, drop, slice_index_or, refl, ap, sym, ◌∙◌, append_assoc, arith, rules, length-drop}
 use Rattle.std.proofs.lemmas.List.{length-take, map-append, drop-map, drop-append-le, take-append-le, drop-drop, drop-take, take_rest, length-map, drop_all}
-use Rattle.stk_host.specs.declared.link.Item.TheVariants.{Byte, Silence, End}
+use Rattle.stk_host.specs.declared.link.Item.TheVariants.{Byte, Silence}
 use Rattle.stk_host.specs.Tape.{Tape, on_tape, leading_bytes}
 use Rattle.stk_host.proofs.Tapes.Readings.{on_tape_append}
 use Rattle.stk_emu.specs.Waiting.{tape_in, AreWithin, HasNoLeadingByte}
@@ -19,10 +19,8 @@ bytes_all (x ∷ xs) = ap (λ ys. x ∷ ys) (bytes_all xs)
 pub bytes_taken : (tape : Tape) (n : ℕ) → n ≤ length (leading_bytes tape) → on_tape (take n (leading_bytes tape))
     ≡ take n tape
 bytes_taken tape zero le = refl
-bytes_taken [] (suc n) le = absurd (omega (arith, le))
 bytes_taken (Byte b ∷ tape) (suc n) le = ap (λ ys. Byte b ∷ ys) (bytes_taken tape n (omega (arith, le)))
-bytes_taken (Silence ∷ tape) (suc n) le = absurd (omega (arith, le))
-bytes_taken (End ∷ tape) (suc n) le = absurd (omega (arith, le))
+bytes_taken tape (suc n) le = absurd (omega (arith, le))
 
 -- the places of the timeouts
 pub within_more : (at n m : ℕ) (places : List ℕ) → AreWithin at places n → n ≤ m → AreWithin at places m
@@ -142,8 +140,7 @@ three_put t x y z a b c f g h = search (rules, on_tape_append, append_assoc)
 pub silence_next : (waits : Tape) → HasNoLeadingByte waits → IsReceivedNext (Silence ∷ []) waits
 silence_next [] silent = refl
 silence_next (Silence ∷ waits) silent = (omega arith, refl)
-silence_next (Byte b ∷ waits) silent = absurd silent
-silence_next (End ∷ waits) silent = absurd silent
+silence_next (other ∷ waits) silent = absurd silent
 
 pub bytes_next : (waits items : Tape) (n : ℕ) → 0 < n → n ≤ length (leading_bytes waits) → length items ≡ n
     → items ≡ take n waits → IsReceivedNext items waits

@@ -50,9 +50,8 @@ in_turn_lifted : {R : Type 0} (E : Type 0) (dialog : Dialog ⊥ R) (m : Progress
 in_turn_lifted E dialog m transcript f = search (rules, in_turn_after, played_lifted, bytes_raised)
 
 pub plays_lifted : {E R : Type 0} {dialog : Dialog ⊥ R} {m n : Progress} {transcript : Transcript}
-    {events : List (Event ⊥)}
-    {result : R}
-    → Plays dialog m transcript events result n → Plays {E = E} (lifted dialog) m transcript (raised events) result n
+    {events : List (Event ⊥)} {result : R} → Plays dialog m transcript events result n
+    → Plays {E = E} (lifted dialog) m transcript (raised events) result n
 plays_lifted {E = E} {dialog = dialog} {m = m} {transcript = transcript} {events = events} f =
     search (rules, played_lifted, bytes_raised, in_turn_lifted)
 

@@ -1,19 +1,15 @@
 -- Comparing from the lowest address up, run by run.
 use Rattle.std.proofs.lemmas.Grind.{common_steps}
-use Rattle.std.proofs.Common.{◌≡◌, ◌≤◌, refl, arith, ℕ, suc, ◌+◌, ◌-◌, ◌<◌, All, List, [], ◌∷◌, length, get_or, map, take, drop, drop-cons, add-one, Bool, true, Option, Some, None, rules}
+use Rattle.std.proofs.Common.{◌≡◌, ◌≤◌, refl, arith, ℕ, suc, ◌+◌, ◌-◌, ◌<◌, All, List, [], ◌∷◌, length, get_or, map, take, drop, Bool, true, Option, Some, None, rules}
 use Rattle.std.specs.Prelude.{◌==◌, if◌then◌else◌}
 use Rattle.std.proofs.lemmas.Bool.Decides.{nat_tests}
-use Rattle.std.proofs.lemmas.List.{length-drop, take_all}
+use Rattle.std.proofs.lemmas.List.{drop_more}
 use Rattle.std.specs.Prelude.{⊤, Result, Ok, Err}
 use Rattle.avr_image.specs.Runs.{onto_runs, runs}
 use Rattle.avr_image.proofs.Lemmas.{runs_inside}
 use Rattle.avr_part.specs.declared.part.Mem.{Mem}
 use Rattle.stk_host.specs.declared.fault.HostFault.{HostFault}
 use Rattle.stk_host.specs.Operations.{Difference, difference_from, differs}
-
-drop_at : {A : Type 0} (xs : List A) (at : ℕ) (none : A) → at < length xs
-    → drop at xs ≡ get_or xs at none ∷ drop (at + 1) xs
-drop_at xs at none there = rw add-one (drop-cons xs at none there)
 
 -- at one address more
 abbrev decided : Bool → ℕ → ℕ → ℕ → Option Difference → Option Difference
@@ -28,7 +24,7 @@ held_as run = map (λ byte. Some byte) run
 pub run_goes_on : (addr i : ℕ) (run found : List ℕ) → i < length run → i < length found
     → (get_or found i 0 == get_or run i 0) ≡ true → difference_from (addr + i) (held_as (drop i run)) (drop i found)
     ≡ difference_from (addr + (i + 1)) (held_as (drop (i + 1) run)) (drop (i + 1) found)
-run_goes_on addr i run found within there same = search (rules, drop_at)
+run_goes_on addr i run found within there same = search (rules, drop_more)
 
 -- a run that the memory holds
 pub same_run : (addr : ℕ) (run bytes : List ℕ) → run ≡ take (length run) bytes
@@ -57,9 +53,9 @@ pub among-runs : (addr : ℕ) (image : List (Option ℕ)) (bytes : List ℕ) →
     → among (runs addr image) bytes ≡ difference_from addr image (drop addr bytes)
 among-runs addr [] bytes there = refl
 among-runs addr (None ∷ image) bytes there =
-    rw (drop_at bytes addr 0 (omega (arith, there))) (among-runs (addr + 1) image bytes (omega (arith, there)))
+    rw (drop_more bytes addr 0 (omega (arith, there))) (among-runs (addr + 1) image bytes (omega (arith, there)))
 among-runs addr (Some b ∷ image) bytes there =
-    search (rules, among-onto, drop_at, among-runs (addr + 1) image bytes (omega (arith, there)))
+    search (rules, among-onto, drop_more, among-runs (addr + 1) image bytes (omega (arith, there)))
 
 -- bytes after the image aren't compared
 pub within_image : (addr : ℕ) (image : List (Option ℕ)) (bytes : List ℕ)
@@ -70,10 +66,6 @@ within_image addr (None ∷ image) (found ∷ bytes) = within_image (addr + 1) i
 within_image addr (Some want ∷ image) (found ∷ bytes) = search (rules, within_image (addr + 1) image bytes)
 
 -- ---- a walk over the runs
-
--- from a place up to the end
-pub rest_is : (at : ℕ) (bytes : List ℕ) → take (length bytes - at) (drop at bytes) ≡ drop at bytes
-rest_is at bytes = take_all (length bytes - at) (drop at bytes) (omega (arith, length-drop at bytes))
 
 pub none_differs : (mem : Mem) (d : Option Difference) (r : Result ⊤ HostFault) (x : ⊤) → r ≡ differs mem d → r ≡ Ok x
     → d ≡ None

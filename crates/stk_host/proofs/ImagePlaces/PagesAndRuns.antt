@@ -2,7 +2,7 @@
 use Rattle.std.proofs.lemmas.Grind.{common_steps}
 use Rattle.std.proofs.Common.{◌≡◌, ◌∙◌, ap, refl, arith, ℕ, suc, zero, ◌+◌, ◌-◌, ◌*◌, ◌/◌, ◌%◌, ◌<◌, ◌≤◌, List, [], ◌∷◌, ◌++◌, length, true, false, Option, None, inl, inr, ◌⊎◌, rules}
 use Rattle.std.proofs.lemmas.Bool.{cases_lt}
-use Rattle.std.proofs.Math.Nat.{mul-mod_left, zero-mod}
+use Rattle.std.proofs.Math.Nat.{mul-mod_left}
 use Rattle.avr_image.specs.Image.{byte_at, holds_any, run_end}
 use Rattle.avr_image.specs.Walk.{IsNextHeld, IsByteRun}
 use Rattle.avr_image.proofs.Lemmas.{held_within, run_is_longest}
@@ -27,10 +27,7 @@ next_place steps_at place end before = search rules
 pub page_most : (page : ℕ) → 0 < page → 256 % page ≡ 0 → page ≤ 256
 page_most page some fits = search rules
 
--- where runs begin
-
--- whether a place has a step
-
+-- a place without a step, and one with a step
 pub no_page : (part : Part) (image : List (Option ℕ)) (number : ℕ)
     → holds_any image (number * part.flash_page) part.flash_page ≡ false → page_steps part image number ≡ []
 no_page part image number is = rw is refl
@@ -112,9 +109,6 @@ next_run part image next start end some fits border held run is =
 pub last_run : (part : Part) (image : List (Option ℕ)) (next count : ℕ) → ((k : ℕ) → next ≤ k → byte_at image k ≡ None)
     → each_from (run_steps_at part image) next count ≡ []
 last_run part image next count none = search (rules, no_steps)
-
-pub zero_border : (page : ℕ) → 0 % page ≡ 0
-zero_border page = zero-mod page
 
 -- a run ends in its page
 pub short_run : (image : List (Option ℕ)) (page addr : ℕ) → 0 < page → page ≤ 256

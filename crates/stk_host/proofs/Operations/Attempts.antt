@@ -1,5 +1,5 @@
 -- Commands, attempts and steps, in the order of the code.
-use Rattle.std.proofs.Common.{◌≡◌, ℕ, zero, suc, List, [], ◌∷◌, ◌++◌, refl, Ok, Err, Result, arith, rules}
+use Rattle.std.proofs.Common.{◌≡◌, ℕ, zero, suc, List, [], ◌∷◌, ◌++◌, refl, Ok, Err, Result, rules}
 use Rattle.stk_frame.specs.declared.command.Command.{Command}
 use Rattle.stk_frame.specs.Frame.{frame}
 use Rattle.stk_frame.specs.Commands.{body}
@@ -108,22 +108,8 @@ gets_last {link = link} first last m n after o p q was none result f stays is no
 
     by_result : (result : Result in_code.Reply HostFault) → ReturnsReply link (attempt (last ∷ []) []) last n after p q
         result → ReturnsReply link (attempt (first ∷ last ∷ []) []) last m after o q result
-    by_result (Ok reply) e = record {
-      ok = played_from (reaches_on begun (reaches_from e.ok));
-      err = tt;
-      sized = e.sized;
-      counted = omega (arith, f.sound, e.counted);
-      bound = e.bound;
-      comes = λ start of. e.comes start (stays start of);
-    }
-    by_result (Err fault) e = record {
-      ok = tt;
-      err = broken_on begun e.err;
-      sized = e.sized;
-      counted = omega (arith, f.sound, e.counted);
-      bound = e.bound;
-      comes = λ start of. e.comes start (stays start of);
-    }
+    by_result (Ok reply) e = search (rules, played_from (reaches_on begun (reaches_from e.ok)), f.sound)
+    by_result (Err fault) e = search (rules, broken_on begun e.err, f.sound)
 
 -- an attempt whose first command brought no data
 pub gets_short : (first last : Command) (was : in_code.Reply) (none bytes : List ℕ) {m n : Progress} {o p : LinkState}

@@ -57,11 +57,11 @@ pub stop_ends : {A : Type 0} (allocates : Bool) (first : Dialog ⊥ StepOutcome)
     → Result A HostFault) → ((fault : StepFault) → judge (Err fault) ≡ Err (host_fault fault))
     → (fault : HostFault) (m n : Progress) (o p : LinkState) → StopsSteps first m o p fault n
     → EndsCall allocates (first >>= λ outcome. Done (judge outcome)) m o p (Err fault) n
-stop_ends allocates first judge notice fault m n o p (inr (of, is, e)) =
+stop_ends allocates first judge passes_on fault m n o p (inr (of, is, e)) =
     search (rules, then_reaches (λ outcome. Done (judge outcome)) e)
-stop_ends allocates first judge notice SendFailed m n o p (inl e) = broken_bind (λ outcome. Done (judge outcome)) e
-stop_ends allocates first judge notice RecvFailed m n o p (inl e) = broken_bind (λ outcome. Done (judge outcome)) e
-stop_ends allocates first judge notice _ m n o p (inl e) = absurd e.breaks
+stop_ends allocates first judge passes_on SendFailed m n o p (inl e) = broken_bind (λ outcome. Done (judge outcome)) e
+stop_ends allocates first judge passes_on RecvFailed m n o p (inl e) = broken_bind (λ outcome. Done (judge outcome)) e
+stop_ends allocates first judge passes_on _ m n o p (inl e) = absurd e.breaks
 
 -- the checked signature is right or wrong; neither is a fault of the link
 checked_ends : {dialog : Dialog ⊥ (Result (List ℕ) HostFault)} {m n : Progress} {o p : LinkState}

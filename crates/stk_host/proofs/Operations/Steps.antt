@@ -1,7 +1,7 @@
 -- The steps of an operation, one after another.
 use Rattle.std.proofs.Common.{Bool, ◌≡◌, ℕ, ◌+◌, ◌<◌, ◌≤◌, ◌^◌, List, [], ◌∷◌, ◌++◌, length, ◌-◌, true, false, ◌∙◌, Option, Ok, Err, Result, rules}
 use Rattle.std.proofs.lemmas.List.{nil_from_length}
-use Rattle.std.specs.Prelude.{OnOk}
+use Rattle.std.specs.Prelude.{OnOk, if◌then◌else◌, is_ok}
 use Rattle.std.specs.Result.{result_and}
 use Rattle.avr_part.specs.declared.part.Mem.{Mem}
 use Rattle.avr_part.specs.Mem.{is_writable}
@@ -19,7 +19,7 @@ use Rattle.stk_host.specs.Steps.{StepOutcome, step, play}
 use Rattle.stk_host.specs.Places.{each_from}
 use Rattle.stk_host.specs.WriteSteps.{write_steps}
 use Rattle.stk_host.specs.Operations.{checked_by, operation, writing, Difference, difference_from, differs, comparison}
-use Rattle.stk_host.specs.Calls.{StopsSteps, EndsSteps, EndsCall, CompletesSteps, CompletesStepsWithData, IsSizedShape, data_count, emptied_on_fault}
+use Rattle.stk_host.specs.Calls.{StopsSteps, EndsSteps, EndsCall, CompletesSteps, CompletesStepsWithData, IsSizedShape, data_count}
 use Rattle.stk_host.proofs.ImagePlaces.PagesAndRuns.{next_place}
 use Rattle.stk_host.proofs.Transcripts.Reached.{reaches_here, reaches_on, played_from, then_reaches}
 use Rattle.stk_host.proofs.Operations.StepEnds.{stops_on, stop_ends, play_on, play_stops, play_done}
@@ -116,7 +116,7 @@ writes_nothing part mem image m o cannot = search (rules, played_from, reaches_h
 
 pub reading_ends : (steps : List (List Command)) (bytes : List ℕ) (result : Result (Unit {0}) HostFault)
     (m n : Progress) (o p : LinkState) → EndsSteps (play steps []) (λ done. bytes) m o p result n
-    → EndsCall true (operation steps Ok) m o p (result_and result (Ok (emptied_on_fault result bytes))) n
+    → EndsCall true (operation steps Ok) m o p (result_and result (Ok (if is_ok result then bytes else []))) n
 reading_ends steps bytes (Ok done) m n o p e = checked_from steps Ok bytes e
 reading_ends steps bytes (Err fault) m n o p e = reported_ends true steps Ok fault m n o p e
 
@@ -142,11 +142,11 @@ begins_at steps_at count before m o = search (rules, reaches_here)
 -- the number of bytes kept of a memory that was read
 
 pub read_sized : (taken : Result (Unit {0}) HostFault) (items : List ℕ) (n : ℕ) → OnOk taken (length items ≡ n)
-    → OnOk taken (length (emptied_on_fault taken items) ≡ n)
+    → OnOk taken (length (if is_ok taken then items else []) ≡ n)
 read_sized taken items n size = search rules
 
 pub read_short : (taken : Result (Unit {0}) HostFault) (items : List ℕ) (n : ℕ) → n < 2 ^ 32
-    → OnOk taken (length items ≡ n) → length (emptied_on_fault taken items) < 2 ^ 32
+    → OnOk taken (length items ≡ n) → length (if is_ok taken then items else []) < 2 ^ 32
 read_short taken items n bound size = search rules
 
 pub size_fits : (mem : Mem) (part : Part) → IsPart part → size_of mem part < 2 ^ 32

@@ -1,5 +1,7 @@
 -- A call breaks off in one way: laws of every dialog, and LEAVE as a worked call.
 use Rattle.std.proofs.Common.{◌≡◌, ℕ, ◌<◌, List, [], ◌∷◌, length, length-append, refl, sym, subst, arith, Err, false, rules}
+use Rattle.stk_frame.specs.Commands.{body}
+use Rattle.stk_frame.specs.HostCommands.{leave}
 use Rattle.stk_host.specs.declared.fault.HostFault.TheVariants.{SendFailed, RecvFailed}
 use Rattle.stk_host.specs.declared.link.Item.TheVariants.{Silence}
 use Rattle.stk_host.specs.Tape.{answer}
@@ -9,7 +11,7 @@ use Rattle.stk_host.specs.Play.{Progress, progress_at, InTurn, played_over, Brea
 use Rattle.stk_host.specs.Steps.{exchange, attempt, attempts_or_fault}
 use Rattle.stk_host.specs.Operations.{closing}
 use Rattle.stk_host.specs.Calls.{EndsCall}
-use Rattle.stk_host.proofs.Transcripts.InDialogs.{bytes_append}
+use Rattle.stk_host.proofs.Transcripts.InDialogs.{bytes_append, breaks_asking}
 
 -- a call that broke off in a frame has sent less than its run sends, unless a failed send took the end
 pub sent_less : {E R : Type 0} {dialog : Dialog E R} {before : Progress} {transcript : Transcript}
@@ -63,17 +65,8 @@ unsent = record {
   during = Sent (0x1B ∷ 0x06 ∷ []) ∷ [];
   shown = Frame (0x1B ∷ 0x06 ∷ []) ∷ [];
   grows = refl;
-  breaks = record {
-    whole = [];
-    part = 0x1B ∷ 0x06 ∷ [];
-    unsent = 0x00 ∷ 0x03 ∷ 0x0E ∷ 0x11 ∷ 0x01 ∷ 0x01 ∷ 0x01 ∷ [];
-    later = [];
-    shown_is = refl;
-    events_are = refl;
-    not_whole = λ none. omega arith;
-    all_sent = refl;
-    in_turn = tt;
-  };
+  breaks = breaks_asking (body leave) _ 6 [] (0x1B ∷ 0x06 ∷ [])
+      (0x00 ∷ 0x03 ∷ 0x0E ∷ 0x11 ∷ 0x01 ∷ 0x01 ∷ 0x01 ∷ []) _ tt refl refl (λ none. omega arith);
   failed = refl;
 }
 
@@ -94,17 +87,7 @@ unsent_at_all = record {
   during = [];
   shown = Frame [] ∷ [];
   grows = refl;
-  breaks = record {
-    whole = [];
-    part = [];
-    unsent = leaving;
-    later = [];
-    shown_is = refl;
-    events_are = refl;
-    not_whole = λ none. omega arith;
-    all_sent = refl;
-    in_turn = tt;
-  };
+  breaks = breaks_asking (body leave) _ 6 [] [] leaving _ tt refl refl (λ none. omega arith);
   failed = refl;
 }
 

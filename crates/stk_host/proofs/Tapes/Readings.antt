@@ -3,11 +3,11 @@ use Rattle.std.proofs.Common.{◌≡◌, ℕ, ◌+◌, ◌-◌, ◌<◌, ◌≤�
 use Rattle.std.proofs.lemmas.Bool.{le-leb, lt-leb, cases_Bool}
 use Rattle.std.proofs.lemmas.List.Folds.{concat-append}
 use Rattle.std.proofs.Math.Seq.{take-append-add}
-use Rattle.std.proofs.lemmas.List.{append-nil, take_all, take-append-le}
+use Rattle.std.proofs.lemmas.List.{append-nil, map-append, take_all, take-append-le}
 use Rattle.std.proofs.lemmas.Option.{none-some}
 use Rattle.std.specs.List.{concat}
 use Rattle.std.specs.Prelude.{filter}
-use Rattle.stk_frame.specs.Cut.{cut, rest, is_frame, body_of}
+use Rattle.stk_frame.specs.Cut.{cut, rest, is_frame, is_good, body_of}
 use Rattle.stk_frame.proofs.Cuts.{cut_append, cut_joined}
 use Rattle.stk_host.specs.declared.link.Item.TheVariants.{Byte, Silence, End}
 use Rattle.stk_host.specs.Tape.{Tape, on_tape, bytes_on_tape, leading_bytes, answer, reading_from_first, timeout_or_end, first_reply, is_reply, past_skipped, reply_byte_limit, Replied, Silent, Ended, Babbled}
@@ -23,8 +23,7 @@ bytes_of_on_tape [] = refl
 bytes_of_on_tape (byte ∷ bytes) = ap (λ bs. byte ∷ bs) (bytes_of_on_tape bytes)
 
 pub on_tape_append : (x y : List ℕ) → on_tape (x ++ y) ≡ on_tape x ++ on_tape y
-on_tape_append [] y = refl
-on_tape_append (b ∷ x) y = ap (λ t. Byte b ∷ t) (on_tape_append x y)
+on_tape_append x y = map-append Byte x y
 
 bytes_in_tape : (x : List ℕ) (tape : Tape) → leading_bytes (on_tape x ++ tape) ≡ x ++ leading_bytes tape
 bytes_in_tape [] tape = refl
@@ -93,8 +92,8 @@ first_reply_behind seq [] ys none = further_zero (first_reply seq ys)
 first_reply_behind seq (x ∷ xs) ys none = elim (cases_Bool (is_reply seq x)) [
   | inl is_it ↦ let e = rw is_it at none in cc
   | inr is_not ↦
-      let none' = further_none (length x) (first_reply seq xs) (rw is_not at none) in
-      rw is_not (ap (past_skipped (length x)) (first_reply_behind seq xs ys none')
+      let none_later = further_none (length x) (first_reply seq xs) (rw is_not at none) in
+      rw is_not (ap (past_skipped (length x)) (first_reply_behind seq xs ys none_later)
       ∙ (further_further (length x) (length (concat xs)) (first_reply seq ys)
       ∙ ap (λ n. past_skipped n (first_reply seq ys)) (sym (length-append x (concat xs)))))
 ]
@@ -116,13 +115,23 @@ first_reply_stays seq (x ∷ xs) ys found some = elim (cases_Bool (is_reply seq 
       rw is_not (ap (past_skipped (length x)) (first_reply_stays seq xs ys at.0 at.1 ∙ sym at.1) ∙ inner)
 ]
 
--- pieces that aren't frames contain no reply
-pub first_reply_skipped : (seq : ℕ) (xs : List (List ℕ)) → filter is_frame xs ≡ [] → first_reply seq xs ≡ None
-first_reply_skipped seq [] none = refl
-first_reply_skipped seq (x ∷ xs) none = elim (cases_Bool (is_frame x)) [
-  | inl is_it ↦ let e = rw is_it at none in cc
-  | inr is_not ↦ rw is_not (ap (past_skipped (length x)) (first_reply_skipped seq xs (rw is_not at none)))
+-- pieces that aren't frames are no good frames, and contain no reply
+pub no_good : (pieces : List (List ℕ)) → filter is_frame pieces ≡ [] → filter is_good pieces ≡ []
+no_good [] none = refl
+no_good (piece ∷ pieces) none = elim (cases_Bool (is_frame piece)) [
+  | inl is_it ↦ let kept = rw is_it at none in cc
+  | inr is_not ↦ rw is_not (no_good pieces (rw is_not at none))
 ]
+
+pub none_good : (seq : ℕ) (pieces : List (List ℕ)) → filter is_good pieces ≡ [] → first_reply seq pieces ≡ None
+none_good seq [] none = refl
+none_good seq (piece ∷ pieces) none = elim (cases_Bool (is_good piece)) [
+  | inl is_it ↦ let kept = rw is_it at none in cc
+  | inr is_not ↦ rw is_not (ap (past_skipped (length piece)) (none_good seq pieces (rw is_not at none)))
+]
+
+first_reply_skipped : (seq : ℕ) (xs : List (List ℕ)) → filter is_frame xs ≡ [] → first_reply seq xs ≡ None
+first_reply_skipped seq xs none = none_good seq xs (no_good xs none)
 
 -- more bytes that bring no frame, or one that isn't the reply
 pub still_none : (seq : ℕ) (x y : List ℕ) (skipped found : List (List ℕ)) → first_reply seq (cut x) ≡ None

@@ -1,21 +1,14 @@
 -- What a link over a tape gave, call after call.
 use Rattle.std.proofs.Common.{◌≡◌, ◌∙◌, ◌<◌, sym, ap, refl, arith, ℕ, zero, suc, ◌+◌, List, [], ◌∷◌, ◌++◌, append_assoc, append-nil, replicate, take, drop, min, length, Result, Ok, Err, IfOk, OnErr, rules}
+use Rattle.std.proofs.lemmas.List.{replicate-append-replicate}
 use Rattle.ghosts.specs.Preserves.{Preserves}
 use Rattle.stk_host.specs.declared.link.Heard.{Heard}
-use Rattle.stk_host.specs.declared.link.Item.TheVariants.{Byte, Silence, End}
+use Rattle.stk_host.specs.declared.link.Item.TheVariants.{Byte, End}
 use Rattle.stk_host.specs.declared.link.LinkFault.{LinkFault}
 use Rattle.stk_host.specs.Links.{TapeState, ConsumesTape, tape_state, next_piece}
 use Rattle.stk_host.specs.Tape.{Tape, leading_bytes, on_tape}
 use Rattle.stk_host.specs.Transcript.{Transcript, Sent, Got, Receives, heard, items_of}
 use Rattle.stk_host.proofs.Transcripts.Laws.{got_append}
-
--- ---- ends, one after the other
-
-ends_more : (a b : ℕ) → replicate a End ++ replicate b End ≡ replicate (a + b) End
-ends_more zero b = let same : b ≡ 0 + b = omega arith in ap (λ (n : ℕ). replicate n End) same
-ends_more (suc a) b =
-    let same : suc (a + b) ≡ suc a + b = omega arith in
-    ap (λ (t : Tape). End ∷ t) (ends_more a b) ∙ ap (λ (n : ℕ). replicate n End) same
 
 nothing_behind : (prefix back : Tape) → prefix ++ back ≡ [] → back ≡ []
 nothing_behind [] back none = none
@@ -25,11 +18,8 @@ nothing_behind (item ∷ prefix) back none = absurd (cc)
 
 bytes_given : (most : ℕ) (tape : Tape) → on_tape (take most (leading_bytes tape))
     ++ drop (length (on_tape (take most (leading_bytes tape)))) tape ≡ tape
-bytes_given zero tape = refl
-bytes_given (suc most) [] = refl
 bytes_given (suc most) (Byte b ∷ tape) = ap (λ (t : Tape). Byte b ∷ t) (bytes_given most tape)
-bytes_given (suc most) (Silence ∷ tape) = refl
-bytes_given (suc most) (End ∷ tape) = refl
+bytes_given _ _ = refl
 
 -- the number of ends given after the last item
 abbrev ends_of : Tape → ℕ
@@ -40,8 +30,7 @@ piece_given : (most : ℕ) (tape : Tape) → next_piece most tape ++ drop (lengt
     ≡ tape ++ replicate (ends_of tape) End
 piece_given most [] = refl
 piece_given most (Byte b ∷ tape) = bytes_given most (Byte b ∷ tape) ∙ sym (append-nil (Byte b ∷ tape))
-piece_given most (Silence ∷ tape) = ap (λ (t : Tape). Silence ∷ t) (sym (append-nil tape))
-piece_given most (End ∷ tape) = ap (λ (t : Tape). End ∷ t) (sym (append-nil tape))
+piece_given most (item ∷ tape) = ap (λ (t : Tape). item ∷ t) (sym (append-nil tape))
 
 none_left : (n : ℕ) (tape : Tape) → 0 < ends_of tape → drop n tape ≡ []
 none_left zero [] some = refl
@@ -64,7 +53,7 @@ of_tape_on a b c f g = record {
   during = f.during ++ g.during;
   grows = g.grows ∙ ap (λ (t : Transcript). t ++ g.during) f.grows ∙ append_assoc a.transcript f.during g.during;
   ends = f.ends + g.ends;
-  gave = search (rules, got_append, append_assoc, ends_more);
+  gave = search (rules, got_append, append_assoc, replicate-append-replicate);
   over = none f.ends g.ends g.gave f.over g.over;
 }
   where

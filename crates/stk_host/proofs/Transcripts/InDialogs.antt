@@ -95,10 +95,9 @@ in_turn_waiting : {E R : Type 0} (body : List ℕ) (resume : Reading → Dialog 
     (transcript : Transcript)
     → WaitsFrom seq tape transcript → InTurnFrom (Ask body resume) seq tape (frame seq body) transcript
 in_turn_waiting body resume seq tape [] waits = tt
-in_turn_waiting body resume seq tape (Sent bytes ∷ transcript) waits = absurd waits
-in_turn_waiting body resume seq tape (Taken bytes ∷ transcript) waits = absurd waits
 in_turn_waiting body resume seq tape (Got items ∷ transcript) waits =
     ((search rules), in_turn_waiting body resume seq (tape ++ items) transcript waits.1)
+in_turn_waiting body resume seq tape (other ∷ transcript) waits = absurd waits
 
 -- a frame was sent, and its reply is due
 in_turn_asking : {E R : Type 0} (body : List ℕ) (resume : Reading → Dialog E R) (seq : ℕ) (u : List ℕ)

@@ -115,9 +115,8 @@ module _ {seq : ℕ} {u : List ℕ} {o : LinkState} where
     pub receives_none : {q : LinkState} → Grows p.transcript [] q.transcript → ReceivesNoReply seq u o q
     receives_none {q = q} g = grind (arith, common_steps, not_yet)
 
-  pub reads_on : {held : List ℕ} {count : ℕ} {left : List ℕ} {p : LinkState} (n : ℕ)
-      (new_left new : List ℕ) (what : Event)
-      → Listening seq u o held count left p → ReadOn left new_left n held new what
+  pub reads_on : {held : List ℕ} {count : ℕ} {left : List ℕ} {p : LinkState} (n : ℕ) (new_left new : List ℕ)
+      (what : Event) → Listening seq u o held count left p → ReadOn left new_left n held new what
       → first_reply seq (frames_of_event what new) ≡ None → Listening seq u o new (count + n) new_left p
   reads_on n new_left new what l read other = search (rules, length-append, still_none, append_assoc)
 

@@ -1,6 +1,6 @@
 -- A log with one more mark.
-use Rattle.std.proofs.Common.{◌≡◌, ℕ, zero, suc, ◌+◌, ◌≤◌, List, [], ◌∷◌, ◌++◌, length, take, drop, refl, ap, arith, length-append, rules}
-use Rattle.std.proofs.lemmas.List.{take-append-le, take-append-drop, length-drop, take_all}
+use Rattle.std.proofs.Common.{◌≡◌, ℕ, ◌+◌, List, [], ◌∷◌, ◌++◌, length, take, drop, refl, ap, arith, length-append, rules}
+use Rattle.std.proofs.lemmas.List.{drop-append-le, take-append-le, take-append-drop, length-drop, take_all}
 use Rattle.stk_host.specs.declared.log.Mark.{Mark}
 use Rattle.stk_host.specs.declared.log.Mark.TheVariants as mark
 use Rattle.stk_host.specs.declared.link.Heard.{Heard}
@@ -10,11 +10,6 @@ use Rattle.stk_host.specs.Transcript as transcript
 use Rattle.stk_host.specs.Transcript.{Transcript, Got, FitsBuffer, items_of, sent}
 use Rattle.stk_host.specs.Log.{received_byte_count, transcript_of, sent_count, received_count}
 use Rattle.stk_host.proofs.Tapes.Readings.{bytes_of_append, bytes_of_on_tape}
-
-drop_prefix : (n : ℕ) (xs ys : List ℕ) → n ≤ length xs → drop n (xs ++ ys) ≡ drop n xs ++ ys
-drop_prefix zero xs ys le = refl
-drop_prefix (suc n) [] ys le = absurd (omega arith)
-drop_prefix (suc n) (x ∷ xs) ys le = drop_prefix n xs ys (omega arith)
 
 -- what the new mark and its bytes add
 pub log_more : (marks : List Mark) (out back more_out more_back : List ℕ) (m : Mark) → sent_count marks ≡ length out
@@ -27,21 +22,19 @@ log_more (mark.Sent n ∷ marks) out back more_out more_back m o b =
     search (
       rules,
       take-append-le,
-      drop_prefix,
+      drop-append-le,
       log_more marks (drop n out) back more_out more_back m (search (rules, length-drop)) b,
     )
 log_more (mark.Heard (heard.Bytes n) ∷ marks) out back more_out more_back m o b =
     search (
       rules,
       take-append-le,
-      drop_prefix,
+      drop-append-le,
       length-drop,
       log_more marks out (drop n back) more_out more_back m o (rw length-drop (omega arith)),
     )
-log_more (mark.Heard heard.Silence ∷ marks) out back more_out more_back m o b =
-    ap (λ t. Got (items_of heard.Silence []) ∷ t) (log_more marks out back more_out more_back m o (omega (arith, b)))
-log_more (mark.Heard heard.End ∷ marks) out back more_out more_back m o b =
-    ap (λ t. Got (items_of heard.End []) ∷ t) (log_more marks out back more_out more_back m o (omega (arith, b)))
+log_more (mark.Heard none ∷ marks) out back more_out more_back m o b =
+    ap (λ t. Got (items_of none []) ∷ t) (log_more marks out back more_out more_back m o (omega (arith, b)))
 
 pub out_more : (marks : List Mark) (m : Mark) → sent_count (marks ++ m ∷ []) ≡ sent_count marks + sent_count (m ∷ [])
 out_more [] m = omega arith
@@ -71,8 +64,7 @@ received_in (mark.Heard (heard.Bytes n) ∷ marks) out back b =
     rw (bytes_of_append (on_tape (take n back)) (transcript.heard (transcript_of marks out (drop n back))))
     (rw (bytes_of_on_tape (take n back), received_in marks out (drop n back) (rw length-drop (omega arith)))
     (take-append-drop n back))
-received_in (mark.Heard heard.Silence ∷ marks) out back b = received_in marks out back (omega (arith, b))
-received_in (mark.Heard heard.End ∷ marks) out back b = received_in marks out back (omega (arith, b))
+received_in (mark.Heard none ∷ marks) out back b = received_in marks out back (omega (arith, b))
 
 -- what was received is what is kept of the buffer
 pub items_received : (h : Heard) (buffer : List ℕ) → FitsBuffer h (length buffer)

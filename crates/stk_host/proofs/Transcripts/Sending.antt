@@ -1,7 +1,7 @@
 -- Bytes sent in parts, and the rest of a range.
 use Rattle.std.proofs.lemmas.Grind.{common_steps}
-use Rattle.std.proofs.Common.{◌≡◌, ℕ, ◌+◌, ◌-◌, ◌<◌, ◌≤◌, List, [], ◌∷◌, ◌++◌, length, take, drop, sym, ap, ◌∙◌, append_assoc, arith, Err, rules}
-use Rattle.std.proofs.lemmas.List.{drop-take, drop-drop, take-append-drop, length-take, length-drop, take_all}
+use Rattle.std.proofs.Common.{◌≡◌, ℕ, ◌+◌, ◌-◌, ◌<◌, ◌≤◌, List, [], ◌∷◌, ◌++◌, length, take, drop, append_assoc, arith, Err, rules}
+use Rattle.std.proofs.lemmas.List.{drop-take, drop-drop, take-append-drop, length-take, length-drop}
 use Rattle.std.proofs.Math.Seq.{take-add}
 use Rattle.std.specs.Prelude.{slice_range}
 use Rattle.ghosts.specs.Failures.{OneFailureCounted}
@@ -31,16 +31,13 @@ part_of bytes n part o p q few emits is t =
     record {
       part = take n bytes ++ sent t.last;
       unsent = t.unsent;
-      bytes_are = sym (take-append-drop n bytes)
-          ∙ (ap (λ bs. take n bytes ++ bs) (sym is ∙ t.bytes_are) ∙ sym (append_assoc (take n bytes) (sent t.last)
-          t.unsent));
+      bytes_are = search (rules, take-append-drop, append_assoc);
       some = omega arith;
       during = emits.during ++ t.last;
       grows = grows_on o p q emits.during t.last emits.grows t.grows;
-      quiet = quiet_append emits.during t.last emits.none_taken emits.quiet (taken_quiet t.last t.is_taken);
-      bytes_sent = sent_append emits.during t.last ∙ ap (λ bs. bs ++ sent t.last) emits.bytes_sent;
-      not_whole = λ none. some_unsent t.last part t.unsent t.is_taken (none_behind emits.during t.last none) t.bytes_are
-          some;
+      quiet = search (rules, quiet_append, taken_quiet);
+      bytes_sent = search (rules, sent_append);
+      not_whole = search (rules, some_unsent, none_behind);
     }
 
 -- nothing was taken
@@ -65,11 +62,3 @@ range_later xs a b n le = search (rules, drop-drop n a xs, drop-take n (b - (a +
 pub range_consumed : (xs : List ℕ) (a b n : ℕ) (all : List ℕ) → a ≤ b → slice_range xs a b ≡ all → n ≤ length all
     → slice_range xs (a + n) b ≡ drop n all
 range_consumed xs a b n all order is le = search (rules, length-take, range_later)
-
--- the bytes after the first n, in the form of a slice
-pub behind : (bytes : List ℕ) (n : ℕ) → take (length bytes - n) (drop n bytes) ≡ drop n bytes
-behind bytes n = take_all (length bytes - n) (drop n bytes) (rw length-drop (omega arith))
-
-pub part_fits : (bytes : List ℕ) (n m : ℕ) → n ≤ length bytes → m ≤ length (take (length bytes - n) (drop n bytes))
-    → n + m ≤ length bytes
-part_fits bytes n m le part = let fits = rw (behind bytes n, length-drop) at part in omega arith

@@ -107,8 +107,7 @@ module _ {R W : Type 0} (remaining : R → Option (List ℕ)) (has_timed_out : R
   pub true_of_received : (a b : StreamState R W) (h : Heard) (buffer : List ℕ) → b.writer ≡ a.writer
       → b.failures ≡ a.failures → b.transcript ≡ a.transcript ++ Got (items_of h buffer) ∷ []
       → ReceivesKnownBytes h buffer (remaining a.reader) (remaining b.reader)
-      → (h ≡ in_code.Silence → has_timed_out b.reader)
-      → TranscriptIsTrueSince remaining has_timed_out contents a b
+      → (h ≡ in_code.Silence → has_timed_out b.reader) → TranscriptIsTrueSince remaining has_timed_out contents a b
   true_of_received a b h buffer writer failures transcript given silent =
       let paused = each_received remaining has_timed_out h buffer a.reader b.reader given silent in
       search (rules, bytes_of_on_tape)

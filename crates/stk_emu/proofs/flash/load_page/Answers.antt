@@ -1,4 +1,4 @@
-use Rattle.std.proofs.Common.{◌≡◌, ◌<◌, ◌∙◌, length, arith}
+use Rattle.std.proofs.Common.{rules, ◌≡◌, ◌<◌, ◌∙◌, length, arith}
 use Rattle.std.proofs.lemmas.Bool.Decides.{nat_tests}
 use Rattle.stk_emu.proofs.Memories.Blocks.{flash_load, flash_sent}
 use Rattle.stk_emu.proofs.Memories.BlocksAtOnce.{block_is_loads}
@@ -19,6 +19,4 @@ returns-then-load_block c =
     let b = c.args.block in
     let is : b.command ≡ 0x40 = grind (arith, nat_tests, c.if-block-eq-LOAD.true) in
     let some : 0 < length c.args.bytes.now = grind (arith, nat_tests, c.is_empty.ensures, c.if-not-is_empty.true) in
-    block_is_loads b.wide b.command b.address c.word_at-last.result c.args.bytes.now c.args.chip.now
-    c.load_block.new.self c.extend.new.chip c.load_block.result is some c.word_at-last.ensures c.load_block.ensures
-    c.if-load_block.true c.extend.ensures
+    search (rules, block_is_loads)

@@ -1,6 +1,6 @@
-use Rattle.std.proofs.Common.{rules, ◌≡◌, ◌<◌, ◌%◌, ◌++◌, ◌+◌, ◌-◌, ◌∙◌, refl, sym, ap, arith, length-append}
+use Rattle.std.proofs.Common.{rules, ◌≡◌, ◌<◌, ◌++◌, ◌+◌, ◌-◌, ◌∙◌, sym, ap, arith, length-append}
 use Rattle.std.proofs.lemmas.Bool.Decides.{nat_tests}
-use Rattle.stk_emu.specs.Programmer.{block_reads}
+use Rattle.stk_emu.specs.Programmer.{flash_reads}
 use Rattle.stk_emu.proofs.Memories.Blocks.{flash_look, flash_sent}
 use Rattle.stk_emu.proofs.Memories.BlocksAtOnce.{block_is_looks, block_length}
 use Rattle.stk_emu.proofs.flash.read.Goals as goal
@@ -29,9 +29,9 @@ returns-in-Some c =
     let b = c.args.block in
     let is : b.command ≡ 0x20 = grind (arith, nat_tests, c.if-block-eq-READ.true) in
     let some : 0 < c.args.count = grind (arith, nat_tests, c.if-count-ne0.true) in
-    let whole : block_reads b c.args.count c.args.chip.now ≡ (c.in-Some.bytes.now, c.extend.new.chip) =
-    block_is_looks b.wide b.command b.address (b.address % 65536) c.args.count c.in-Some.bytes.now c.args.chip.now
-    c.extend.new.chip is c.requires.address some refl c.extend.ensures c.in-Some.ensures in
+    let whole : flash_reads b.wide b.command b.address 0 c.args.count c.args.chip.now
+    ≡ (c.in-Some.bytes.now, c.extend.new.chip) =
+    search (rules, block_is_looks) in
     let put : c.try_extend_from_slice.new.self.items ≡ c.args.out.now.items ++ c.in-Some.bytes.now =
     search (rules, block_length) in
     record {

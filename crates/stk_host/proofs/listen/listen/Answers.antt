@@ -21,18 +21,11 @@ returns-in-End g c =
     c.in-End.is c.in_ok-receive_piece.ensures.ok in
     search rules
 
-pub returns-in_err-receive_piece : goal.returns-in_err-receive_piece
-returns-in_err-receive_piece g c = record {
-  ok = search rules;
-  holds = search rules;
-  err =
-      let p = err_from_is_err_and c.from_residual.result c.from_residual.ensures.1 in
-      rw p.1 (receives_none c.loop-count.invariant.listening (c.is_empty.ensures.0 c.if-is_empty.true) (omega arith)
-      c.in_err-receive_piece.ensures.err);
-  counts = search rules;
-  fits = search rules;
-  comes = search rules;
-}
+pub returns-in_err-receive_piece-clause-err : goal.returns-in_err-receive_piece-clause-err
+returns-in_err-receive_piece-clause-err g c =
+    let p = err_from_is_err_and c.from_residual.result c.from_residual.ensures.1 in
+    rw p.1 (receives_none c.loop-count.invariant.listening (c.is_empty.ensures.0 c.if-is_empty.true) (omega arith)
+    c.in_err-receive_piece.ensures.err)
 
 pub returns-then-is_reply : goal.returns-then-is_reply
 returns-then-is_reply g c =

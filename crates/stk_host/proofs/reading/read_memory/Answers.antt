@@ -12,9 +12,7 @@ pub read_step-requires-clause-room : goal.read_step-requires-clause-room
 read_step-requires-clause-room g c = search (rules, brings_more)
 
 pub read_step-requires-clause-sized : goal.read_step-requires-clause-sized
-read_step-requires-clause-sized g c =
-    rw (c.load_command_at-first.ensures, c.read_command_at-last.ensures) (sized_read c.args.part.now c.args.mem
-    c.loop-number.number)
+read_step-requires-clause-sized g c = search (rules, sized_read)
 
 pub returns-in_err-read_step-clause-is : goal.returns-in_err-read_step-clause-is
 returns-in_err-read_step-clause-is g c =

@@ -1,6 +1,7 @@
 use Rattle.std.proofs.Common.{rules, [], ◌≡◌, ◌++◌, arith, take_all}
+use Rattle.std.proofs.lemmas.List.{take_rest}
 use Rattle.std.proofs.lemmas.Result.{err_from_is_err_and}
-use Rattle.stk_host.proofs.Transcripts.Sending.{behind, part_fits}
+use Rattle.stk_frame.proofs.FedReaders.{within_span}
 use Rattle.stk_emu.proofs.Replies.Texts.{appends_none, appends_one, appends_on, appends_prefix, appends_fed, appends_all}
 use Rattle.stk_emu.proofs.emulator.Emulator.reply_to_all.Goals as goal
 
@@ -12,7 +13,7 @@ loop-used-preserved c =
     let put : c.extend_from_slice-there_is_room.new.self.items
     ≡ c.loop-used.replies.items ++ c.feed-used.new.out.items = search rules in
     let one = appends_one _ _ _ c.feed-used.new.out.items c.loop-used.replies.items _ c.feed-used.ensures.one put in
-    search (rules, behind, part_fits, appends_on)
+    search (rules, take_rest, within_span, appends_on)
 
 pub returns-clause-appends : goal.returns-clause-appends
 returns-clause-appends c = search (rules, take_all)

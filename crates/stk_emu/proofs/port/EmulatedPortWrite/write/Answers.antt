@@ -1,6 +1,5 @@
-use Rattle.std.proofs.Common.{ap, ◌∙◌, ◌++◌}
-use Rattle.stk_emu.proofs.Replies.Texts.{appends_one}
-use Rattle.stk_emu.proofs.Wires.Ports.{passed_in}
+use Rattle.std.proofs.Common.{rules, ap, ◌∙◌, ◌++◌}
+use Rattle.stk_emu.proofs.Replies.Texts.{appends_one, appends_fed, appends_all}
 use Rattle.stk_emu.proofs.port.EmulatedPortWrite.write.Goals as goal
 
 pub returns-clause-replies : goal.returns-clause-replies
@@ -12,4 +11,5 @@ returns-clause-replies c =
     ∙ ap (λ o. c.self.inside.waits.items ++ o) c.as_slice.ensures.value)))
 
 pub returns-clause-passed : goal.returns-clause-passed
-returns-clause-passed c = λ p written given passed. passed_in _ _ _ p written given (returns-clause-replies c) passed
+returns-clause-passed c = λ p written given passed.
+    let replies = returns-clause-replies c in search (rules, appends_fed, appends_all)

@@ -25,16 +25,15 @@ out_more c =
 
 pub invariant_of-self : goal.invariant_of-self
 invariant_of-self c =
-    let h = counts_more c.self.inside.marks.items _ c.self.inside.out.items _ c.self.inside.back.items _
-    c.args.bytes.now [] (mark.Sent (length c.args.bytes.now)) c.self.invariant.out_is c.self.invariant.back_is
+    counts_more c.self.inside.marks.items _ c.self.inside.out.items _ c.self.inside.back.items _
+    c.args.bytes.now [] (mark.Sent (length c.args.bytes.now)) c.self.invariant.0 c.self.invariant.1
     c.push_reserved.ensures.items (out_more c) (sym (append-nil c.self.inside.back.items)) (omega arith)
-    (omega arith) in
-    record { out_is = h.0; back_is = h.1 }
+    (omega arith)
 
 pub returns : goal.returns
 returns c =
     log_adds c.self.inside.marks.items _ c.self.inside.out.items _ c.self.inside.back.items _ c.args.bytes.now []
-    (mark.Sent (length c.args.bytes.now)) c.self.invariant.out_is c.self.invariant.back_is
+    (mark.Sent (length c.args.bytes.now)) c.self.invariant.0 c.self.invariant.1
     c.push_reserved.ensures.items (out_more c) (sym (append-nil c.self.inside.back.items)) c.args.self.now.transcript
     (ap (λ s. s.transcript) c.self.view_is)
     ∙ ap (λ bs. c.args.self.now.transcript ++ transcript.Sent bs ∷ []) (take-length c.args.bytes.now)
