@@ -14,7 +14,7 @@ use Rattle.stk_emu.specs.WriteOperations.{IsStep, memories_after_step}
 use Rattle.stk_emu.proofs.Repeatable.{IsRepeatable, Settled, joined_reply}
 use Rattle.stk_emu.proofs.Replies.Commands.{settled_idle}
 use Rattle.avr_tool.specs.Items.{action_items}
-use Rattle.avr_tool.proofs.Given.StepsGive.{gives_given}
+use Rattle.avr_tool.proofs.StepData.EachStep.{data_of_attempt}
 use Rattle.avr_tool.proofs.Real.{ActionsWork, AllWork, Real}
 use Rattle.avr_tool.proofs.WriteOperations.OutsideMode.{step_fits}
 use Rattle.avr_tool.proofs.WriteOperations.Steps.{enter_fits, leave_fits, sign_on_fits}
@@ -33,7 +33,7 @@ pub emulated_gives : (part : Part) → IsPart part
     → (Settled part m p ⊎ Settled part (memories_after_step part commands m) p)
     → joined_reply device commands [] p ≡ Data bytes → bytes ≡ data_of_step part commands m
 emulated_gives part sound commands m p bytes is f w stood has =
-    gives_given part sound commands m bytes is f (record { from = p; stood = stood; is = has })
+    data_of_attempt part sound commands m bytes is f (record { from = p; stood = stood; is = has })
 
 abbrev pub emulated : (part : Part) → IsPart part → Real part
 emulated part sound = record {

@@ -61,11 +61,11 @@ printed_part has s a b c part n rounds fault before given sent failed follows = 
   text = concat before.parts ++ take sent.0 part;
   kept = sent_next s a.kept b.kept c.kept (concat before.parts) (take sent.0 part) before.kept sent.2;
   comes = (
-    record {
-      parts = before.parts ++ part ∷ [];
-      are = parts_more has 0 before.parts n part before.are (omega (arith, before.counted)) given;
-      begins = (drop sent.0 part, (search (rules, append_assoc, take-append-drop, concat_more)));
-    },
+    (
+      before.parts ++ part ∷ [],
+      parts_more has 0 before.parts n part before.are (omega (arith, before.counted)) given,
+      (drop sent.0 part, (search (rules, append_assoc, take-append-drop, concat_more))),
+    ),
     (search rules),
   );
   follows = (omega (arith, before.same.0, follows.0), omega (arith, before.same.1, follows.1));

@@ -1,5 +1,5 @@
 -- The last use of a file is the open file again: what a call of the inner desk does to the record that is shown.
-use Rattle.std.proofs.Common.{◌≡◌, ◌≤◌, ℕ, Bool, true, List, [], ◌∷◌, ◌++◌, append-nil, take, length, Result, Ok, Err, OnOk, ◌&&◌, not, false, None, ap, refl, sym, arith}
+use Rattle.std.proofs.Common.{◌≡◌, ◌≤◌, ℕ, Bool, true, List, [], ◌∷◌, ◌++◌, append-nil, take, length, Result, Ok, Err, OnOk, ◌&&◌, not, false, None, ap, refl, arith, rules}
 use Rattle.std.specs.Prelude.{⊤}
 use Rattle.avr_desk.specs.Record.{Record, DeskState, Bytes, ChangesRecord, all_uses, use_of, noted, written_on, is_to_read, is_to_write, after_open, after_create, after_read, after_write, with_replaced, with_tried}
 use Rattle.avr_desk.specs.declared.desk.DeskFault.{DeskFault}
@@ -12,20 +12,16 @@ use Rattle.avr_desk.specs.declared.record.Opening.TheVariants.{Absent, Found}
 use Rattle.avr_tool.specs.Noted.{Noted}
 use Rattle.avr_desk.specs.Stream.{SendsPart, SendsTaken}
 use Rattle.avr_desk.specs.declared.stream.Stream.TheVariants.{File}
-use Rattle.avr_tool.specs.Unlocked.{last_open, all_but_open, open_by, finished_by, open_after, record_shown, uses_shown, with_written, UnlockedState, unlocked}
+use Rattle.avr_tool.specs.Unlocked.{reopened, reopened_last, open_after, record_shown, uses_shown, with_written, UnlockedState, unlocked}
 
-pub last_of : (uses : List FileUse) (used : FileUse) → last_open (uses ++ used ∷ []) ≡ open_by used
-last_of [] used = refl
-last_of (first ∷ []) used = refl
-last_of (first ∷ next ∷ uses) used = last_of (next ∷ uses) used
-
-pub before_last : (uses : List FileUse) (used : FileUse) → all_but_open (uses ++ used ∷ []) ≡ uses ++ finished_by used
-before_last [] used = refl
-before_last (first ∷ []) used = refl
-before_last (first ∷ next ∷ uses) used = ap (λ x. first ∷ x) (before_last (next ∷ uses) used)
+reopened_append : (uses : List FileUse) (used : FileUse)
+    → reopened (uses ++ used ∷ []) ≡ (uses ++ (reopened_last used).0, (reopened_last used).1)
+reopened_append [] used = refl
+reopened_append (first ∷ []) used = refl
+reopened_append (first ∷ next ∷ uses) used = ap (λ x. (first ∷ x.0, x.1)) (reopened_append (next ∷ uses) used)
 
 -- nothing is lost
-pub rejoined : (uses : List FileUse) → all_but_open uses ++ use_of (last_open uses) ≡ uses
+rejoined : (uses : List FileUse) → (reopened uses).0 ++ use_of (reopened uses).1 ≡ uses
 rejoined [] = refl
 rejoined (Opened (Absent name) ∷ []) = refl
 rejoined (Opened (Found reading) ∷ []) = refl
@@ -44,8 +40,7 @@ pub opened_shown : (name : Bytes) (opened : Result ⊤ DeskFault) (is_open : Boo
     ≡ after_open name opened (record_shown is_open (all_uses old) n old)
 opened_shown name (Ok done) is_open n old new is = rw (
   is,
-  before_last (all_uses old) _,
-  last_of (all_uses old) _,
+  reopened_append (all_uses old) _,
   append-nil (all_uses old),
   all_shown is_open n (all_uses old) old,
 ) refl
@@ -61,8 +56,7 @@ pub created_shown : (name : Bytes) (is_open : Bool) (n : Noted) (old new : Recor
     ≡ after_create name (Ok tt) (record_shown is_open (all_uses old) n old)
 created_shown name is_open n old new is = rw (
   is,
-  before_last (all_uses old) _,
-  last_of (all_uses old) _,
+  reopened_append (all_uses old) _,
   append-nil (all_uses old),
   all_shown is_open n (all_uses old) old,
 ) refl
@@ -70,9 +64,9 @@ created_shown name is_open n old new is = rw (
 -- ---- reading
 
 noted_last : (uses : List FileUse) (o : Open) (bytes : Bytes) (ended : Bool) → is_to_read o ≡ true
-    → (all_but_open (uses ++ use_of (noted bytes ended o)) ≡ all_but_open (uses ++ use_of o))
-    × (last_open (uses ++ use_of (noted bytes ended o)) ≡ noted bytes ended (last_open (uses ++ use_of o)))
-noted_last uses o bytes ended reads = grind (arith, before_last, last_of)
+    → reopened (uses ++ use_of (noted bytes ended o))
+    ≡ ((reopened (uses ++ use_of o)).0, noted bytes ended (reopened (uses ++ use_of o)).1)
+noted_last uses o bytes ended reads = grind (arith, reopened_append)
 
 pub read_shown : (buf : Bytes) (done : Result ℕ DeskFault) (n : Noted) (old new : Record)
     → new ≡ after_read buf done old → OnOk done (is_to_read old.current ≡ true)
@@ -80,15 +74,15 @@ pub read_shown : (buf : Bytes) (done : Result ℕ DeskFault) (n : Noted) (old ne
 read_shown buf done n old new is reads = grind (arith, noted_last)
 
 pub to_read_shown : (uses : List FileUse) (o : Open) → is_to_read o ≡ true
-    → is_to_read (last_open (uses ++ use_of o)) ≡ true
-to_read_shown uses o reads = grind (arith, last_of)
+    → is_to_read (reopened (uses ++ use_of o)).1 ≡ true
+to_read_shown uses o reads = grind (arith, reopened_append)
 
 -- ---- writing
 
 written_last : (uses : List FileUse) (o : Open) (bytes : Bytes) → is_to_write o ≡ true
-    → (all_but_open (uses ++ use_of (written_on bytes o)) ≡ all_but_open (uses ++ use_of o))
-    × (last_open (uses ++ use_of (written_on bytes o)) ≡ written_on bytes (last_open (uses ++ use_of o)))
-written_last uses o bytes writes = grind (arith, before_last, last_of)
+    → reopened (uses ++ use_of (written_on bytes o))
+    ≡ ((reopened (uses ++ use_of o)).0, written_on bytes (reopened (uses ++ use_of o)).1)
+written_last uses o bytes writes = grind (arith, reopened_append)
 
 pub written_shown : (bytes : Bytes) (n : Noted) (old new : Record) → new ≡ after_write bytes old
     → is_to_write old.current ≡ true
@@ -100,24 +94,21 @@ written_none o = grind (arith, append-nil)
 
 -- a failed write may have written a prefix, or no byte if no file is open to write
 part_last : (uses : List FileUse) (o : Open) (bytes : Bytes) (k : ℕ) → k ≤ length bytes → (m : ℕ) × (m ≤ length bytes)
-    × (all_but_open (uses ++ use_of (written_on (take k bytes) o)) ≡ all_but_open (uses ++ use_of o))
-    × (last_open (uses ++ use_of (written_on (take k bytes) o))
-    ≡ written_on (take m bytes) (last_open (uses ++ use_of o)))
-part_last uses Closed bytes k within = (0, omega arith, refl, sym (written_none _))
-part_last uses (ToRead x) bytes k within = (0, omega arith, refl, sym (written_none _))
-part_last uses (ToWrite x) bytes k within =
-    let last = written_last uses (ToWrite x) (take k bytes) refl in (k, within, last.0, last.1)
+    × (reopened (uses ++ use_of (written_on (take k bytes) o))
+    ≡ ((reopened (uses ++ use_of o)).0, written_on (take m bytes) (reopened (uses ++ use_of o)).1))
+part_last uses (ToWrite x) bytes k within = (k, within, written_last uses (ToWrite x) (take k bytes) refl)
+part_last uses o bytes k within = (0, omega arith, search (rules, written_none))
 
 pub part_shown : (bytes : Bytes) (n : Noted) (k : ℕ) (old new : Record) → k ≤ length bytes
     → new ≡ after_write (take k bytes) old → (m : ℕ) × (m ≤ length bytes) × (record_shown true (all_uses new) n new
     ≡ after_write (take m bytes) (record_shown true (all_uses old) n old))
 part_shown bytes n k old new within is =
     let last = part_last old.uses old.current bytes k within in
-    (last.0, last.1, rw (is, last.2, last.3) refl)
+    (last.0, last.1, rw (is, last.2) refl)
 
 pub to_write_shown : (uses : List FileUse) (o : Open) → is_to_write o ≡ true
-    → is_to_write (last_open (uses ++ use_of o)) ≡ true
-to_write_shown uses o writes = grind (arith, last_of)
+    → is_to_write (reopened (uses ++ use_of o)).1 ≡ true
+to_write_shown uses o writes = grind (arith, reopened_append)
 
 -- ---- replacing a file
 

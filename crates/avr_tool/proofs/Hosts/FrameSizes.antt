@@ -27,7 +27,7 @@ module _ (part : Part) (sound : IsPart part) where
   by_commands written commands e s = subst AreSendable (sym e) s
 
   sendable : (commands : List Command) → IsStep part commands → AreSendable commands
-  sendable commands b' = search (rules, by_commands, page_most, fuse_sendable, fuse_read_sendable)
+  sendable commands is = search (rules, by_commands, page_most, fuse_sendable, fuse_read_sendable)
 
   pub all_sendable : (steps : List (List Command)) → AreSteps part steps → EachSendable steps
   all_sendable [] are = tt

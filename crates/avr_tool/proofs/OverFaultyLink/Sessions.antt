@@ -59,7 +59,7 @@ module _ (plan : Plan) (real : Real plan.part) (m : Memories) where
   pub at_last : (Fails : Type 0) (status : ℕ) (emitted : List OutputEvent) (y : Spot real.P)
       → AtEnd Fails status emitted y
       → AtMoment emitted y
-  at_last Fails status emitted y e' = search rules
+  at_last Fails status emitted y ended = search rules
 
 module _ (plan : Plan) (sound : IsPart plan.part) (real : Real plan.part) (fitted : All (IsFitted plan.part) plan.tasks)
     (True : OutputEvent → real.P → Type 0)

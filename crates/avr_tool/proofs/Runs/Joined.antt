@@ -274,7 +274,7 @@ planned_prefix settings x y stopped = record {
 
 pub stop_prefix : (settings : Settings) (x y : Devices) (status : ℕ) → IsStopped settings x y status
     → IsPrefixOfRun settings x y
-stop_prefix settings x y status e' = search (rules, stopped_prefix, planned_prefix)
+stop_prefix settings x y status stopped = search (rules, stopped_prefix, planned_prefix)
 
 -- a text other than the next line is no prefix
 abbrev line_of : List (Event OutputEvent) → Bytes

@@ -23,9 +23,9 @@ use Rattle.stk_emu.specs.Settled.{HasMemories, Ready, FitsPart}
 use Rattle.stk_emu.specs.Exchange.{Exchange}
 use Rattle.avr_tool.proofs.Emulated.{all_work, emulated}
 use Rattle.avr_tool.proofs.OverFaultyLink.EachAction.{Comes, Passes, operation_comes, opening_comes}
-use Rattle.avr_tool.proofs.Given.Comparisons.{signature_taken}
+use Rattle.avr_tool.proofs.StepData.Comparisons.{signature_taken}
 use Rattle.avr_tool.proofs.Sure.Exchanges.{Brings, IsSure, brings_bind, brings_reported, brings_play}
-use Rattle.avr_tool.proofs.Given.WholeMemories.{read_gives}
+use Rattle.avr_tool.proofs.StepData.WholeMemories.{read_gives}
 use Rattle.avr_tool.proofs.Hosts.Operations.{closing_goes}
 use Rattle.avr_tool.proofs.Hosts.OneLink.{Spot, on_link, both}
 use Rattle.avr_tool.proofs.WriteOperations.Items.{read_are_steps}

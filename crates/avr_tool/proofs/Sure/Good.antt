@@ -15,7 +15,7 @@ use Rattle.avr_tool.specs.OverFaultyLink.{AllArriveRight}
 use Rattle.avr_tool.proofs.Hosts.AnyExchange.{AfterStep, try_goes}
 use Rattle.avr_tool.proofs.Hosts.OneLink.{Spot, this_link, Runs, on_link, both}
 use Rattle.stk_emu.proofs.Replies.Commands.{steady}
-use Rattle.avr_tool.proofs.WriteOperations.OutsideMode.{gathered_steady}
+use Rattle.avr_tool.proofs.WriteOperations.OutsideMode.{joined_steady}
 use Rattle.avr_tool.proofs.Sure.Exchanges.{IsSure}
 
 -- ---- links that don't end, and over which the programmer never restarts
@@ -107,7 +107,7 @@ module _ (Before After : Programmer → Type 0) (commands : List Command) (got :
       attempts (this_link steady) (λ bytes y. ⊤) commands Begins Whole
       (λ more y begins. wider (λ bytes y x. tt) (λ e y x. x) (after_try more)
       (both steady (on_link steady (try_goes steady commands Before After fits y.0 (inl begins.0)))
-      (attempt_has commands [] y got begins.1 (gathered_steady commands [] y.0 ∙ has y.0 (inl begins.0)))))
+      (attempt_has commands [] y got begins.1 (joined_steady commands [] y.0 ∙ has y.0 (inl begins.0)))))
       (λ fault y none. absurd none) 4 NoAnswer z (before, good)
 
 pub good_sure : IsSure AllArriveRight

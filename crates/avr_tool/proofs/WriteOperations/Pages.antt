@@ -103,7 +103,7 @@ module _ (part : Part) (sound : IsPart part) (image : Image) where
       let within : n * part.flash_page ≤ (n + suc k) * part.flash_page =
       less n (n + suc k) part.flash_page (omega arith) in
       page_first n (each_from (page_steps part image) (n + 1) k) m old free below (omega (arith, within, long, most))
-      (λ mid below' same. pages_free (n + 1) k m mid free below'
+      (λ mid still_below same. pages_free (n + 1) k m mid free still_below
       (ap (λ j. j * part.flash_page) (let e : n + 1 + k ≡ n + suc k = omega arith in e) ∙ (long ∙ sym same))
       (omega (arith, same, most)))
     where

@@ -19,7 +19,7 @@ use Rattle.stk_emu.proofs.Memories.LaidImages.{laid_twice, and_in_twice, and_byt
 use Rattle.stk_emu.proofs.Replies.Commands.{one_fits, steady, in_mode_is, one_steady, two_steady, settled_idle, ready_settled, ready_idle, restart_keeps_memories, restart_is_settled, enter_does, leave_keeps, load_keeps, fuse_does, lock_does, erase_does, fuse_read_after, lock_read_after, calibration_read_after}
 use Rattle.stk_emu.proofs.Memories.Runs.{run_does}
 use Rattle.stk_emu.proofs.Memories.Pages.{page_does}
-use Rattle.avr_tool.proofs.Given.ReadReplies.{flash_read_keeps, eeprom_read_keeps}
+use Rattle.avr_tool.proofs.StepData.ReadReplies.{flash_read_keeps, eeprom_read_keeps}
 
 pub effect_twice : (part : Part) (item : Item) (m : Memories)
     → effect part item (effect part item m) ≡ effect part item m
