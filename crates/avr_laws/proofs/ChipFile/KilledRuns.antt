@@ -1,5 +1,5 @@
 -- Which bytes a run tries to put under the name of its chip file.
-use Rattle.std.proofs.Common.{◌≡◌, ◌⊎◌, ◌∙◌, refl, inl, inr, arith, rules, ℕ, List, [], ◌∷◌, Option, None, Some, Err}
+use Rattle.std.proofs.Common.{◌≡◌, ◌⊎◌, ◌∙◌, refl, inl, inr, arith, rules, ℕ, List, [], ◌∷◌, Option, None, Some, Ok, Err}
 use Rattle.std.specs.Prelude.{MatchOption}
 use Rattle.std.specs.declared.io.Read.{Ghosts as Reads}
 use Rattle.std.specs.declared.io.Write.{Ghosts as Writes}
