@@ -72,7 +72,7 @@ run_tries : (settings : Settings) (file : Bytes) (old new : DeskState) (status :
     → TriesOnly file (chip_file_of_run settings file old new status r) (tried_at new)
 run_tries settings file old new status (inl r) none = search (rules, tried_loaded, tried_went, tried_all)
 run_tries settings file old new status (inr (inl with)) none =
-    tried_untaken _ _ _ _ _ with.then_is ∙ tried_went _ _ _ _ with.made ∙ none
+    tried_untaken with.plan _ _ _ _ with.then_is ∙ tried_went _ _ _ _ with.made ∙ none
 run_tries settings file old new status (inr (inr lacks)) none = tried_goes _ _ _ _ _ lacks.goes ∙ none
 
 pub part_tries : (part : Part) (file : Bytes) (most_reads : ℕ) (old new : Devices) (status : ℕ)
