@@ -31,8 +31,7 @@ parts_more : (has : Parts) (place : ℕ) (parts : List Bytes) (n : ℕ) (part : 
     → n ≡ place + length (concat parts) → has n part → HasParts has place (parts ++ part ∷ [])
 parts_more has place [] n part are is given = search rules
 parts_more has place (p ∷ parts) n part are is given =
-    let there : n ≡ (place + length p) + length (concat parts) = omega (arith, is, length-append p (concat parts)) in
-    (are.0, parts_more has (place + length p) parts n part are.1 there given)
+    search (rules, parts, length-append, parts_more has (place + length p) parts n part are.1)
 
 concat_more : (parts : List Bytes) (part : Bytes) → concat (parts ++ part ∷ []) ≡ concat parts ++ part
 concat_more parts part = concat-append parts (part ∷ []) ∙ ap (λ (x : Bytes). concat parts ++ x) (append-nil part)

@@ -37,10 +37,7 @@ pub in_turn_append : (p : Programmer) (text out : List ℕ) (x y : Transcript) �
     → RepliesInTurn p (text ++ bytes_on_tape (heard x)) (out ++ sent x) y → RepliesInTurn p text out (x ++ y)
 in_turn_append p text out [] y none f g = search (rules, append-nil)
 in_turn_append p text out (Sent bytes ∷ x) y none f g =
-    in_turn_append p text (out ++ bytes) x y none f
-    (subst (λ o. RepliesInTurn p (text ++ bytes_on_tape (heard x)) o y) (sym (append_assoc out bytes (sent x))) g)
+    search (rules, append_assoc, in_turn_append p text (out ++ bytes) x y none f)
 in_turn_append p text out (Taken bytes ∷ x) y none f g = absurd none
-in_turn_append p text out (Got tape ∷ x) y none f g = (
-  f.0,
-  in_turn_append p (text ++ bytes_on_tape tape) out x y none f.1 (search (rules, bytes_of_append, append_assoc)),
-)
+in_turn_append p text out (Got tape ∷ x) y none f g =
+    search (rules, bytes_of_append, append_assoc, in_turn_append p (text ++ bytes_on_tape tape) out x y none f.1)

@@ -135,8 +135,7 @@ module _ (part : Part) where
       → Leave mem (tasks_actions s tasks) m
   tasks_left s verified mem [] m fit agree = left_as_it_is mem (size_of mem part) m
   tasks_left s verified mem (task.Write other image ∷ tasks) m fit agree =
-      write_leaves s.dry s.no_verify mem other image (tasks_actions s tasks) m verified
-      (λ now. tasks_left s verified mem tasks now) fit agree
+      search (rules, write_leaves, tasks_left s verified mem tasks)
   tasks_left s verified mem (task.Verify other image ∷ tasks) m fit agree =
       tasks_left s verified mem tasks m fit.1 agree.1
   tasks_left s verified mem (task.Read other format file ∷ tasks) m fit agree =

@@ -42,9 +42,6 @@ in_mode_reply : (c : Command) (p : Programmer) (x y : programmer.Response) → p
     → reply_from_reading c (Replied (cond p.mode x y).0) ≡ reply_from_reading c (Replied x.0)
 in_mode_reply c p x y e = ap (λ (z : programmer.Response). reply_from_reading c (Replied z.0)) (cond-true p.mode x y e)
 
-fuse_reply : (f : Fuse) (v : ℕ) (p : Programmer) → p.mode ≡ true → reply_to device (program_fuse f v) p ≡ Data []
-fuse_reply f v p e = search rules
-
 flash_read_reply : (count : ℕ) (bytes : List ℕ) (p : Programmer) → p.mode ≡ true → 0 < count → count % 2 ≡ 0
     → count ≤ 256 → (flash_reads p.wide 0x20 p.address 0 count p.chip).0 ≡ bytes → length bytes ≡ count
     → reply_to device (read_flash_block count) p ≡ Data bytes
@@ -106,45 +103,25 @@ module _ (part : Part) (sound : IsPart part) where
       ∙ eeprom_read_reply count bytes q s.mode is_block.some is_block.few is
       (block_length start count part.eeprom_size m.eeprom f.eeprom inside))
 
-  lock_data : (m : Memories) (p : Programmer) → Ready part m p
-      → reply_to device read_lock p ≡ Data (data_of_step part (read_lock ∷ []) m)
-  lock_data m p s = in_mode_reply read_lock p _ _ s.mode ∙ ap (λ (x : Memories). Data (x.lock ∷ [])) s.memories
-
-  signature_data : (place : ℕ) (m : Memories) (p : Programmer) → place < 3 → Ready part m p
-      → reply_to device (read_signature place) p ≡ Data (data_of_step part (read_signature place ∷ []) m)
-  signature_data place m p few s = search (rules, ne_eqb, drop-cons)
-
-  calibration_data : (m : Memories) (p : Programmer) → Ready part m p
-      → reply_to device read_calibration p ≡ Data (data_of_step part (read_calibration ∷ []) m)
-  calibration_data m p s = in_mode_reply read_calibration p _ _ s.mode
-
   as_written : (written commands : List Command) (m : Memories) (p : Programmer) → commands ≡ written
       → joined_reply device written [] p ≡ Data (data_of_step part written m)
       → joined_reply device commands [] p ≡ Data (data_of_step part commands m)
   as_written written commands m p e given = search rules
 
-  page_data : (number : ℕ) (bytes : List ℕ) (m : Memories) (p : Programmer) → IsPage part number bytes → Ready part m p
-      → joined_reply device (load_flash part (number * part.flash_page) ∷ program_page bytes ∷ []) [] p ≡ Data []
-  page_data number bytes m p is_page s = search (rules, page_most)
-
-  run_data : (address : ℕ) (bytes : List ℕ) (m : Memories) (p : Programmer) → FitsEepromPage part address bytes
-      → Ready part m p → joined_reply device (load_eeprom address ∷ program_eeprom_block bytes ∷ []) [] p ≡ Data []
-  run_data address bytes m p is_run s = search rules
-
   -- all commands of a step, each executed and replied to
   pub step_data : (commands : List Command) (m : Memories) (p : Programmer) → IsStep part commands → FitsPart part m
       → Ready part m p → joined_reply device commands [] p ≡ Data (data_of_step part commands m)
   step_data commands m p (Erases e) f s = search rules
-  step_data commands m p (ProgramsPage number bytes is_page e) f s = search (rules, as_written, page_data)
-  step_data commands m p (ProgramsEepromRun address bytes is_run e) f s = search (rules, as_written, run_data)
-  step_data commands m p (ProgramsFuse fuse v e) f s = search (rules, as_written, joined_one, fuse_reply)
+  step_data commands m p (ProgramsPage number bytes is_page e) f s = search (rules, as_written, page_most)
+  step_data commands m p (ProgramsEepromRun address bytes is_run e) f s = search (rules, as_written)
+  step_data commands m p (ProgramsFuse fuse v e) f s = search (rules, as_written, joined_one)
   step_data commands m p (ProgramsLock v e) f s = search (rules, as_written, joined_one, in_mode_reply)
   step_data commands m p (ReadsFlash start count is_block words e) f s = search (rules, as_written, flash_data)
   step_data commands m p (ReadsEeprom start count is_block e) f s = search (rules, as_written, eeprom_data)
   step_data commands m p (ReadsFuse fuse e) f s = search rules
-  step_data commands m p (ReadsLock e) f s = search (rules, as_written, joined_one, lock_data)
-  step_data commands m p (ReadsSignature place few e) f s = search (rules, as_written, joined_one, signature_data)
-  step_data commands m p (ReadsCalibration e) f s = search (rules, as_written, joined_one, calibration_data)
+  step_data commands m p (ReadsLock e) f s = search (rules, as_written, joined_one, in_mode_reply)
+  step_data commands m p (ReadsSignature place few e) f s = search (rules, as_written, joined_one, ne_eqb, drop-cons)
+  step_data commands m p (ReadsCalibration e) f s = search (rules, as_written, joined_one, in_mode_reply)
 
 -- a step keeps the sizes of the memories
 changed_sizes_by : (part : Part) (items : List Item) (m : Memories) → IsPart part → FitsPart part m

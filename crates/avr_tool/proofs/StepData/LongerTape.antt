@@ -47,20 +47,8 @@ further_used a n o body used e each = search rules
 pub used_within : (seq : ℕ) (pieces : List (List ℕ)) (body : List ℕ) (used : ℕ)
     → first_reply seq pieces ≡ Some (body, used) → used ≤ length (concat pieces)
 used_within seq [] body used e = absurd (none-some (body, used) e)
-used_within seq (piece ∷ pieces) body used e = elim (cases_Bool (is_reply seq piece)) [
-  | inl is_it ↦
-      let f : ◌≡◌ {A = Option (List ℕ × ℕ)} (Some (body_of piece, length piece)) (Some (body, used)) =
-      search (rules, cond-true) in
-      let p : ◌≡◌ {A = List ℕ × ℕ} (body_of piece, length piece) (body, used) = cc in
-      let g : length piece ≡ used = ap (λ x. x.1) p in
-      rw (length-append piece (concat pieces)) (omega arith)
-  | inr is_not ↦
-      let f : past_skipped (length piece) (first_reply seq pieces) ≡ Some (body, used) =
-      search (rules, cond-false) in
-      rw (length-append piece (concat pieces))
-      (further_used (length piece) (length (concat pieces)) (first_reply seq pieces) body used f
-      (λ b k g. used_within seq pieces b k g))
-]
+used_within seq (piece ∷ pieces) body used e =
+    search (rules, cases_Bool, cond-true, length-append, cond-false, further_used, used_within seq pieces)
 
 used_few : (seq : ℕ) (x body : List ℕ) (used : ℕ) → first_reply seq (cut x) ≡ Some (body, used) → used ≤ length x
 used_few seq x body used e =

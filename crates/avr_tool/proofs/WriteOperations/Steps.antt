@@ -40,21 +40,11 @@ module _ (part : Part) where
   sign_on_fits m = search (rules, one_fits, restart_keeps_memories)
 
   pub enter_fits : (m : Memories) → IsRepeatable device (enter ∷ []) (HasMemories part m) (Settled part m)
-  enter_fits m = search (
-    rules,
-    one_fits,
-    ready_settled,
-    enter_does,
-    settled_idle,
-    restart_keeps_memories,
-    restart_is_settled,
-  )
+  enter_fits m =
+      search (rules, one_fits, ready_settled, enter_does, settled_idle, restart_keeps_memories, restart_is_settled)
 
   pub leave_fits : (m : Memories) → IsRepeatable device (leave ∷ []) (HasMemories part m) (HasMemories part m)
   leave_fits m = search (rules, one_fits, leave_keeps, restart_keeps_memories)
-
-  pub sign_on_steady : (m : Memories) → IsRepeatable steady (SignOn ∷ []) (HasMemories part m) (HasMemories part m)
-  sign_on_steady m = search (rules, one_steady)
 
   pub enter_ready : (m : Memories) → IsRepeatable steady (enter ∷ []) (HasMemories part m) (Ready part m)
   enter_ready m = search (rules, one_steady, enter_does, ready_idle)
