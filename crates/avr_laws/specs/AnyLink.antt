@@ -12,7 +12,8 @@ use Rattle.stk_emu.specs.Wire.{exchanges_of_fates}
 use Rattle.stk_emu.specs.Wired.{WiredState}
 use Rattle.stk_host.specs.Dialog.{Event, outputs}
 use Rattle.stk_host.specs.Transcript.{sent}
-use Rattle.avr_tool.specs.OverFaultyLink.{EndsOverExchanges, OverExchanges, SessionStopped, events_over, memories}
+use Rattle.avr_session.specs.Run.{StopsSession}
+use Rattle.avr_tool.specs.OverFaultyLink.{EndsOverExchanges, OverExchanges, events_over, memories, wire_and_desk}
 use Rattle.avr_tool.specs.ExpectedOutput.{IsExpectedOutput, EndsAsExpected}
 use Rattle.avr_tool.specs.Items.{items, has_erase}
 use Rattle.avr_tool.specs.Outcome.{IsExpectedRun}
@@ -60,4 +61,4 @@ pub record OverAnyWire (plan : Plan) (before after : WiredState) (old now : Desk
       (exchanges_of_fates before.wire.fates) (sent after.transcript) (events_over plan after)
   pub end : (EndsAndReportsOverExchanges plan (memories before) (memories after) (exchanges_of_fates before.wire.fates)
       (outputs (events_over plan after)) status × ChangesRecord (after_events (outputs (events_over plan after))) old
-      now) ⊎ (SessionStopped plan before after old now × (status ≡ 1))
+      now) ⊎ (StopsSession plan (wire_and_desk before old) (wire_and_desk after now) × (status ≡ 1))

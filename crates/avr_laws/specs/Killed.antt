@@ -11,6 +11,7 @@ use Rattle.avr_part.specs.Part.{Part}
 use Rattle.avr_session.specs.Runs.{Devices, devices}
 use Rattle.avr_tool.specs.OverNet.{new_link}
 use Rattle.avr_tool.specs.ServedNet.{ServesNet}
+use Rattle.avr_tool.specs.declared.served_run.TheConstants.{READS}
 use Rattle.stk_host.specs.Transcript.{LinkState}
 
 -- After a crash this name has what it had when it was locked, or the file of the chip, if there is one.
@@ -27,7 +28,7 @@ chip_file_of_run settings file old new status (inr none) = None
 -- The same of a server, from its part on and from its settings on.
 abbrev pub chip_file_of_part : (part : Part) (file : Bytes) (most_reads : ℕ) (old new : Devices) (status : ℕ)
     → ServesPart part file most_reads old new status → Option Bytes
-chip_file_of_part part file most_reads old new status (inl s) = Some (chip_file s.serves.left.programmer.chip)
+chip_file_of_part part file most_reads old new status (inl s) = Some (chip_file s.then_is.left.programmer.chip)
 chip_file_of_part part file most_reads old new status (inr none) = None
 
 abbrev pub chip_file_of_server : (settings : Settings) (file : Bytes) (most_reads : ℕ) (old new : Devices) (status : ℕ)
@@ -41,6 +42,6 @@ abbrev pub chip_file_of_service : (unused : Type 0) (over : Option LinkState →
     (port file : Bytes) (old new : DeskState) (status : ℕ) → ServesNet unused over settings port file old new status
     → Option Bytes
 chip_file_of_service unused over settings port file old new status (inl (part, checked, is, inl (link, on, serves))) =
-    chip_file_of_part part file 16777216 (devices new_link checked) (devices link new) status serves
+    chip_file_of_part part file READS (devices new_link checked) (devices link new) status serves
 chip_file_of_service unused over settings port file old new status (inl (part, checked, is, inr none)) = None
 chip_file_of_service unused over settings port file old new status (inr refused) = None

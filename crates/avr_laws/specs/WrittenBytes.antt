@@ -5,7 +5,6 @@ use Rattle.avr_part.specs.declared.part.Mem.{Mem}
 use Rattle.avr_part.specs.declared.part.Mem.TheVariants.{Flash, Eeprom, Lfuse, Hfuse, Efuse, Lock, Signature, Calibration}
 use Rattle.stk_emu.specs.Effect.{Image, Item, Erase, Write, Memories, are_locked}
 use Rattle.avr_tool.specs.Items.{has_erase}
-use Rattle.avr_tool.specs.Written.{memory_number}
 
 -- An item writes an image to flash with this byte at this address.
 abbrev pub WritesFlashByte : Item → ℕ → ℕ → Type 0
@@ -41,7 +40,7 @@ abbrev pub LeaveUnwritten : List Item → Mem → ℕ → Type 0
 LeaveUnwritten [] mem addr = ⊤
 LeaveUnwritten (Erase ∷ items) mem addr = LeaveUnwritten items mem addr
 LeaveUnwritten (Write other image ∷ items) mem addr =
-    (memory_number other ≡ memory_number mem → byte_at image addr ≡ None) × LeaveUnwritten items mem addr
+    (other ≡ mem → byte_at image addr ≡ None) × LeaveUnwritten items mem addr
 
 -- These items erase the chip, and write no other image at the addresses of this one.
 abbrev pub IsErasedFor : Mem → Image → List Item → Type 0

@@ -25,7 +25,7 @@ ghost use Rattle.avr_laws.specs.AnyTape.{ReceivedSentFrames, after_received_byte
 ghost use Rattle.avr_tool.specs.Authentic.{RepliesAreAuthentic};
 ghost use Rattle.avr_laws.specs.NoForgedFrame.{ForgesNoFrame};
 ghost use Rattle.avr_part.specs.Sound.{IsSoundChip};
-ghost use Rattle.avr_session.specs.Run.{RunsSession};
+ghost use Rattle.avr_session.specs.Run.{RunsSession, StopsSession};
 ghost use Rattle.stk_frame.specs.Cut.{frames};
 ghost use Rattle.stk_host.specs.Play.{IsBytePrefixOf};
 ghost use Rattle.stk_host.specs.Transcript.{sent, heard};
@@ -33,7 +33,7 @@ ghost use Rattle.stk_emu.specs.Wire.{exchanges_of_fates};
 ghost use Rattle.stk_host.specs.Tape.{Tape};
 ghost use Rattle.stk_host.specs.Dialog.{Done, Event, played, bytes_sent};
 ghost use Rattle.stk_host.specs.Bound.{SendsAtMost, commands_in};
-ghost use Rattle.avr_tool.specs.OverFaultyLink.{SessionStopped};
+ghost use Rattle.avr_tool.specs.OverFaultyLink.{wire_and_desk};
 ghost use Rattle.avr_laws.specs.AnyLink.{OverAnyWire, ReportsOverExchanges, WholeSessionOverExchanges, ReportsWereTrue};
 ghost use Rattle.avr_session.specs.PlanSteps.{run_steps};
 ghost use Rattle.avr_tool.specs.ExpectedRun.{expected_run};
@@ -99,7 +99,7 @@ pub fn what_was_reported_was_true()
         whole.1.events }
     ensures stopped { (plan : Plan) (w v : WiredState) (d e : DeskState) (status : ℕ)
         → w.transcript ≡ [] → OverAnyWire plan w v d e status
-        → (stopped : SessionStopped plan w v d e)
+        → (stopped : StopsSession plan (wire_and_desk w d) (wire_and_desk v e))
         → ReportsWereTrue plan (fresh_programmer w.wire.programmer.chip) (exchanges_of_fates w.wire.fates)
         stopped.breaks.prefix.whole }
 {}

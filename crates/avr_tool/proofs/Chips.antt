@@ -6,7 +6,7 @@ use Rattle.avr_desk.specs.Record.{DeskState, ChangesRecord, Bytes}
 use Rattle.avr_desk.specs.declared.record.Opening.{Opening}
 use Rattle.avr_desk.specs.declared.record.Opening.TheVariants.{Found}
 use Rattle.avr_desk.specs.declared.record.Reading.{Reading}
-use Rattle.avr_desk.specs.Lines.{too_long_line}
+use Rattle.avr_desk.specs.Lines.{error, too_long_line}
 use Rattle.avr_desk.specs.OutputEvents.{OutputEvent, Opens, ReportsLine}
 use Rattle.avr_part.specs.ChipFile.{chip_file_size, chip_from_file, state_from_file}
 use Rattle.avr_part.specs.Part.{Part}
@@ -19,7 +19,7 @@ use Rattle.avr_desk.proofs.Stages.Played.{went_settled, goes_unsettled}
 use Rattle.avr_desk.specs.StageRuns.{OnlyAtStart, RunsStage, StageCompleted}
 use Rattle.avr_desk.specs.Stage.{Produced, result_stage}
 use Rattle.avr_tool.specs.declared.chip_files.TheConstants.{LARGEST_CHIP_FILE}
-use Rattle.avr_tool.specs.Lines.{length_line}
+use Rattle.avr_tool.specs.Lines.{length_pieces}
 use Rattle.avr_tool.specs.Loading.{AtOpened, chip_or_line, checked_chip, chip_given, chip_stage}
 
 -- ---- a fresh chip
@@ -38,7 +38,7 @@ none_is test good n fault is = search rules
 
 right_length : (part : Part) (bytes : Bytes) (chip : ChipState) → GivesPartUnlessOutOfMemory (chip_from_file part bytes)
     (Ok chip) → ((length bytes == chip_file_size part) ≡ true) × (chip ≡ state_from_file part bytes)
-right_length part bytes chip x3 = search rules
+right_length part bytes chip gives = search rules
 
 pub went_chip : (part : Part) (file bytes : Bytes) (chip : ChipState) (d : DeskState)
     → GivesPartUnlessOutOfMemory (chip_from_file part bytes) (Ok chip)
@@ -49,7 +49,7 @@ went_chip part file bytes chip d gives =
 
 pub goes_wrong_length : (part : Part) (file bytes : Bytes) (n : ℕ) (old new : DeskState) (status : ℕ)
     → GivesPartUnlessOutOfMemory (chip_from_file part bytes) (Err (BadChipFile n)) → status ≡ 1
-    → ReportsLine old new (length_line file (length bytes) (chip_file_size part))
+    → ReportsLine old new (error (length_pieces file (length bytes) (chip_file_size part)))
     → RunsStage (OnlyAtStart true) (result_stage (chip_or_line part file bytes)) old new (Err status)
 goes_wrong_length part file bytes n old new status (inl gives) one notice =
     let wrong = none_is _ (state_from_file part bytes) (length bytes) (BadChipFile n) (sym gives) in

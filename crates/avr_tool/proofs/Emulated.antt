@@ -1,4 +1,5 @@
 -- The emulated programmer and its chip do what the proofs use, from all memories.
+use Rattle.std.proofs.Common.{rules}
 use Rattle.std.specs.Prelude.{◌≡◌, ◌⊎◌, ℕ, List, [], ◌∷◌}
 use Rattle.avr_part.specs.Part.{Part, IsPart}
 use Rattle.avr_session.specs.Actions.{Action}
@@ -14,7 +15,7 @@ use Rattle.stk_emu.specs.WriteOperations.{IsStep, memories_after_step}
 use Rattle.stk_emu.proofs.Repeatable.{IsRepeatable, Settled, joined_reply}
 use Rattle.stk_emu.proofs.Replies.Commands.{settled_idle}
 use Rattle.avr_tool.specs.Items.{action_items}
-use Rattle.avr_tool.proofs.Given.StepsGive.{gives_given}
+use Rattle.avr_tool.proofs.StepData.EachStep.{data_of_attempt}
 use Rattle.avr_tool.proofs.Real.{ActionsWork, AllWork, Real}
 use Rattle.avr_tool.proofs.WriteOperations.OutsideMode.{step_fits}
 use Rattle.avr_tool.proofs.WriteOperations.Steps.{enter_fits, leave_fits, sign_on_fits}
@@ -32,8 +33,7 @@ pub emulated_gives : (part : Part) → IsPart part
     → IsStep part commands → FitsPart part m → Unit {0}
     → (Settled part m p ⊎ Settled part (memories_after_step part commands m) p)
     → joined_reply device commands [] p ≡ Data bytes → bytes ≡ data_of_step part commands m
-emulated_gives part sound commands m p bytes is f w stood has =
-    gives_given part sound commands m bytes is f (record { from = p; stood = stood; is = has })
+emulated_gives part sound commands m p bytes is f w stood has = search (rules, data_of_attempt)
 
 abbrev pub emulated : (part : Part) → IsPart part → Real part
 emulated part sound = record {
@@ -60,7 +60,5 @@ all_work part sound (commands ∷ steps) m = (tt, all_work part sound steps (mem
 pub actions_work : (part : Part) (sound : IsPart part) (actions : List Action) (m : Memories)
     → ActionsWork (emulated part sound) actions m
 actions_work part sound [] m = tt
-actions_work part sound (action ∷ actions) m = (
-  all_work part sound (action_steps part action) m,
-  actions_work part sound actions (effects part (action_items action) m),
-)
+actions_work part sound (action ∷ actions) m =
+    search (rules, all_work, actions_work part sound actions (effects part (action_items action) m))

@@ -37,7 +37,7 @@ pub read_refused : (tasks : List Task) (i : ℕ) (task : Task) (memory : Mem) (f
     → task ≡ Read memory format file → into ≡ file → mid ≡ old → status ≡ told → ChecksRead into mid new (Err told)
     → ChecksReads tasks old new (Err status)
 read_refused tasks i task memory format into file old mid new status told below is reads same here one checks =
-    search (rules, list_any_at, same_name)
+    rw (← here, one) (into, search (rules, list_any_at, same_name), checks)
 
 module _ (settings : Settings) (file : Bytes) (plan : Plan) (chip : Chip) (w v : WiredState) (held : w.held ≡ [])
     (begun : w.wire ≡ fresh_wire (fresh_programmer chip) []) (waits : w.waits ≡ []) (silent : w.transcript ≡ [])

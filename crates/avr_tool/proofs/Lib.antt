@@ -5,7 +5,7 @@ pub mod Each
 pub mod Leads
 pub mod Real
 pub mod Lines
-pub mod Given
+pub mod StepData
 pub mod Hosts
 pub mod WriteOperations
 pub mod Emulated

@@ -28,7 +28,7 @@ use Rattle.avr_tool.proofs.OverFaultyLink.Outcomes.{session_leaves, session_succ
 use Rattle.avr_tool.proofs.OverFaultyLink.WriteOperationOrder.{session_makes}
 use Rattle.avr_tool.proofs.Bounds.Weights.{session_weighs}
 use Rattle.avr_tool.proofs.Bounds.WireFrames.{prefix_weighs}
-use Rattle.avr_tool.proofs.Given.FirstSteps.{sound_idle, sound_fits}
+use Rattle.avr_tool.proofs.StepData.FirstSteps.{sound_idle, sound_fits}
 use Rattle.avr_tool.proofs.Memories.VerifiedRuns.{run_written, shown_succeeds}
 use Rattle.avr_tool.proofs.Sure.Good.{good_sure}
 use Rattle.avr_tool.proofs.Sure.Sessions.{session_ends}

@@ -31,8 +31,7 @@ parts_more : (has : Parts) (place : ℕ) (parts : List Bytes) (n : ℕ) (part : 
     → n ≡ place + length (concat parts) → has n part → HasParts has place (parts ++ part ∷ [])
 parts_more has place [] n part are is given = search rules
 parts_more has place (p ∷ parts) n part are is given =
-    let there : n ≡ (place + length p) + length (concat parts) = omega (arith, is, length-append p (concat parts)) in
-    (are.0, parts_more has (place + length p) parts n part are.1 there given)
+    search (rules, parts, length-append, parts_more has (place + length p) parts n part are.1)
 
 concat_more : (parts : List Bytes) (part : Bytes) → concat (parts ++ part ∷ []) ≡ concat parts ++ part
 concat_more parts part = concat-append parts (part ∷ []) ∙ ap (λ (x : Bytes). concat parts ++ x) (append-nil part)
@@ -61,11 +60,11 @@ printed_part has s a b c part n rounds fault before given sent failed follows = 
   text = concat before.parts ++ take sent.0 part;
   kept = sent_next s a.kept b.kept c.kept (concat before.parts) (take sent.0 part) before.kept sent.2;
   comes = (
-    record {
-      parts = before.parts ++ part ∷ [];
-      are = parts_more has 0 before.parts n part before.are (omega (arith, before.counted)) given;
-      begins = (drop sent.0 part, (search (rules, append_assoc, take-append-drop, concat_more)));
-    },
+    (
+      before.parts ++ part ∷ [],
+      parts_more has 0 before.parts n part before.are (omega (arith, before.counted)) given,
+      (drop sent.0 part, (search (rules, append_assoc, take-append-drop, concat_more))),
+    ),
     (search rules),
   );
   follows = (omega (arith, before.same.0, follows.0), omega (arith, before.same.1, follows.1));

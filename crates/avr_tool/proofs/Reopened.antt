@@ -1,5 +1,5 @@
 -- The last use of a file is the open file again: what a call of the inner desk does to the record that is shown.
-use Rattle.std.proofs.Common.{◌≡◌, ◌≤◌, ℕ, Bool, true, List, [], ◌∷◌, ◌++◌, append-nil, take, length, Result, Ok, Err, OnOk, ◌&&◌, not, false, None, ap, refl, sym, arith}
+use Rattle.std.proofs.Common.{◌≡◌, ◌≤◌, ℕ, Bool, true, List, [], ◌∷◌, ◌++◌, append-nil, take, length, Result, Ok, Err, OnOk, ◌&&◌, not, false, None, ap, refl, arith, rules}
 use Rattle.std.specs.Prelude.{⊤}
 use Rattle.avr_desk.specs.Record.{Record, DeskState, Bytes, ChangesRecord, all_uses, use_of, noted, written_on, is_to_read, is_to_write, after_open, after_create, after_read, after_write, with_replaced, with_tried}
 use Rattle.avr_desk.specs.declared.desk.DeskFault.{DeskFault}
@@ -12,20 +12,16 @@ use Rattle.avr_desk.specs.declared.record.Opening.TheVariants.{Absent, Found}
 use Rattle.avr_tool.specs.Noted.{Noted}
 use Rattle.avr_desk.specs.Stream.{SendsPart, SendsTaken}
 use Rattle.avr_desk.specs.declared.stream.Stream.TheVariants.{File}
-use Rattle.avr_tool.specs.Unlocked.{last_open, all_but_open, open_by, finished_by, open_after, record_shown, uses_shown, with_written, UnlockedState, unlocked}
+use Rattle.avr_tool.specs.Unlocked.{reopened, reopened_last, open_after, record_shown, uses_shown, with_written, UnlockedState, unlocked}
 
-pub last_of : (uses : List FileUse) (used : FileUse) → last_open (uses ++ used ∷ []) ≡ open_by used
-last_of [] used = refl
-last_of (first ∷ []) used = refl
-last_of (first ∷ next ∷ uses) used = last_of (next ∷ uses) used
-
-pub before_last : (uses : List FileUse) (used : FileUse) → all_but_open (uses ++ used ∷ []) ≡ uses ++ finished_by used
-before_last [] used = refl
-before_last (first ∷ []) used = refl
-before_last (first ∷ next ∷ uses) used = ap (λ x. first ∷ x) (before_last (next ∷ uses) used)
+reopened_append : (uses : List FileUse) (used : FileUse)
+    → reopened (uses ++ used ∷ []) ≡ (uses ++ (reopened_last used).0, (reopened_last used).1)
+reopened_append [] used = refl
+reopened_append (first ∷ []) used = refl
+reopened_append (first ∷ next ∷ uses) used = ap (λ x. (first ∷ x.0, x.1)) (reopened_append (next ∷ uses) used)
 
 -- nothing is lost
-pub rejoined : (uses : List FileUse) → all_but_open uses ++ use_of (last_open uses) ≡ uses
+rejoined : (uses : List FileUse) → (reopened uses).0 ++ use_of (reopened uses).1 ≡ uses
 rejoined [] = refl
 rejoined (Opened (Absent name) ∷ []) = refl
 rejoined (Opened (Found reading) ∷ []) = refl
@@ -44,8 +40,7 @@ pub opened_shown : (name : Bytes) (opened : Result ⊤ DeskFault) (is_open : Boo
     ≡ after_open name opened (record_shown is_open (all_uses old) n old)
 opened_shown name (Ok done) is_open n old new is = rw (
   is,
-  before_last (all_uses old) _,
-  last_of (all_uses old) _,
+  reopened_append (all_uses old) _,
   append-nil (all_uses old),
   all_shown is_open n (all_uses old) old,
 ) refl
@@ -61,8 +56,7 @@ pub created_shown : (name : Bytes) (is_open : Bool) (n : Noted) (old new : Recor
     ≡ after_create name (Ok tt) (record_shown is_open (all_uses old) n old)
 created_shown name is_open n old new is = rw (
   is,
-  before_last (all_uses old) _,
-  last_of (all_uses old) _,
+  reopened_append (all_uses old) _,
   append-nil (all_uses old),
   all_shown is_open n (all_uses old) old,
 ) refl
@@ -70,54 +64,35 @@ created_shown name is_open n old new is = rw (
 -- ---- reading
 
 noted_last : (uses : List FileUse) (o : Open) (bytes : Bytes) (ended : Bool) → is_to_read o ≡ true
-    → (all_but_open (uses ++ use_of (noted bytes ended o)) ≡ all_but_open (uses ++ use_of o))
-    × (last_open (uses ++ use_of (noted bytes ended o)) ≡ noted bytes ended (last_open (uses ++ use_of o)))
-noted_last uses o bytes ended reads = grind (arith, before_last, last_of)
-
-pub read_shown : (buf : Bytes) (done : Result ℕ DeskFault) (n : Noted) (old new : Record)
-    → new ≡ after_read buf done old → OnOk done (is_to_read old.current ≡ true)
-    → record_shown true (all_uses new) n new ≡ after_read buf done (record_shown true (all_uses old) n old)
-read_shown buf done n old new is reads = grind (arith, noted_last)
-
-pub to_read_shown : (uses : List FileUse) (o : Open) → is_to_read o ≡ true
-    → is_to_read (last_open (uses ++ use_of o)) ≡ true
-to_read_shown uses o reads = grind (arith, last_of)
+    → reopened (uses ++ use_of (noted bytes ended o))
+    ≡ ((reopened (uses ++ use_of o)).0, noted bytes ended (reopened (uses ++ use_of o)).1)
+noted_last uses o bytes ended reads = grind (arith, reopened_append)
 
 -- ---- writing
 
 written_last : (uses : List FileUse) (o : Open) (bytes : Bytes) → is_to_write o ≡ true
-    → (all_but_open (uses ++ use_of (written_on bytes o)) ≡ all_but_open (uses ++ use_of o))
-    × (last_open (uses ++ use_of (written_on bytes o)) ≡ written_on bytes (last_open (uses ++ use_of o)))
-written_last uses o bytes writes = grind (arith, before_last, last_of)
+    → reopened (uses ++ use_of (written_on bytes o))
+    ≡ ((reopened (uses ++ use_of o)).0, written_on bytes (reopened (uses ++ use_of o)).1)
+written_last uses o bytes writes = grind (arith, reopened_append)
 
 pub written_shown : (bytes : Bytes) (n : Noted) (old new : Record) → new ≡ after_write bytes old
     → is_to_write old.current ≡ true
     → record_shown true (all_uses new) n new ≡ after_write bytes (record_shown true (all_uses old) n old)
 written_shown bytes n old new is writes = grind (arith, written_last)
 
-written_none : (o : Open) → written_on [] o ≡ o
-written_none o = grind (arith, append-nil)
-
 -- a failed write may have written a prefix, or no byte if no file is open to write
 part_last : (uses : List FileUse) (o : Open) (bytes : Bytes) (k : ℕ) → k ≤ length bytes → (m : ℕ) × (m ≤ length bytes)
-    × (all_but_open (uses ++ use_of (written_on (take k bytes) o)) ≡ all_but_open (uses ++ use_of o))
-    × (last_open (uses ++ use_of (written_on (take k bytes) o))
-    ≡ written_on (take m bytes) (last_open (uses ++ use_of o)))
-part_last uses Closed bytes k within = (0, omega arith, refl, sym (written_none _))
-part_last uses (ToRead x) bytes k within = (0, omega arith, refl, sym (written_none _))
-part_last uses (ToWrite x) bytes k within =
-    let last = written_last uses (ToWrite x) (take k bytes) refl in (k, within, last.0, last.1)
+    × (reopened (uses ++ use_of (written_on (take k bytes) o))
+    ≡ ((reopened (uses ++ use_of o)).0, written_on (take m bytes) (reopened (uses ++ use_of o)).1))
+part_last uses (ToWrite x) bytes k within = (k, within, written_last uses (ToWrite x) (take k bytes) refl)
+part_last uses o bytes k within = (0, omega arith, search (rules, append-nil))
 
 pub part_shown : (bytes : Bytes) (n : Noted) (k : ℕ) (old new : Record) → k ≤ length bytes
     → new ≡ after_write (take k bytes) old → (m : ℕ) × (m ≤ length bytes) × (record_shown true (all_uses new) n new
     ≡ after_write (take m bytes) (record_shown true (all_uses old) n old))
 part_shown bytes n k old new within is =
     let last = part_last old.uses old.current bytes k within in
-    (last.0, last.1, rw (is, last.2, last.3) refl)
-
-pub to_write_shown : (uses : List FileUse) (o : Open) → is_to_write o ≡ true
-    → is_to_write (last_open (uses ++ use_of o)) ≡ true
-to_write_shown uses o writes = grind (arith, last_of)
+    (last.0, last.1, rw (is, last.2) refl)
 
 -- ---- replacing a file
 
@@ -127,11 +102,6 @@ pub replaced_shown : (name bytes : Bytes) (is_open : Bool) (n m : Noted) (old ne
     → record_shown false (all_uses new) m new ≡ with_replaced name bytes (record_shown is_open (all_uses old) n old)
 replaced_shown name bytes is_open n m old new is notes =
     rw (is, notes, all_shown is_open n (all_uses old) old) refl
-
-pub tried_shown : (name bytes part : Bytes) (is_open : Bool) (n m : Noted) (old new : Record)
-    → new ≡ with_written name part old → m ≡ record n { tried = n.tried ++ record { name = name; bytes = bytes } ∷ [] }
-    → record_shown is_open new.uses m new ≡ with_tried name bytes (record_shown is_open (all_uses old) n old)
-tried_shown name bytes part is_open n m old new is notes = rw (is, notes) refl
 
 -- ---- the same for a desk that isn't broken, and has an open file where the call needs one
 
@@ -151,17 +121,17 @@ pub read_kept : (buf : Bytes) (done : Result ℕ DeskFault) (is_open is_broken :
     → (is_open && not is_broken) ≡ true → new ≡ after_read buf done old → OnOk done (is_to_read old.current ≡ true)
     → record_shown is_open (uses_shown is_broken new) n new
     ≡ after_read buf done (record_shown is_open (uses_shown is_broken old) n old)
-read_kept buf done is_open is_broken n old new has is reads = grind (arith, read_shown)
+read_kept buf done is_open is_broken n old new has is reads = grind (arith, noted_last)
 
 pub reads_kept : (done : Result ℕ DeskFault) (is_open is_broken : Bool) (n : Noted) (old : Record)
     → (is_open && not is_broken) ≡ true → OnOk done (is_to_read old.current ≡ true)
     → OnOk done (is_to_read (record_shown is_open (uses_shown is_broken old) n old).current ≡ true)
-reads_kept done is_open is_broken n old has reads = grind (arith, to_read_shown)
+reads_kept done is_open is_broken n old has reads = grind (arith, reopened_append)
 
 pub writes_kept : (done : Result ℕ DeskFault) (is_open is_broken : Bool) (n : Noted) (old : Record)
     → (is_open && not is_broken) ≡ true → OnOk done (is_to_write old.current ≡ true)
     → OnOk done (is_to_write (record_shown is_open (uses_shown is_broken old) n old).current ≡ true)
-writes_kept done is_open is_broken n old has writes = grind (arith, to_write_shown)
+writes_kept done is_open is_broken n old has writes = grind (arith, reopened_append)
 
 sends_shown : (bytes : Bytes) (done : Result ℕ DeskFault) (n : Noted) (old new a b : DeskState)
     → SendsTaken File bytes old new done → OnOk done (is_to_write old.kept.current ≡ true)
@@ -177,8 +147,7 @@ sends_at : (bytes : Bytes) (done : Result ℕ DeskFault) (is_open is_broken : Bo
     → OnOk done (is_to_write old.kept.current ≡ true)
     → a.kept ≡ record_shown is_open (uses_shown is_broken old.kept) n old.kept
     → b.kept ≡ record_shown is_open (uses_shown is_broken new.kept) n new.kept → SendsTaken File bytes a b done
-sends_at bytes done true false n old new a b has sends writes at_a at_b =
-    sends_shown bytes done n old new a b sends writes at_a at_b
+sends_at bytes done true false n old new a b has sends writes at_a at_b = search (rules, sends_shown)
 sends_at bytes done is_open is_broken n old new a b has sends writes at_a at_b = absurd (cc)
 
 pub sends_kept : {D : Type 0} (view : D → DeskState) (bytes : Bytes) (done : Result ℕ DeskFault) (u : UnlockedState D)
@@ -202,7 +171,7 @@ pub tried_kept : (name key bytes : Bytes) (is_open is_broken : Bool) (n : Noted)
     → record_shown is_open (uses_shown true new.kept)
     (record n { tried = n.tried ++ record { name = key; bytes = bytes } ∷ [] }) new.kept
     ≡ with_tried name bytes (record_shown is_open (uses_shown is_broken old.kept) n old.kept)
-tried_kept name key bytes is_open is_broken n old mid new same sound created part = grind (arith, tried_shown)
+tried_kept name key bytes is_open is_broken n old mid new same sound created part = grind (arith, rules)
 
 pub writes_whole : (name bytes : Bytes) (old mid new : DeskState) → ChangesRecord (after_create name (Ok tt)) old mid
     → ChangesRecord (after_write bytes) mid new → ChangesRecord (with_written name bytes) old new

@@ -11,7 +11,7 @@ use Rattle.avr_desk.proofs.Stages.Files.{never_allocates}
 use Rattle.avr_desk.proofs.Stages.Played.{runs_then}
 use Rattle.stk_emu.specs.Programmer.{fresh_programmer}
 use Rattle.stk_emu.specs.Emulator.{EmulatorState}
-use Rattle.avr_tool.specs.ServedRun.{settings_part, fresh_machine}
+use Rattle.avr_tool.specs.ServedRun.{settings_part}
 
 pub goes_with_parts : (s : Settings) (id : Bytes) (old mid new : DeskState) (parts : List Part) (result : Result Part ℕ)
     → id ≡ s.part → StageCompleted (parts_stage s.parts) old mid (Produced parts)
@@ -22,5 +22,5 @@ goes_with_parts s id old mid new parts result same went goes =
     (λ passed emitted never. absurd (never_allocates passed emitted never)) (rw same at goes)
 
 pub is_fresh : (chip : chips.ChipState) (machine : EmulatorState) → machine.held ≡ []
-    → machine.programmer ≡ fresh_programmer chip → machine ≡ fresh_machine chip
+    → machine.programmer ≡ fresh_programmer chip → machine ≡ record { held = []; programmer = fresh_programmer chip }
 is_fresh chip machine held programmer = ap₂ (λ h p. record { held = h; programmer = p }) held programmer

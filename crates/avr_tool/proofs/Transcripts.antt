@@ -1,7 +1,6 @@
 -- Laws of what is received, and of transcripts in turn.
 use Rattle.std.proofs.Common.{◌≡◌, ℕ, ◌+◌, List, [], ◌∷◌, ◌++◌, refl, sym, subst, append_assoc, arith, rules}
 use Rattle.std.proofs.lemmas.List.{append-nil}
-use Rattle.stk_host.specs.declared.link.Item.TheVariants.{Byte, Silence, End}
 use Rattle.stk_host.specs.Tape.{Tape, on_tape, bytes_on_tape}
 use Rattle.stk_host.specs.Transcript.{Transcript, Sent, Taken, Got, NoneTaken, sent, heard}
 use Rattle.stk_host.specs.Reach.{NothingReceived}
@@ -11,13 +10,11 @@ use Rattle.avr_tool.specs.Serving.{HasNoEnd, reads, RepliesInTurn}
 
 pub no_end_append : (x y : Tape) → HasNoEnd x → HasNoEnd y → HasNoEnd (x ++ y)
 no_end_append [] y f g = g
-no_end_append (Byte b ∷ x) y f g = no_end_append x y f g
-no_end_append (Silence ∷ x) y f g = no_end_append x y f g
-no_end_append (End ∷ x) y f g = absurd f
+no_end_append (item ∷ x) y f g = (f.0, no_end_append x y f.1 g)
 
 pub no_end_on_tape : (bytes : List ℕ) → HasNoEnd (on_tape bytes)
 no_end_on_tape [] = tt
-no_end_on_tape (b ∷ bytes) = no_end_on_tape bytes
+no_end_on_tape (b ∷ bytes) = ((λ e. cc), no_end_on_tape bytes)
 
 pub reads_append : (x y : Transcript) → reads (x ++ y) ≡ reads x + reads y
 reads_append [] y = omega arith
@@ -40,10 +37,7 @@ pub in_turn_append : (p : Programmer) (text out : List ℕ) (x y : Transcript) �
     → RepliesInTurn p (text ++ bytes_on_tape (heard x)) (out ++ sent x) y → RepliesInTurn p text out (x ++ y)
 in_turn_append p text out [] y none f g = search (rules, append-nil)
 in_turn_append p text out (Sent bytes ∷ x) y none f g =
-    in_turn_append p text (out ++ bytes) x y none f
-    (subst (λ o. RepliesInTurn p (text ++ bytes_on_tape (heard x)) o y) (sym (append_assoc out bytes (sent x))) g)
+    search (rules, append_assoc, in_turn_append p text (out ++ bytes) x y none f)
 in_turn_append p text out (Taken bytes ∷ x) y none f g = absurd none
-in_turn_append p text out (Got tape ∷ x) y none f g = (
-  f.0,
-  in_turn_append p (text ++ bytes_on_tape tape) out x y none f.1 (search (rules, bytes_of_append, append_assoc)),
-)
+in_turn_append p text out (Got tape ∷ x) y none f g =
+    search (rules, bytes_of_append, append_assoc, in_turn_append p (text ++ bytes_on_tape tape) out x y none f.1)

@@ -14,6 +14,13 @@ use Rattle.avr_session.specs.Refusal.{refusal_line}
 use Rattle.avr_tool.specs.declared.command_line.NotAsked.{NotAsked}
 use Rattle.avr_tool.specs.declared.command_line.NotAsked.TheVariants.{Words, Refused}
 
+-- The command takes the command line, which asks for these settings, and then this holds.
+pub record WithSettings (words : List Bytes) (Then : Settings → Type 0) : Type 0 where
+  pub settings : Settings
+  pub asked : Ok settings ≡ settings_from_arguments words
+  pub taken : fault_of avrstk words ≡ []
+  pub then_is : Then settings
+
 -- A fault of the settings, or a failed allocation, was reported, and the status is 1.
 pub record IsRefused (words : List Bytes) (old new : DeskState) (status : ℕ) : Type 0 where
   pub fault : SettingsFault

@@ -2,7 +2,7 @@
 use Rattle.std.specs.Prelude.{◌≡◌, ◌⊎◌, ℕ, Bool, true, false, List, [], ◌∷◌, All, Result, Ok, Err, ⊤}
 use Rattle.std.specs.List.{list_any}
 use Rattle.std.specs.Str.{bytes_eq}
-use Rattle.avr_tool.specs.Holding.{LocksAndLoads, LockedAndLoaded}
+use Rattle.avr_tool.specs.Holding.{FailsWith, LoadsLocked, LocksAndLoads, WithChip}
 use Rattle.avr_tool.specs.Saving.{SavesAfterRun}
 use Rattle.avr_plan.specs.declared.settings.Settings.{Settings}
 use Rattle.avr_plan.specs.declared.planned.Task.{Task}
@@ -10,7 +10,7 @@ use Rattle.avr_plan.specs.declared.planned.Task.TheVariants.{Read}
 use Rattle.avr_desk.specs.Fault.{CountsNeverFall}
 use Rattle.avr_desk.specs.Lines.{error, not_created_pieces}
 use Rattle.avr_desk.specs.OutputEvents.{ReportsFailureAs, ReportsLine}
-use Rattle.avr_desk.specs.Record.{DeskState, Bytes, ChangesRecord, after_err, released}
+use Rattle.avr_desk.specs.Record.{DeskState, Bytes, released, with_none_held}
 use Rattle.avr_part.specs.ChipFile.{chip_file}
 use Rattle.avr_part.specs.Sound.{IsSoundChip}
 use Rattle.avr_part.specs.State.{ChipState as Chip}
@@ -35,39 +35,29 @@ reads_into file task = false
 abbrev pub any_reads_into : Bytes → List Task → Bool
 any_reads_into file = list_any (reads_into file)
 
--- The desk failed at the name of a file to read into. The held file was unlocked, and this was reported.
-pub record RefusesRead (into : Bytes) (old new : DeskState) : Type 0 where
-  pub notice : Bytes
-  pub is_reported : ReportsFailureAs (error (not_created_pieces into)) notice old new
-  pub kept : ChangesRecord (after_err notice) (released old) new
-
--- A name was checked, and nothing was done; or it was refused.
+-- The name of a file to read into was checked, and nothing was done. Or the desk failed at the name: the held file was
+-- unlocked, this was reported, and the status is 1.
 abbrev pub ChecksRead : Bytes → DeskState → DeskState → Result ⊤ ℕ → Type 0
 ChecksRead into old new (Ok done) = new ≡ old
-ChecksRead into old new (Err status) = (status ≡ 1) × RefusesRead into old new
+ChecksRead into old new (Err status) =
+    (status ≡ 1) × FailsWith with_none_held (ReportsFailureAs (error (not_created_pieces into))) old new
 
 -- The same for all tasks that read a memory: the refused name is one of theirs.
 abbrev pub ChecksReads : List Task → DeskState → DeskState → Result ⊤ ℕ → Type 0
 ChecksReads tasks old new (Ok done) = new ≡ old
 ChecksReads tasks old new (Err status) =
-    (status ≡ 1) × (into : Bytes) × (any_reads_into into tasks ≡ true) × RefusesRead into old new
-
--- The chip's file was locked and the chip was loaded, and then the desk failed at the name of a read.
-pub record LoadedThenRefused (plan : Plan) (file : Bytes) (old new : DeskState) (status : ℕ) : Type 0 where
-  pub chip : Chip
-  pub loaded_desk : DeskState
-  pub loaded : LockedAndLoaded plan.part file old loaded_desk chip
-  pub refused : ChecksReads plan.tasks loaded_desk new (Err status)
+    (into : Bytes) × (any_reads_into into tasks ≡ true) × ChecksRead into old new (Err status)
 
 -- No task reads a memory into the chip's file, which was locked, and the chip was loaded. Or a task does, and this was
 -- reported. Or the file could not be locked, or its chip or a read was refused.
 abbrev pub TakesChip : Plan → Bytes → DeskState → DeskState → Result Chip ℕ → Type 0
 TakesChip plan file old new (Ok chip) =
-    (any_reads_into file plan.tasks ≡ false) × LockedAndLoaded plan.part file old new chip
+    (any_reads_into file plan.tasks ≡ false) × LoadsLocked plan.part file old new (Ok chip)
 TakesChip plan file old new (Err status) =
     ((any_reads_into file plan.tasks ≡ true) × (status ≡ 1) × ReportsLine old new (error (not_created_pieces file)))
     ⊎ ((any_reads_into file plan.tasks ≡ false)
-    × (LocksAndLoads plan.part file old new (Err status) ⊎ LoadedThenRefused plan file old new status))
+    × (LocksAndLoads plan.part file old new (Err status)
+    ⊎ WithChip plan.part file old (λ chip desk. ChecksReads plan.tasks desk new (Err status))))
 
 -- The chip's file is replaced if anything was sent, otherwise only unlocked. If it can't be replaced, the status is 1.
 abbrev pub IsSavedIfSent : List ℕ → DeskState → DeskState → Bytes → Bytes → ℕ → ℕ → Type 0
@@ -96,7 +86,7 @@ pub record RunsOverEmulator (settings : Settings) (file : Bytes) (old now : Desk
   pub made : StageCompleted (planned settings) old planned_desk (Produced plan)
   pub fitted : All (IsFitted plan.part) plan.tasks
   pub apart : any_reads_into file plan.tasks ≡ false
-  pub loaded : LockedAndLoaded plan.part file planned_desk loaded_desk chip
+  pub loaded : LoadsLocked plan.part file planned_desk loaded_desk (Ok chip)
   pub part : chip.part ≡ plan.part
   pub sound : IsSoundChip chip
   pub runs : RunsSession plan (wire_and_desk (new_wire chip []) loaded_desk)

@@ -1,5 +1,5 @@
 -- The expected run: what a run over a perfect link outputs, returns and leaves in the memories.
-use Rattle.std.specs.Prelude.{ℕ, List, [], ◌∷◌, ◌++◌, Result, Ok}
+use Rattle.std.specs.Prelude.{ℕ, List, [], ◌∷◌, ◌++◌, Result, Ok, ⊤}
 use Rattle.avr_plan.specs.declared.settings.Switches.{Switches}
 use Rattle.avr_desk.specs.OutputEvents.{OutputEvent}
 use Rattle.avr_part.specs.Part.{Part}
@@ -16,10 +16,6 @@ pub record Expected : Type 0 where
   pub output_events : List OutputEvent
   pub standing : Standing
   pub memories : Memories
-
--- This output and these memories, without a fault.
-abbrev pub fine : List OutputEvent → Memories → Expected
-fine output_events m = record { output_events = output_events; standing = NoFault; memories = m }
 
 -- An operation with this outcome, which leaves these memories.
 abbrev pub reported_expected : {A : Type 0} → (Result A HostFault → List OutputEvent) → Result A HostFault → Memories
@@ -48,11 +44,11 @@ action_expected part s (CompareImage mem image) m =
     reported_expected (verified_output s.quiet part mem image) (comparison mem image (memory_in part mem m)) m
 action_expected part s (SaveMemory mem format file) m =
     reported_expected (fault_line_or part (read_output s mem format file)) (Ok (memory_in part mem m)) m
-action_expected part s (SkipAction what) m = fine (skipped_output s.quiet what) m
+action_expected part s (SkipAction what) m = reported_expected {A = ⊤} (λ _. skipped_output s.quiet what) (Ok tt) m
 
 -- What actions lead to, in order; below, those of a plan.
 abbrev pub actions_expected : Part → Switches → List Action → Memories → Expected
-actions_expected part s [] m = fine [] m
+actions_expected part s [] m = reported_expected {A = ⊤} (λ _. []) (Ok tt) m
 actions_expected part s (action ∷ actions) m = action_expected part s action m then actions_expected part s actions
 
 abbrev pub working_expected : Plan → Memories → Expected

@@ -27,11 +27,10 @@ has_erase [] = false
 has_erase (Erase ∷ more) = true
 has_erase (Write mem image ∷ more) = has_erase more
 
--- A task that writes changes a memory. Other tasks don't.
+-- A task that writes changes a memory. Others don't.
 abbrev pub task_item : Task → Option Item
 task_item (task.Write mem image) = Some (Write mem image)
-task_item (task.Verify mem image) = None
-task_item (task.Read mem format file) = None
+task_item other = None
 
 -- The items of a plan by its switches and tasks alone. A dry run has none; any other run erases if an erase is due, and
 -- writes the image of each write in order. Law `a_plan_writes_what_its_tasks_write` states that `items` is equal.

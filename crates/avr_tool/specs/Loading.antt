@@ -3,7 +3,7 @@ use Rattle.std.specs.Prelude.{◌≡◌, ◌==◌, nat_le, [], ◌∷◌, length
 use Rattle.avr_desk.specs.Record.{Bytes}
 use Rattle.avr_desk.specs.declared.record.Opening.{Opening}
 use Rattle.avr_desk.specs.declared.record.Opening.TheVariants.{Absent, Found}
-use Rattle.avr_desk.specs.Lines.{too_long_line}
+use Rattle.avr_desk.specs.Lines.{error, too_long_line}
 use Rattle.avr_part.specs.ChipFile.{chip_file_size, state_from_file}
 use Rattle.avr_part.specs.Part.{Part}
 use Rattle.avr_part.specs.State.{ChipState, fresh_state}
@@ -11,12 +11,12 @@ use Rattle.avr_desk.specs.StageRuns.{AllocationPoints}
 use Rattle.avr_desk.specs.OutputEvents.{Opens}
 use Rattle.avr_desk.specs.Stage.{Stage, ◌>>=◌, result_stage, open_stage, content_stage}
 use Rattle.avr_tool.specs.declared.chip_files.TheConstants.{LARGEST_CHIP_FILE}
-use Rattle.avr_tool.specs.Lines.{length_line}
+use Rattle.avr_tool.specs.Lines.{length_pieces}
 
 -- The chip with these bytes; any length but the part's is refused.
 abbrev pub chip_or_line : Part → Bytes → Bytes → Result ChipState Bytes
 chip_or_line part file bytes = if length bytes == chip_file_size part then Ok (state_from_file part bytes)
-    else Err (length_line file (length bytes) (chip_file_size part))
+    else Err (error (length_pieces file (length bytes) (chip_file_size part)))
 
 -- A file past the limit is refused, whatever the part.
 abbrev pub checked_chip : Part → Bytes → Bytes → Result ChipState Bytes

@@ -1,5 +1,6 @@
 -- What the session of a plan did over a link, whatever the link loses, delays and corrupts. It is stated first by the
 -- exchanges of its frames, then over a wire to the emulated programmer, by their fates.
+use Rattle.std.specs.List.{AllByRecursion}
 use Rattle.std.specs.Prelude.{ℕ, ◌+◌, ◌*◌, ◌≡◌, ◌≤◌, ◌⊎◌, false, List, [], ◌∷◌, ◌++◌, map, length}
 use Rattle.avr_plan.specs.declared.settings.Switches.{Switches}
 use Rattle.avr_desk.specs.Record.{DeskState, ChangesRecord}
@@ -41,8 +42,7 @@ bodies_in (commands ∷ steps) = map body commands ++ bodies_in steps
 
 -- No frame goes wrong.
 abbrev pub AllArriveRight : List Exchange → Type 0
-AllArriveRight [] = Unit {0}
-AllArriveRight (one_exchange ∷ exchanges) = (one_exchange ≡ AsIntended) × AllArriveRight exchanges
+AllArriveRight exchanges = AllByRecursion (λ one_exchange. one_exchange ≡ AsIntended) exchanges
 
 -- A session of this plan, however it ends, also if it breaks off or waits forever. Its frames had these exchanges and
 -- led the programmer from `p` to `q`, and these bytes were sent.
@@ -83,10 +83,6 @@ events_over plan w = (played (session plan) 1 (heard w.transcript)).events
 abbrev pub wire_and_desk : WiredState → DeskState → Devices
 wire_and_desk w desk = devices (wired_link w) desk
 
--- The session stopped: a device failed, before any other failed, or allocation failed at an action that allocates.
-abbrev pub SessionStopped : Plan → WiredState → WiredState → DeskState → DeskState → Type 0
-SessionStopped plan before after old now = StopsSession plan (wire_and_desk before old) (wire_and_desk after now)
-
 -- What a session of this plan did between these states of a wire, whatever the fates of its frames. It ran to its
 -- status, and all its output was done at the desk; or it stopped with status 1.
 pub record SessionOverWire (plan : Plan) (before after : WiredState) (old now : DeskState) (status : ℕ) : Type 0 where
@@ -94,4 +90,4 @@ pub record SessionOverWire (plan : Plan) (before after : WiredState) (old now : 
       (exchanges_of_fates before.wire.fates) (sent after.transcript)
   pub end : (EndsOverExchanges plan (memories before) (memories after) (exchanges_of_fates before.wire.fates)
       (outputs (events_over plan after)) status × ChangesRecord (after_events (outputs (events_over plan after))) old
-      now) ⊎ (SessionStopped plan before after old now × (status ≡ 1))
+      now) ⊎ (StopsSession plan (wire_and_desk before old) (wire_and_desk after now) × (status ≡ 1))

@@ -6,7 +6,8 @@ use Rattle.avr_desk.specs.OutputEvents.{ReportsLine}
 use Rattle.avr_session.specs.Run.{LacksPlan, RunsSession, WithPlan}
 use Rattle.avr_session.specs.Runs.{devices}
 use Rattle.stk_host.specs.Transcript.{LinkState}
-use Rattle.avr_tool.specs.Lines.{unopened_line}
+use Rattle.avr_desk.specs.Lines.{error}
+use Rattle.avr_tool.specs.Lines.{unopened_pieces}
 
 -- The state of a link over which nothing has passed.
 abbrev pub new_link : LinkState
@@ -19,6 +20,6 @@ abbrev pub RunsOverNet : Type 0 → (Option LinkState → Type 0) → Settings �
 RunsOverNet unused over settings address old new status =
     ((link : LinkState) × over (Some link) × WithPlan settings old (λ plan desk.
     RunsSession plan (devices new_link desk) (devices link new) status))
-    ⊎ ((over None × WithPlan settings old (λ plan desk. ReportsLine desk new (unopened_line (codes "net:") address))
-    × (status ≡ 1))
+    ⊎ ((over None × WithPlan settings old (λ plan desk.
+    ReportsLine desk new (error (unopened_pieces (codes "net:") address))) × (status ≡ 1))
     ⊎ (LacksPlan settings old new status × unused))

@@ -1,20 +1,7 @@
--- The kinds of ports that settings have, and what each names.
+-- What each port of settings names.
 use Rattle.std.specs.Prelude.{ℕ, List, []}
 use Rattle.avr_plan.specs.declared.settings.Port.{Port}
 use Rattle.avr_plan.specs.declared.settings.Port.TheVariants.{Emulated, Network, Served}
-
--- The port is the emulator; below, a connection and a service.
-abbrev pub IsEmulated : Port → Type 0
-IsEmulated (Emulated file) = Unit {0}
-IsEmulated port = ⊥
-
-abbrev pub IsNetwork : Port → Type 0
-IsNetwork (Network address) = Unit {0}
-IsNetwork port = ⊥
-
-abbrev pub IsServed : Port → Type 0
-IsServed (Served port chip) = Unit {0}
-IsServed port = ⊥
 
 -- The port has a chip file.
 abbrev pub HasChip : Port → Type 0

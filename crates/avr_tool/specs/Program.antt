@@ -4,7 +4,7 @@ use Rattle.clap.specs.Words.{fault_of, kind_of, takes, HasKind}
 use Rattle.clap.specs.declared.error.Error.{Error}
 use Rattle.clap.specs.declared.error.kind.ErrorKind.{ErrorKind}
 use Rattle.clap.specs.declared.error.kind.ErrorKind.TheVariants.{OutOfMemory, DisplayHelp, DisplayVersion}
-use Rattle.avr_plan.specs.Command.{avrstk, settings_from_arguments}
+use Rattle.avr_plan.specs.Command.{avrstk}
 use Rattle.avr_plan.specs.Port.{port_number}
 use Rattle.avr_plan.specs.declared.settings.Port.{Port}
 use Rattle.avr_plan.specs.declared.settings.Port.TheVariants.{Stdio, Emulated, Network, Served}
@@ -18,7 +18,7 @@ use Rattle.avr_session.specs.Runs.{Devices}
 use Rattle.avr_desk.specs.declared.desk.DeskFault.{DeskFault}
 use Rattle.avr_desk.specs.declared.stream.Stream.{Stream}
 use Rattle.avr_desk.specs.declared.stream.Stream.TheVariants.{Output, Messages}
-use Rattle.avr_tool.specs.Asked.{IsRefused}
+use Rattle.avr_tool.specs.Asked.{IsRefused, WithSettings}
 use Rattle.avr_tool.specs.declared.command_line.CommandLine.{Ghosts as CommandLine}
 use Rattle.avr_tool.specs.Headline.{IsRun, IsStopped}
 use Rattle.avr_tool.specs.OverNet.{RunsOverNet}
@@ -41,13 +41,6 @@ ActsAtPort peers (Served port chip) settings old new status =
     ServesNet peers.unused (peers.at_port (port_number port)) settings port chip old.desk new.desk status
     × (new.link ≡ old.link)
 
--- The command takes the command line, which asks for these settings, and they were run.
-pub record RunsCommandLine (peers : Peers) (words : List Bytes) (old new : Devices) (status : ℕ) : Type 0 where
-  pub settings : Settings
-  pub asked : Ok settings ≡ settings_from_arguments words
-  pub taken : fault_of avrstk words ≡ []
-  pub runs : ActsAtPort peers settings.port settings old new status
-
 -- The settings have a fault, or allocation failed. This was reported, and nothing else was done.
 pub record RefusesCommandLine (peers : Peers) (words : List Bytes) (old new : Devices) (status : ℕ) : Type 0 where
   pub why : IsRefused words old.desk new.desk status ⊎ ReportsLine old.desk new.desk (refusal_line Memory)
@@ -61,10 +54,11 @@ pub record ReturnsClapError (words : List Bytes) (error : Error) : Type 0 where
   pub not_memory : kind_of error ≢ OutOfMemory
   pub not_taken : takes avrstk words ≢ true
 
--- An error is left to be printed, and nothing was done.
+-- The settings of the command line were run, or it is refused. An error is left to be printed, and nothing was done.
 abbrev pub ActsOnCommandLine : Peers → List Bytes → Devices → Devices → Result ℕ Error → Type 0
 ActsOnCommandLine peers words old new (Ok status) =
-    RunsCommandLine peers words old new status ⊎ RefusesCommandLine peers words old new status
+    WithSettings words (λ settings. ActsAtPort peers settings.port settings old new status)
+    ⊎ RefusesCommandLine peers words old new status
 ActsOnCommandLine peers words old new (Err error) =
     ReturnsClapError words error × (new.desk ≡ old.desk) × (new.link ≡ old.link) × peers.unused
 

@@ -4,9 +4,11 @@ use Rattle.avr_plan.specs.declared.settings.Settings.{Settings}
 use Rattle.avr_desk.specs.Record.{DeskState, Bytes}
 use Rattle.avr_desk.specs.OutputEvents.{ReportsLine}
 use Rattle.avr_tool.specs.ServedRun.{ChecksPart, ServesPart}
+use Rattle.avr_tool.specs.declared.served_run.TheConstants.{READS}
 use Rattle.avr_part.specs.Part.{Part}
 use Rattle.avr_session.specs.Runs.{devices}
-use Rattle.avr_tool.specs.Lines.{unopened_line}
+use Rattle.avr_desk.specs.Lines.{error}
+use Rattle.avr_tool.specs.Lines.{unopened_pieces}
 use Rattle.avr_tool.specs.OverNet.{new_link}
 use Rattle.stk_host.specs.Transcript.{LinkState}
 
@@ -15,8 +17,8 @@ use Rattle.stk_host.specs.Transcript.{LinkState}
 -- 1. `over` states what happened to the socket, as `IsOverClient` and `IsOverPort` do.
 abbrev pub ServesOn : (Option LinkState → Type 0) → Part → Bytes → Bytes → DeskState → DeskState → ℕ → Type 0
 ServesOn over part port file old new status = ((link : LinkState) × over (Some link)
-    × ServesPart part file 16777216 (devices new_link old) (devices link new) status)
-    ⊎ (over None × ReportsLine old new (unopened_line [] port) × (status ≡ 1))
+    × ServesPart part file READS (devices new_link old) (devices link new) status)
+    ⊎ (over None × ReportsLine old new (error (unopened_pieces [] port)) × (status ≡ 1))
 
 -- The contract of `serve_on` and `serve_net`. The part and the chip file of the settings were checked; then a client
 -- was served, or none could be accepted. Or the part or the chip file is refused, and the network was left unused.

@@ -1,6 +1,6 @@
 -- Serving an emulated programmer, from settings to status.
-use Rattle.std.specs.Prelude.{◌≡◌, ◌⊎◌, ℕ, false, List, [], ◌∷◌, Option, Some, None, Result, Ok, Err, codes}
-use Rattle.avr_tool.specs.Holding.{LocksAndLoads, LockedAndLoaded}
+use Rattle.std.specs.Prelude.{◌≡◌, ◌⊎◌, ℕ, false, List, [], ◌∷◌, Option, Some, None, is_some, MatchOption, Result, Ok, Err, codes, if◌then◌else◌}
+use Rattle.avr_tool.specs.Holding.{LocksAndLoads, WithChip}
 use Rattle.avr_tool.specs.Saving.{SavesAfterRun}
 use Rattle.avr_plan.specs.declared.settings.Settings.{Settings}
 use Rattle.avr_desk.specs.Fault.{CountsNeverFall}
@@ -25,13 +25,6 @@ use Rattle.avr_tool.specs.declared.serving_link.Served.TheVariants.{Ended, RecvF
 abbrev pub settings_part : Settings → Stage Part
 settings_part s = parts_stage s.parts >>= λ parts. part_stage s.part parts
 
--- The file was locked, a chip of this part was loaded from it, and it was unlocked.
-pub record CheckedChip (part : Part) (file : Bytes) (old new : DeskState) : Type 0 where
-  pub chip : chips.ChipState
-  pub loaded_desk : DeskState
-  pub loaded : LockedAndLoaded part file old loaded_desk chip
-  pub released_is : new ≡ released loaded_desk
-
 -- The part of the settings was found, and then this holds.
 pub record WithPart (settings : Settings) (old : DeskState) (Then : Part → DeskState → Type 0) : Type 0 where
   pub part : Part
@@ -44,17 +37,14 @@ pub record FindsNoPart (settings : Settings) (old new : DeskState) (status : ℕ
   pub refused : RunsStage (OnlyAtStart false) (settings_part settings) old new (Err status)
   pub bare : settings.parts ≡ None → LacksPart settings.part [] old new
 
--- The contract of `check_part`: the part of the settings was found and this file checked as a chip of it, or one of
--- these is refused.
+-- The contract of `check_part`: the part of the settings was found, a chip of it was loaded from this file, and the file
+-- was unlocked. Or one of these is refused.
 abbrev pub ChecksPart : Settings → Bytes → DeskState → DeskState → Result Part ℕ → Type 0
 ChecksPart settings file old new (Ok checked_part) =
-    WithPart settings old (λ part desk. (checked_part ≡ part) × CheckedChip part file desk new)
+    WithPart settings old (λ part desk. (checked_part ≡ part)
+    × WithChip part file desk (λ chip loaded_desk. new ≡ released loaded_desk))
 ChecksPart settings file old new (Err status) = FindsNoPart settings old new status
     ⊎ WithPart settings old (λ part desk. LocksAndLoads part file desk new (Err status))
-
--- An emulator with this chip that was fed nothing.
-abbrev pub fresh_machine : chips.ChipState → EmulatorState
-fresh_machine chip = record { held = []; programmer = fresh_programmer chip }
 
 -- The message for how serving ended; the end of the link has none.
 abbrev pub end_pieces : Served → Option (List Bytes)
@@ -63,44 +53,31 @@ end_pieces RecvFailed = Some unreceived_pieces
 end_pieces SendFailed = Some unsent_pieces
 end_pieces TooManyReads = Some (codes "too many reads" ∷ [])
 
--- If there is a message, its line was printed; or a write to the messages failed after a prefix of it.
-abbrev pub ReportsIfAny : Option (List Bytes) → DeskState → DeskState → Type 0
-ReportsIfAny None old new = new ≡ old
-ReportsIfAny (Some pieces) old new = ReportsLine old new (error pieces)
-
--- The status after serving ended like this.
-abbrev pub status_of_end : Served → ℕ
-status_of_end Ended = 0
-status_of_end served = 1
-
 -- A fresh emulator with this chip served a link in at most `most_reads` reads. It sent its replies to what was
 -- received, all of them before the next read, unless a send failed. How serving ended was reported. In each case the
--- chip was saved as the frames received have left it.
+-- chip was saved as the frames received have left it. The status is 0 if there was no message and the chip was saved.
 pub record ServesChip (chip : chips.ChipState) (file : Bytes) (most_reads : ℕ) (old new : Devices) (status : ℕ)
     : Type 0 where
   pub served : Served
   pub left : EmulatorState
   pub reported_desk : DeskState
-  pub serves : Serves (fresh_machine chip) most_reads served old.link new.link left
+  pub serves : Serves (record { held = []; programmer = fresh_programmer chip }) most_reads served old.link new.link
+      left
   pub in_turn : RepliesInTurn (fresh_programmer chip) [] [] serves.during
   pub leaves : ServingLeaves served (fresh_programmer chip) [] serves.during left
   pub fails : FailsBy served old.link new.link
-  pub notice : ReportsIfAny (end_pieces served) old.desk reported_desk
+  pub notice : MatchOption (end_pieces served) (reported_desk ≡ old.desk)
+      (λ pieces. ReportsLine old.desk reported_desk (error pieces))
   pub rises : CountsNeverFall old.desk reported_desk
-  pub saved : SavesAfterRun (status_of_end served) reported_desk new.desk file (chip_file left.programmer.chip) status
+  pub saved : SavesAfterRun (if is_some (end_pieces served) then 1 else 0) reported_desk new.desk file
+      (chip_file left.programmer.chip) status
   pub follows : CountsNeverFall reported_desk new.desk
-
--- The file was locked, the chip of this part was loaded from it, and it was served.
-pub record ServesLoaded (part : Part) (file : Bytes) (most_reads : ℕ) (old new : Devices) (status : ℕ) : Type 0 where
-  pub chip : chips.ChipState
-  pub loaded_desk : DeskState
-  pub loaded : LockedAndLoaded part file old.desk loaded_desk chip
-  pub serves : ServesChip chip file most_reads (devices old.link loaded_desk) new status
 
 -- The contract of `serve_part`: the chip was loaded and served. Or there is no chip: this was reported, and nothing was
 -- received or sent.
 abbrev pub ServesPart : Part → Bytes → ℕ → Devices → Devices → ℕ → Type 0
-ServesPart part file most_reads old new status = ServesLoaded part file most_reads old new status
+ServesPart part file most_reads old new status =
+    WithChip part file old.desk (λ chip desk. ServesChip chip file most_reads (devices old.link desk) new status)
     ⊎ (LocksAndLoads part file old.desk new.desk (Err status) × (new.link ≡ old.link))
 
 -- The part of the settings was served in at most `most_reads` reads. Or there is no part: this was reported, and
@@ -109,7 +86,3 @@ abbrev pub RunsServedFor : Settings → Bytes → ℕ → Devices → Devices �
 RunsServedFor settings file most_reads old new status =
     WithPart settings old.desk (λ part desk. ServesPart part file most_reads (devices old.link desk) new status)
     ⊎ (FindsNoPart settings old.desk new.desk status × (new.link ≡ old.link))
-
--- The same in at most 2 to the power 24 reads.
-abbrev pub RunsServed : Settings → Bytes → Devices → Devices → ℕ → Type 0
-RunsServed settings file = RunsServedFor settings file 16777216

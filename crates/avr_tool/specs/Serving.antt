@@ -1,5 +1,6 @@
 -- An emulated programmer that replies to what it receives on a link.
-use Rattle.std.specs.Prelude.{ℕ, List, [], ◌∷◌, ◌++◌, ◌+◌, ◌≡◌, ◌<◌, ◌≤◌, length}
+use Rattle.std.specs.Prelude.{ℕ, List, [], ◌∷◌, ◌++◌, ◌+◌, ◌≡◌, ◌≢◌, ◌<◌, ◌≤◌, length}
+use Rattle.std.specs.List.{AllByRecursion}
 use Rattle.stk_frame.specs.Cut.{frames}
 use Rattle.stk_host.specs.declared.link.Item.TheVariants.{End}
 use Rattle.stk_host.specs.Tape.{Tape, bytes_on_tape}
@@ -13,9 +14,7 @@ use Rattle.avr_tool.specs.declared.serving_link.Served.TheVariants.{Ended, RecvF
 
 -- The link's end is not on the tape.
 abbrev pub HasNoEnd : Tape → Type 0
-HasNoEnd [] = Unit {0}
-HasNoEnd (End ∷ tape) = ⊥
-HasNoEnd (item ∷ tape) = HasNoEnd tape
+HasNoEnd tape = AllByRecursion (λ item. item ≢ End) tape
 
 -- How many reads there were: of pieces, timeouts and ends.
 abbrev pub reads : Transcript → ℕ

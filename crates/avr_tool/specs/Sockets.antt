@@ -1,5 +1,5 @@
 -- Links over sockets: their other side, and what passed over them.
-use Rattle.std.specs.Prelude.{ℕ, ◌≡◌, ◌⊎◌, [], Option, Some, None}
+use Rattle.std.specs.Prelude.{ℕ, ◌≡◌, ◌⊎◌, [], Option, Some, None, MatchOption}
 use Rattle.std.specs.declared.io.Read.{Ghosts as Reads}
 use Rattle.std.specs.declared.io.Write.{Ghosts as Writes}
 use Rattle.avr_desk.specs.Record.{Bytes}
@@ -32,33 +32,23 @@ pub record IsOver {S : Type 0} (reads : Reads S) (has_timed_out : S → Type 0) 
 -- A connection to this address.
 abbrev pub IsOverAddress : {N S L : Type 0} → Networks N S L → Reads S → (S → Type 0) → Writes S → (S → Type 0)
     → Bytes → Option LinkState → Type 0
-IsOverAddress network reads has_timed_out writes closed address (Some now) =
-    IsOver reads has_timed_out writes closed (λ side. network.reaches side address) now
-IsOverAddress network reads has_timed_out writes closed address None = network.misses address
+IsOverAddress network reads has_timed_out writes closed address seen = MatchOption seen (network.misses address)
+    (IsOver reads has_timed_out writes closed (λ side. network.reaches side address))
 
 -- A connection accepted at this listener.
 abbrev pub IsOverClient : {L S : Type 0} → Called L S → Reads S → (S → Type 0) → Writes S → (S → Type 0) → L
     → Option LinkState → Type 0
-IsOverClient called reads has_timed_out writes closed listener (Some now) =
-    IsOver reads has_timed_out writes closed (called.calls listener) now
-IsOverClient called reads has_timed_out writes closed listener None = called.lacks listener
+IsOverClient called reads has_timed_out writes closed listener seen = MatchOption seen (called.lacks listener)
+    (IsOver reads has_timed_out writes closed (called.calls listener))
 
--- A connection accepted at a listener at this port.
-abbrev pub IsAtPort : {N S L : Type 0} → Networks N S L → Called L S → Reads S → (S → Type 0) → Writes S
-    → (S → Type 0) → ℕ → Option LinkState → Type 0
-IsAtPort {L = L} network called reads has_timed_out writes closed port seen =
-    (listener : L) × network.listens listener port × IsOverClient called reads has_timed_out writes closed listener seen
-
--- Without a link there was no listener, or no client could be accepted. Or the port's text is no number, and the
--- network was left unused.
+-- A connection accepted at a listener at this port. Without a link there was no listener, or no client could be
+-- accepted. Or the port's text is no number, and the network was left unused.
 abbrev pub IsOverPort : {N S L : Type 0} → Networks N S L → Called L S → Reads S → (S → Type 0) → Writes S
     → (S → Type 0) → Option ℕ → Option LinkState → Type 0
-IsOverPort network called reads has_timed_out writes closed (Some port) (Some now) =
-    IsAtPort network called reads has_timed_out writes closed port (Some now)
-IsOverPort network called reads has_timed_out writes closed (Some port) None =
-    network.is_shut port ⊎ IsAtPort network called reads has_timed_out writes closed port None
-IsOverPort network called reads has_timed_out writes closed None (Some now) = ⊥
-IsOverPort network called reads has_timed_out writes closed None None = network.unused
+IsOverPort {L = L} network called reads has_timed_out writes closed (Some port) seen = ((seen ≡ None)
+    × network.is_shut port) ⊎ ((listener : L) × network.listens listener port
+    × IsOverClient called reads has_timed_out writes closed listener seen)
+IsOverPort network called reads has_timed_out writes closed None seen = (seen ≡ None) × network.unused
 
 -- What is known of a run's network: on a connection to an address, on a client at a port, and that it was left unused.
 pub record Peers : Type 1 where

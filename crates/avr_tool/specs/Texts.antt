@@ -28,16 +28,11 @@ pub record IsText (has : Parts) (text : Bytes) : Type 0 where
   pub joined : text ≡ concat parts
   pub ends : length text < 2 ^ 54 → has (length text) []
 
--- These bytes are a prefix of the text.
-pub record IsTextFront (has : Parts) (front : Bytes) : Type 0 where
-  pub parts : List Bytes
-  pub are : HasParts has 0 parts
-  pub begins : IsBytePrefixOf front (concat parts)
-
 -- The text was printed whole, and has `count` bytes; or a write failed after a prefix of it.
 abbrev pub IsPrintedOrCut : Parts → Stream → Bytes → DeskState → DeskState → Result ℕ DeskFault → Type 0
 IsPrintedOrCut has stream text old new (Ok count) = IsText has text × (count ≡ length text) × HasSameCounts old new
-IsPrintedOrCut has stream text old new (Err fault) = IsTextFront has text × HasFailedAt stream old new
+IsPrintedOrCut has stream text old new (Err fault) = ((parts : List Bytes) × HasParts has 0 parts
+    × IsBytePrefixOf text (concat parts)) × HasFailedAt stream old new
 
 -- The text was printed, and nothing else happened.
 pub record PrintsText (has : Parts) (stream : Stream) (old new : DeskState)

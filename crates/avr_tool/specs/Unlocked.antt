@@ -20,26 +20,16 @@ pub record UnlockedState (D : Type 0) : Type 0 where
   pub noted : Noted
   pub refused : ℕ
 
--- the file that the last use left open; below, the finished uses
-abbrev pub open_by : FileUse → Open
-open_by (Opened (Absent name)) = Closed
-open_by (Opened (Found reading)) = ToRead reading
-open_by (Created writing) = ToWrite writing
+-- the finished uses and the open file, if the last use left its file open
+abbrev pub reopened_last : FileUse → List FileUse × Open
+reopened_last (Opened (Absent name)) = (Opened (Absent name) ∷ [], Closed)
+reopened_last (Opened (Found reading)) = ([], ToRead reading)
+reopened_last (Created writing) = ([], ToWrite writing)
 
-abbrev pub finished_by : FileUse → List FileUse
-finished_by (Opened (Absent name)) = Opened (Absent name) ∷ []
-finished_by (Opened (Found reading)) = []
-finished_by (Created writing) = []
-
-abbrev pub last_open : List FileUse → Open
-last_open [] = Closed
-last_open (used ∷ []) = open_by used
-last_open (used ∷ next ∷ uses) = last_open (next ∷ uses)
-
-abbrev pub all_but_open : List FileUse → List FileUse
-all_but_open [] = []
-all_but_open (used ∷ []) = finished_by used
-all_but_open (used ∷ next ∷ uses) = used ∷ all_but_open (next ∷ uses)
+abbrev pub reopened : List FileUse → List FileUse × Open
+reopened [] = ([], Closed)
+reopened (used ∷ []) = reopened_last used
+reopened (used ∷ next ∷ uses) = (used ∷ (reopened (next ∷ uses)).0, (reopened (next ∷ uses)).1)
 
 -- the uses of files that count: all of the inner desk, without the file that a failed replacement left
 abbrev pub uses_shown : Bool → Record → List FileUse
@@ -48,8 +38,8 @@ uses_shown is_broken r = if is_broken then r.uses else all_uses r
 -- the record of these uses, the last one still open or not, and of what the inner desk can't record
 abbrev pub record_shown : Bool → List FileUse → Noted → Record → Record
 record_shown is_open uses noted r = record r {
-  uses = if is_open then all_but_open uses else uses;
-  current = if is_open then last_open uses else Closed;
+  uses = if is_open then (reopened uses).0 else uses;
+  current = if is_open then (reopened uses).1 else Closed;
   held = noted.held;
   tried = noted.tried;
   releases = noted.releases;
@@ -60,10 +50,6 @@ abbrev pub unlocked : {D : Type 0} → (D → DeskState) → UnlockedState D →
 unlocked view u = let v = view u.inner in
     showing (record_shown u.is_open (uses_shown u.is_broken v.kept) u.noted v.kept)
     (counted (v.failures + u.refused)) v.message_failures
-
--- the inner desk began with this value
-abbrev pub of_unlocked : {D Start : Type 0} → (Start → D → Type 0) → Start → UnlockedState D → Type 0
-of_unlocked started_as start u = started_as start u.inner
 
 -- whether a file is open after this result of opening one
 abbrev pub open_after : Bool → Result ⊤ DeskFault → Bool

@@ -1,33 +1,24 @@
 -- What the memories hold after a verified run with status 0, address by address.
-use Rattle.std.specs.Prelude.{ℕ, ◌≡◌, ◌==◌, ◌<◌, ◌&&◌, not, List, [], ◌∷◌, length, map, slice_index, None, if◌then◌else◌}
+use Rattle.std.specs.Prelude.{ℕ, ◌≡◌, ◌<◌, ◌&&◌, not, List, [], ◌∷◌, length, map, slice_index, None, if◌then◌else◌}
+use Rattle.std.specs.Str.{bytes_eq}
 use Rattle.avr_plan.specs.declared.settings.Switches.{Switches}
 use Rattle.avr_image.specs.Image.{empty, byte_at, over}
+use Rattle.avr_part.specs.Mem.{name_of}
 use Rattle.avr_part.specs.Part.{Part, size_of}
 use Rattle.avr_part.specs.declared.part.Mem.{Mem}
-use Rattle.avr_part.specs.declared.part.Mem.TheVariants.{Flash, Eeprom, Lfuse, Hfuse, Efuse, Lock, Signature, Calibration}
+use Rattle.avr_part.specs.declared.part.Mem.TheVariants.{Flash, Eeprom, Lfuse, Hfuse, Efuse, Lock}
 use Rattle.avr_plan.specs.Plan.{Plan}
 use Rattle.avr_plan.specs.declared.planned.Task.TheVariants as task
 use Rattle.stk_emu.specs.Effect.{Image, Item, Erase, Write, Memories, erase_keeps_eeprom, memory_in}
 use Rattle.stk_emu.specs.StepData.{HoldsImage}
 use Rattle.avr_tool.specs.Items.{asked_items, has_erase}
 
--- A number for each memory, to compare memories by.
-abbrev pub memory_number : Mem → ℕ
-memory_number Flash = 0
-memory_number Eeprom = 1
-memory_number Lfuse = 2
-memory_number Hfuse = 3
-memory_number Efuse = 4
-memory_number Lock = 5
-memory_number Signature = 6
-memory_number Calibration = 7
-
 -- The images that items write to a memory, later over earlier.
 abbrev pub written_to : Part → Mem → List Item → Image
 written_to part mem [] = empty (size_of mem part)
 written_to part mem (Erase ∷ items) = written_to part mem items
 written_to part mem (Write other image ∷ items) =
-    if memory_number other == memory_number mem then over image (written_to part mem items)
+    if bytes_eq (name_of other) (name_of mem) then over image (written_to part mem items)
     else written_to part mem items
 
 -- The byte of a memory at an address.

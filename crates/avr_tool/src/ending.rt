@@ -1,6 +1,8 @@
-ghost use Rattle.std.specs.Prelude.{◌≡◌};
+ghost use Rattle.std.specs.Prelude.{◌≡◌, MatchOption, is_some, if◌then◌else◌};
 ghost use Rattle.avr_desk.specs.Fault.{CountsNeverFall};
-ghost use Rattle.avr_tool.specs.ServedRun.{ReportsIfAny, end_pieces, status_of_end};
+ghost use Rattle.avr_desk.specs.Lines.{error};
+ghost use Rattle.avr_desk.specs.OutputEvents.{ReportsLine};
+ghost use Rattle.avr_tool.specs.ServedRun.{end_pieces};
 ghost use Rattle.ghosts.specs.Preserves.{Preserves};
 
 use crate::serving_link::Served;
@@ -20,8 +22,9 @@ fn end_message(served: Served) -> Option<Message<'static>>
 }
 
 /// Reports how serving ended, unless the link ended.
-pub(crate) fn report_end<D: Desk>(desk: &mut D, served: Served)
-    ensures notice { ReportsIfAny (end_pieces served) (D.view desk.old) (D.view desk.new) }
+pub(crate) fn report_end<D: Desk>(served: Served, desk: &mut D)
+    ensures notice { MatchOption (end_pieces served) (D.view desk.new ≡ D.view desk.old)
+        (λ pieces. ReportsLine (D.view desk.old) (D.view desk.new) (error pieces)) }
     ensures follows { CountsNeverFall (D.view desk.old) (D.view desk.new) }
     ensures stays { Preserves D.started_as desk.old desk.new }
 {
@@ -32,7 +35,7 @@ pub(crate) fn report_end<D: Desk>(desk: &mut D, served: Served)
 
 /// Returns the status for how serving ended: 0 if the link ended, otherwise 1.
 pub(crate) fn status_of_served(served: Served) -> u8
-    ensures { result ≡ status_of_end served }
+    ensures { result ≡ (if is_some (end_pieces served) then 1 else 0) }
 {
     match served {
         Served::Ended => 0,

@@ -8,7 +8,8 @@ ghost use Rattle.ghosts.specs.Preserves.{Preserves};
 ghost use Rattle.stk_host.specs.Transcript.{sent};
 ghost use Rattle.avr_part.specs.ChipFile.{chip_file};
 ghost use Rattle.avr_tool.specs.Emulated.{IsSavedIfSent, ChecksRead, ChecksReads, RunsEmulator, TakesChip, any_reads_into, reads_into};
-ghost use Rattle.avr_tool.specs.Ports.{IsEmulated, chip_file_of};
+ghost use Rattle.avr_plan.specs.declared.settings.Port.{Port};
+ghost use Rattle.avr_tool.specs.Ports.{chip_file_of};
 
 use crate::chip_files::{hold_chip, save_after};
 use crate::ports::chip_file as file_of;
@@ -139,7 +140,7 @@ fn save_if_sent<D: ChipDesk, R: Recorder>(
 /// assert!(rt; desk.file("chip.bin").map(|file| file.len()) == Some(33_796));
 /// ```
 pub fn run_emu<D: ChipDesk>(alloc: Global, settings: &Settings, desk: &mut D) -> u8
-    requires port { IsEmulated settings.now.port }
+    requires port { settings.now.port ≡ Port.Emulated (chip_file_of settings.now.port) }
     // Proof: `runs_over_emulator` (Emulating), from the `line` of `drive_wired`.
     ensures runs { RunsEmulator settings.now (chip_file_of settings.now.port) (D.view desk.old) (D.view desk.new)
         result }

@@ -1,5 +1,7 @@
+ghost use Rattle.std.specs.Prelude.{◌≡◌};
+ghost use Rattle.avr_plan.specs.declared.settings.Port.{Port};
 ghost use Rattle.avr_tool.specs.OverNet.{RunsOverNet};
-ghost use Rattle.avr_tool.specs.Ports.{IsNetwork, port_address};
+ghost use Rattle.avr_tool.specs.Ports.{port_address};
 ghost use Rattle.avr_tool.specs.Sockets.{IsOverAddress};
 ghost use Rattle.ghosts.specs.Preserves.{Preserves};
 
@@ -30,7 +32,7 @@ pub fn run_net<N: Network, D: Desk>(
     settings: &Settings,
     desk: &mut D,
 ) -> u8
-    requires port { IsNetwork settings.now.port }
+    requires port { settings.now.port ≡ Port.Network (port_address settings.now.port) }
     ensures runs { RunsOverNet N.unused (IsOverAddress N.Network N.Stream.Read N.Stream.has_timed_out N.Stream.Write
         N.Stream.closed (port_address settings.now.port)) settings.now (port_address settings.now.port)
         (D.view desk.old) (D.view desk.new) result }

@@ -3,7 +3,7 @@ ghost use Rattle.avr_desk.specs.Fault.{CountsNeverFall};
 ghost use Rattle.avr_desk.specs.StageRuns.{OnlyAtStart, RunsStage};
 ghost use Rattle.avr_plan.specs.Planning.{LacksPart};
 ghost use Rattle.avr_tool.specs.ServedRun.{ChecksPart, settings_part};
-ghost use Rattle.avr_tool.specs.ServedRun.{RunsServed, RunsServedFor, ServesChip, ServesPart};
+ghost use Rattle.avr_tool.specs.ServedRun.{RunsServedFor, ServesChip, ServesPart};
 ghost use Rattle.avr_tool.specs.Ports.{HasChip, chip_file_of};
 ghost use Rattle.avr_session.specs.Runs.{devices};
 ghost use Rattle.ghosts.specs.Preserves.{Preserves};
@@ -23,7 +23,7 @@ use stk_host::Link;
 pub const READS: u32 = 16_777_216;
 
 /// Finds the part of the settings: in their part file, if there is one, then in the built-in parts.
-fn find_part<D: Desk>(alloc: Global, desk: &mut D, settings: &Settings) -> Result<Part, u8>
+fn find_part<D: Desk>(alloc: Global, settings: &Settings, desk: &mut D) -> Result<Part, u8>
     ensures goes { RunsStage (OnlyAtStart false) (settings_part settings.now) (D.view desk.old) (D.view desk.new)
         result }
     ensures bare { settings.now.parts ≡ None
@@ -51,7 +51,7 @@ pub fn check_part<D: ChipDesk>(alloc: Global, settings: &Settings, desk: &mut D)
         result }
     ensures stays { Preserves D.started_as desk.old desk.new }
 {
-    let part = match find_part(alloc, desk, settings) {
+    let part = match find_part(alloc, settings, desk) {
         Ok(part) => part,
         Err(status) => return Err(status),
     };
@@ -87,7 +87,7 @@ pub fn serve_chip<D: ChipDesk, L: Link>(
 {
     let mut emulator = Emulator::new(chip);
     let served = serve_link(&mut emulator, link, turns);
-    report_end(desk, served);
+    report_end(served, desk);
     save_after(emulator.chip(), file, desk, status_of_served(served))
 }
 
@@ -145,7 +145,7 @@ pub fn serve_for<D: ChipDesk, L: Link>(
     ensures comes { Preserves L.started_as link.old link.new }
     ensures stays { Preserves D.started_as desk.old desk.new }
 {
-    match find_part(alloc, desk, settings) {
+    match find_part(alloc, settings, desk) {
         Ok(part) => serve_part(alloc, &part, chip_file(&settings.port), desk, link, turns),
         Err(status) => status,
     }
@@ -171,7 +171,7 @@ pub fn serve<D: ChipDesk, L: Link>(
     link: &mut L,
 ) -> u8
     requires port { HasChip settings.now.port }
-    ensures runs { RunsServed settings.now (chip_file_of settings.now.port)
+    ensures runs { RunsServedFor settings.now (chip_file_of settings.now.port) READS
         (devices (L.view link.old) (D.view desk.old)) (devices (L.view link.new) (D.view desk.new)) result }
     ensures follows { CountsNeverFall (D.view desk.old) (D.view desk.new) }
     ensures counted { (L.view link.old).failures ≤ (L.view link.new).failures }

@@ -1,6 +1,7 @@
-ghost use Rattle.std.specs.Prelude.{IfOk, OnErr};
+ghost use Rattle.std.specs.Prelude.{◌≡◌, IfOk, OnErr};
+ghost use Rattle.avr_plan.specs.declared.settings.Port.{Port};
 ghost use Rattle.avr_plan.specs.Port.{port_number as number_of};
-ghost use Rattle.avr_tool.specs.Ports.{IsServed, chip_file_of, port_address};
+ghost use Rattle.avr_tool.specs.Ports.{chip_file_of, port_address};
 ghost use Rattle.avr_tool.specs.ServedNet.{ServesNet, ServesOn};
 ghost use Rattle.avr_tool.specs.Sockets.{IsNewLink, IsOverClient, IsOverPort};
 ghost use Rattle.ghosts.specs.Preserves.{Preserves};
@@ -68,7 +69,8 @@ pub fn serve_on<N: Network, D: ChipDesk>(
     listener: N::Listener,
     desk: &mut D,
 ) -> u8
-    requires port { IsServed settings.now.port }
+    requires port { settings.now.port
+        ≡ Port.Served (port_address settings.now.port) (chip_file_of settings.now.port) }
     ensures serves { ServesNet N.unused (IsOverClient N.Listener.Callers N.Stream.Read N.Stream.has_timed_out
         N.Stream.Write N.Stream.closed listener) settings.now (port_address settings.now.port)
         (chip_file_of settings.now.port) (D.view desk.old) (D.view desk.new) result }
@@ -131,7 +133,8 @@ pub fn serve_net<N: Network, D: ChipDesk>(
     settings: &Settings,
     desk: &mut D,
 ) -> u8
-    requires port { IsServed settings.now.port }
+    requires port { settings.now.port
+        ≡ Port.Served (port_address settings.now.port) (chip_file_of settings.now.port) }
     ensures serves { ServesNet N.unused (IsOverPort N.Network N.Listener.Callers N.Stream.Read N.Stream.has_timed_out
         N.Stream.Write N.Stream.closed (number_of (port_address settings.now.port))) settings.now
         (port_address settings.now.port) (chip_file_of settings.now.port) (D.view desk.old) (D.view desk.new) result }

@@ -6,7 +6,7 @@ ghost use Rattle.avr_desk.specs.Record.{ChangesRecord, Replaces, after_write};
 ghost use Rattle.avr_desk.specs.Stream.{SendsPart};
 ghost use Rattle.avr_desk.specs.declared.stream.Stream.TheVariants.{File};
 ghost use Rattle.avr_tool.specs.Noted.{nothing_noted};
-ghost use Rattle.avr_tool.specs.Unlocked.{WritesInPlace, of_unlocked, open_after, unlocked};
+ghost use Rattle.avr_tool.specs.Unlocked.{WritesInPlace, open_after, unlocked};
 
 use crate::noted::{Note, Notes};
 use avr_desk::{ChipDesk, Desk, DeskFault, Stream, write_all};
@@ -131,7 +131,7 @@ impl<D: Desk> Desk for Unlocked<D> {
 
     ghost Start = { D.Start };
 
-    ghost started_as = { of_unlocked D.started_as };
+    ghost started_as = { λ start u. D.started_as start u.inner };
 
     fn open(&mut self, name: &str) -> Result<(), DeskFault> {
         if self.is_broken {
@@ -186,8 +186,8 @@ impl<D: Desk> ChipDesk for Unlocked<D> {
 
     fn replace(&mut self, name: &str, bytes: &[u8]) -> Result<(), DeskFault>
         ensures kept { Replaces name.now bytes.now result (unlocked D.view self.old) (unlocked D.view self.new) }
-        ensures call { IsCall (unlocked D.view) (of_unlocked D.started_as) (CountsFailure File) self.old self.new
-            result }
+        ensures call { IsCall (unlocked D.view) (λ start u. D.started_as start u.inner) (CountsFailure File)
+            self.old self.new result }
         ensures writes { WritesInPlace name.now bytes.now (D.view self.old.inner) (D.view self.new.inner) result }
     {
         if self.is_broken {

@@ -1,8 +1,8 @@
 -- The outline of a session: how many frames it sends, and which pages of flash it writes.
-use Rattle.std.specs.Prelude.{◌≡◌, ◌⊎◌, ◌+◌, ◌-◌, ◌*◌, ◌/◌, ◌^◌, ◌++◌, min, ℕ, zero, suc, List, [], ◌∷◌, Option, Result, Ok, Err, codes, decimal, if◌then◌else◌}
+use Rattle.std.specs.Prelude.{◌≡◌, ◌⊎◌, ◌+◌, ◌-◌, ◌*◌, ◌/◌, ◌^◌, ◌++◌, min, ℕ, zero, suc, List, [], ◌∷◌, map, Option, codes, decimal, if◌then◌else◌}
+use Rattle.std.specs.List.{concat}
 use Rattle.avr_plan.specs.declared.settings.Settings.{Settings}
 use Rattle.avr_desk.specs.Lines.{error, memory_pieces}
-use Rattle.avr_desk.specs.StageRuns.{RunsStage}
 use Rattle.avr_desk.specs.Record.{Bytes, DeskState, ChangesRecord}
 use Rattle.avr_desk.specs.OutputEvents.{ReportsLine}
 use Rattle.avr_desk.specs.Stream.{SendsPart, after_sent}
@@ -11,11 +11,10 @@ use Rattle.avr_image.specs.Image.{holds_any}
 use Rattle.avr_part.specs.Part.{Part}
 use Rattle.avr_part.specs.declared.part.Mem.TheVariants.{Flash}
 use Rattle.avr_plan.specs.Plan.{Plan}
-use Rattle.avr_plan.specs.Planning.{planned}
-use Rattle.avr_plan.specs.AllocationPoints.{AtAllocatingUpdate}
 use Rattle.avr_plan.specs.declared.planned.Task.{Task}
 use Rattle.avr_plan.specs.declared.planned.Task.TheVariants.{Write}
 use Rattle.avr_session.specs.PlanSteps.{run_steps}
+use Rattle.avr_session.specs.Run.{LacksPlan, WithPlan}
 use Rattle.stk_host.specs.Bound.{commands_in}
 
 -- A number and the character after it.
@@ -37,14 +36,10 @@ abbrev pub task_text : Part → Task → Bytes
 task_text part (Write Flash image) = pages_text part image 0 (part.flash_size / part.flash_page)
 task_text part task = []
 
-abbrev pub tasks_text : Part → List Task → Bytes
-tasks_text part [] = []
-tasks_text part (task ∷ tasks) = task_text part task ++ tasks_text part tasks
-
 -- The number of frames, at most 2^64 - 1, and the pages of flash that each task writes.
 abbrev pub outline_text : Plan → Bytes
 outline_text plan = codes "frames " ++ number_line (min (2 ^ 64 - 1) (commands_in (run_steps plan))) 10
-    ++ tasks_text plan.part plan.tasks
+    ++ concat (map (task_text plan.part) plan.tasks)
 
 -- The text was printed with status 0, or a prefix of it with status 1; or allocation failed, and this was reported.
 abbrev pub PrintsOutline : Bytes → DeskState → DeskState → ℕ → Type 0
@@ -52,14 +47,8 @@ PrintsOutline text old new zero = ChangesRecord (after_sent Output text) old new
 PrintsOutline text old new status =
     (status ≡ 1) × (SendsPart Output old new text ⊎ ReportsLine old new (error memory_pieces))
 
--- The outline of the plan was printed. Without a plan nothing more was done.
-abbrev pub AfterPlan : Result Plan ℕ → DeskState → DeskState → ℕ → Type 0
-AfterPlan (Ok plan) old new status = PrintsOutline (outline_text plan) old new status
-AfterPlan (Err failed) old new status = (new ≡ old) × (status ≡ failed)
-
--- The files were read and checked as for a run. Then the outline of its session was printed, or the run was refused.
-pub record Outlines (settings : Settings) (old new : DeskState) (status : ℕ) : Type 0 where
-  pub outcome : Result Plan ℕ
-  pub planned_desk : DeskState
-  pub goes : RunsStage (AtAllocatingUpdate settings) (planned settings) old planned_desk outcome
-  pub then_is : AfterPlan outcome planned_desk new status
+-- The files were read and checked as for a run. Then the outline of its session was printed; or there is no plan.
+abbrev pub Outlines : Settings → DeskState → DeskState → ℕ → Type 0
+Outlines settings old new status =
+    WithPlan settings old (λ plan desk. PrintsOutline (outline_text plan) desk new status)
+    ⊎ LacksPlan settings old new status

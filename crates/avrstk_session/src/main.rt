@@ -67,7 +67,7 @@ fn usage_message<'a>() -> Message<'a>
 }
 
 /// Prints the outline of a session, and returns the status.
-fn print_outline<D: Desk>(alloc: Global, desk: &mut D, plan: &Plan) -> u8
+fn print_outline<D: Desk>(alloc: Global, plan: &Plan, desk: &mut D) -> u8
     ensures prints { PrintsOutline (outline_text plan.now) (D.view desk.old) (D.view desk.new) result }
     ensures stays { Preserves D.started_as desk.old desk.new }
 {
@@ -86,7 +86,7 @@ fn outline_session<D: Desk>(alloc: Global, settings: &Settings, desk: &mut D) ->
     ensures stays { Preserves D.started_as desk.old desk.new }
 {
     match plan(alloc, settings, desk) {
-        Ok(plan) => print_outline(alloc, desk, &plan),
+        Ok(plan) => print_outline(alloc, &plan, desk),
         Err(status) => status,
     }
 }
@@ -113,7 +113,7 @@ fn serve_mode<D: ChipDesk, L: Link>(
 }
 
 /// Reports an error of `clap`, and returns the status: 0 for help, otherwise 1.
-fn report_usage<D: Desk>(desk: &mut D, error: &Error) -> u8
+fn report_usage<D: Desk>(error: &Error, desk: &mut D) -> u8
     ensures is_reported { ReportsUsage (kind_of error.now) (D.view desk.old) (D.view desk.new) result }
     ensures stays { Preserves D.started_as desk.old desk.new }
 {
@@ -143,7 +143,7 @@ fn serve_words<D: ChipDesk, L: Link>(
     match asked(alloc, words, desk) {
         Ok(settings) => serve_mode(alloc, mode, &settings, desk, link),
         Err(NotAsked::Refused(status)) => status,
-        Err(NotAsked::Words(error)) => report_usage(desk, &error),
+        Err(NotAsked::Words(error)) => report_usage(&error, desk),
     }
 }
 

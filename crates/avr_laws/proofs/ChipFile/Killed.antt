@@ -18,7 +18,7 @@ use Rattle.stk_host.specs.Transcript.{LinkState}
 checked_tried : (settings : Settings) (file : Bytes) (old new : DeskState) (part : Part)
     → ChecksPart settings file old new (Ok part) → tried_at new ≡ tried_at old
 checked_tried settings file old new part with =
-    search (rules, tried_loaded, tried_went, with.then_is.1.released_is, with.then_is.1.loaded)
+    search (rules, tried_loaded, tried_went, with.then_is.1.then_is, with.then_is.1.loaded)
 
 refused_tried : (settings : Settings) (file : Bytes) (old new : DeskState) (status : ℕ)
     → ChecksPart settings file old new (Err status) → tried_at new ≡ tried_at old

@@ -1,19 +1,21 @@
 -- Which bytes a run tries to put under the name of its chip file.
-use Rattle.std.proofs.Common.{◌≡◌, ◌⊎◌, ◌∙◌, refl, inl, inr, arith, rules, ℕ, List, [], ◌∷◌, Option, None, Some, Err}
+use Rattle.std.proofs.Common.{◌≡◌, ◌⊎◌, ◌∙◌, refl, inl, inr, arith, rules, ℕ, List, [], ◌∷◌, Option, None, Some, Ok, Err}
+use Rattle.std.specs.Prelude.{MatchOption}
 use Rattle.std.specs.declared.io.Read.{Ghosts as Reads}
 use Rattle.std.specs.declared.io.Write.{Ghosts as Writes}
 use Rattle.avr_plan.specs.declared.settings.Settings.{Settings}
 use Rattle.avr_desk.specs.StageRuns.{RunsStage, AllocationPoints, StageCompleted}
 use Rattle.avr_desk.specs.Record.{Bytes, DeskState, Record}
-use Rattle.avr_desk.specs.OutputEvents.{OutputEvent, after, after_events}
+use Rattle.avr_desk.specs.Lines.{error}
+use Rattle.avr_desk.specs.OutputEvents.{OutputEvent, ReportsLine, after, after_events}
 use Rattle.avr_desk.specs.Shown.{IsNewDesk, Shown, RecordsAll, system_desk_view}
 use Rattle.avr_desk.specs.Stage.{Stage, StageOutcome}
 use Rattle.avr_desk.specs.declared.file_system.FileSystem.{Ghosts}
 use Rattle.avr_desk.specs.declared.record.Writing.{Writing}
 use Rattle.avr_tool.specs.Emulated.{RunsEmulator, TakesChip}
-use Rattle.avr_tool.specs.Holding.{LocksAndLoads, LockedAndLoaded}
+use Rattle.avr_tool.specs.Holding.{LocksAndLoads, LoadsLocked}
 use Rattle.avr_laws.specs.Killed.{LeavesOldOrNew, chip_file_of_part, chip_file_of_run, chip_file_of_server}
-use Rattle.avr_tool.specs.ServedRun.{RunsServedFor, ServesPart, ReportsIfAny, end_pieces}
+use Rattle.avr_tool.specs.ServedRun.{RunsServedFor, ServesPart, end_pieces}
 use Rattle.avr_part.specs.Part.{Part}
 use Rattle.avr_plan.specs.Plan.{Plan}
 use Rattle.avr_part.specs.State as chips
@@ -34,10 +36,11 @@ pub tried_went : {A : Type 0} (stage : Stage A) (old new : DeskState) (stage_out
 tried_went stage old new stage_outcome went = search (rules, tried_all)
 
 pub tried_loaded : (part : Part) (file : Bytes) (old new : DeskState) (chip : chips.ChipState)
-    → LockedAndLoaded part file old new chip → tried_at new ≡ tried_at old
+    → LoadsLocked part file old new (Ok chip) → tried_at new ≡ tried_at old
 tried_loaded part file old new chip loaded = cc (tried_went _ _ _ _ loaded.loaded, loaded.held.0)
 
-tried_reported : (pieces : Option (List Bytes)) (old new : DeskState) → ReportsIfAny pieces old new
+tried_reported : (pieces : Option (List Bytes)) (old new : DeskState) → MatchOption pieces (new ≡ old)
+    (λ p. ReportsLine old new (error p))
     → tried_at new ≡ tried_at old
 tried_reported pieces old new notice = grind arith
 
@@ -49,7 +52,7 @@ tried_goes taking stage old new status goes = grind (arith, tried_all, tried_wen
 pub tried_unloaded : (part : Part) (file : Bytes) (old new : DeskState) (status : ℕ)
     → LocksAndLoads part file old new (Err status) → tried_at new ≡ tried_at old
 tried_unloaded part file old new status (inl unheld) = grind arith
-tried_unloaded part file old new status (inr vain) = cc (tried_goes _ _ _ _ _ vain.refused)
+tried_unloaded part file old new status (inr vain) = cc (tried_goes _ _ _ _ _ vain.1.loaded)
 
 tried_untaken : (plan : Plan) (file : Bytes) (old new : DeskState) (status : ℕ)
     → TakesChip plan file old new (Err status) → tried_at new ≡ tried_at old
@@ -69,14 +72,14 @@ run_tries : (settings : Settings) (file : Bytes) (old new : DeskState) (status :
     → TriesOnly file (chip_file_of_run settings file old new status r) (tried_at new)
 run_tries settings file old new status (inl r) none = search (rules, tried_loaded, tried_went, tried_all)
 run_tries settings file old new status (inr (inl with)) none =
-    tried_untaken _ _ _ _ _ with.then_is ∙ tried_went _ _ _ _ with.made ∙ none
+    tried_untaken with.plan _ _ _ _ with.then_is ∙ tried_went _ _ _ _ with.made ∙ none
 run_tries settings file old new status (inr (inr lacks)) none = tried_goes _ _ _ _ _ lacks.goes ∙ none
 
 pub part_tries : (part : Part) (file : Bytes) (most_reads : ℕ) (old new : Devices) (status : ℕ)
     → (s : ServesPart part file most_reads old new status) → tried_at old.desk ≡ []
     → TriesOnly file (chip_file_of_part part file most_reads old new status s) (tried_at new.desk)
 part_tries part file most_reads old new status (inl s) none =
-    search (rules, tried_reported (end_pieces s.serves.served) _ _ s.serves.notice, tried_loaded _ _ _ _ _ s.loaded)
+    search (rules, tried_reported (end_pieces s.then_is.served) _ _ s.then_is.notice, tried_loaded _ _ _ _ _ s.loaded)
 part_tries part file most_reads old new status (inr (unloaded, same)) none = tried_unloaded _ _ _ _ _ unloaded ∙ none
 
 server_tries : (settings : Settings) (file : Bytes) (most_reads : ℕ) (old new : Devices) (status : ℕ)

@@ -18,7 +18,7 @@ use Rattle.stk_emu.proofs.Repeatable.{on_data, reply_to, joined_reply, IsRepeata
 use Rattle.avr_tool.proofs.Hosts.AnyExchange.{AfterStep, try_goes}
 use Rattle.avr_tool.proofs.Hosts.OneLink.{Spot, this_link, Runs, on_link, both}
 use Rattle.stk_emu.proofs.Replies.Commands.{steady}
-use Rattle.avr_tool.proofs.WriteOperations.OutsideMode.{gathered_steady}
+use Rattle.avr_tool.proofs.WriteOperations.OutsideMode.{joined_steady}
 use Rattle.avr_tool.proofs.Sure.Good.{AreSteady, IsSteady, on_steady}
 use Rattle.avr_laws.proofs.Lines.Ends.{first_steady}
 use Rattle.avr_tool.proofs.Sure.Exchanges.{IsSure}
@@ -195,7 +195,7 @@ module _ (Before After : Programmer → Type 0) (commands : List Command) (got :
   step_steady z before few = attempts (this_link steady) (λ bytes y. ⊤) commands Begins Whole
       (λ more y begins. wider (λ bytes y x. tt) (λ e y x. x) (after_try more y.1 begins.1.1)
       (both steady (on_link steady (try_goes steady commands Before After fits y.0 begins.0))
-      (attempt_tried commands [] y got begins.1.0 (gathered_steady commands [] y.0 ∙ has y.0 begins.0))))
+      (attempt_tried commands [] y got begins.1.0 (joined_steady commands [] y.0 ∙ has y.0 begins.0))))
       (λ fault y none. absurd none) 4 NoAnswer z (
         inl before,
         (

@@ -55,8 +55,8 @@ module _ (Kept : Plan → Transcript → Record → Record → Type 0)
   over_emulator s file old new (inr (inl with)) = elim with.then_is [
     | inl (own, one, told) ↦ absurd (no_one one)
     | inr (apart, inl (inl unheld)) ↦ absurd (no_one unheld.0)
-    | inr (apart, inl (inr vain)) ↦ absurd (no_one vain.refused.0)
-    | inr (apart, inr then) ↦ absurd (no_one then.refused.0)
+    | inr (apart, inl (inr vain)) ↦ absurd (no_one vain.1.loaded.0)
+    | inr (apart, inr then) ↦ absurd (no_one then.then_is.2.0)
   ]
   over_emulator s file old new (inr (inr lacks)) = absurd (no_one lacks.goes.0)
 
@@ -90,7 +90,7 @@ module _ (Kept : Plan → Transcript → Record → Record → Type 0)
     λ takes.
         let s = took.settings in
         let acts : ActsAtPort peers s.port s old new 0 =
-        subst (λ (k : ℕ). ActsAtPort peers s.port s old new k) zero took.runs in
+        subst (λ (k : ℕ). ActsAtPort peers s.port s old new k) zero took.then_is in
         elim (serves_or_asks words s took.asked) [
           | inl (serves, (port, file, is)) ↦ inl (
             serves,

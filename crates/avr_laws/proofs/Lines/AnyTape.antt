@@ -15,7 +15,7 @@ use Rattle.stk_emu.specs.Exchange.{Execution, NotExecuted, Executed, ThenRestart
 use Rattle.stk_emu.specs.DialogOverExchanges.{state_after, SendsValidBodies}
 use Rattle.avr_laws.specs.AnyTape.{after_sent_frames, exchange_by, exchange_with_reply, exchanges_from, exchanges_on_tape, GoesAlongExchanges, FramesByRestart, adding_received, received_frames, good_frames, after_received_bytes, ReceivedSentFrames}
 use Rattle.avr_tool.specs.Authentic.{first_execution, later_executions, on_reading, RepliesAreAuthentic}
-use Rattle.avr_tool.proofs.Given.LongerTape.{reading_extends}
+use Rattle.avr_tool.proofs.StepData.LongerTape.{reading_extends}
 use Rattle.avr_tool.proofs.Lines.Plays.{played_along, emitted_played, done_played, waits_played}
 
 -- every authentic reading is an exchange

@@ -29,7 +29,7 @@ use Rattle.avr_laws.specs.Kept.{HasGeometryOf, NoneForged, on_part}
 use Rattle.avr_part.specs.Part.{Part, IsPart}
 use Rattle.avr_tool.proofs.Lines.InTurn.{frames_prefix, sends_whole}
 use Rattle.avr_tool.proofs.Emulated.{actions_work, all_work, emulated}
-use Rattle.avr_tool.proofs.Given.FirstSteps.{sound_fits, sound_idle}
+use Rattle.avr_tool.proofs.StepData.FirstSteps.{sound_fits, sound_idle}
 use Rattle.avr_tool.proofs.OverFaultyLink.FrameSizes.{session_asks}
 use Rattle.avr_tool.proofs.OverFaultyLink.Outcomes.{session_leaves}
 use Rattle.avr_tool.proofs.Plans.Fits.{work}
@@ -237,7 +237,7 @@ module _ (Begun : Plan → Transcript → Type 0)
         elim (serves_or_asks words s took.asked) [
           | inl (serves, (port, file, is)) ↦
               search (rules, served)
-          | inr asks ↦ inr (s, asks, at_port peers asks.port.0 s.port s old new status asks.port.2 silent took.runs)
+          | inr asks ↦ inr (s, asks, at_port peers asks.port.0 s.port s old new status asks.port.2 silent took.then_is)
         ],
       )
   words_begun line peers old new status (inl (words, are, inl (inr refuses))) silent =

@@ -27,7 +27,7 @@ use Rattle.avr_tool.specs.Authentic.{first_execution, on_reading, later_executio
 use Rattle.avr_tool.proofs.Hosts.AnyExchange.{over_any_exchange}
 use Rattle.avr_tool.proofs.Hosts.Operations.{beginning_goes}
 use Rattle.avr_tool.proofs.Emulated.{actions_work, all_work, emulated}
-use Rattle.avr_tool.proofs.Given.FirstSteps.{sound_fits, sound_idle}
+use Rattle.avr_tool.proofs.StepData.FirstSteps.{sound_fits, sound_idle}
 use Rattle.avr_tool.proofs.Lines.InTurn.{frames_sent, sends_whole}
 use Rattle.avr_tool.proofs.OverFaultyLink.FrameSizes.{session_asks}
 use Rattle.avr_tool.proofs.Plans.Fits.{work}

@@ -34,7 +34,7 @@ use Rattle.avr_laws.proofs.Lines.Damaged.{arrived_came, brings_no_frame}
 use Rattle.avr_laws.proofs.Outcomes.Alike.{AreAlike, same_frames}
 use Rattle.stk_host.specs.ReadSteps.{signature_steps}
 use Rattle.avr_tool.proofs.Emulated.{actions_work, all_work, emulated}
-use Rattle.avr_tool.proofs.Given.FirstSteps.{sound_fits, sound_idle}
+use Rattle.avr_tool.proofs.StepData.FirstSteps.{sound_fits, sound_idle}
 use Rattle.avr_tool.proofs.Plans.Fits.{work}
 use Rattle.avr_laws.proofs.Outcomes.Kept.{NotForgedThen, are_alike, frames_alike, its_bodies, its_none_forged, kept, on_each_reading}
 use Rattle.avr_laws.proofs.Outcomes.OwnSignature.{from_handshake, session_is}

@@ -26,7 +26,7 @@ use Rattle.stk_emu.specs.Effect.{Memories, Image, Item, Write, effects, memories
 use Rattle.stk_emu.specs.Programmer.{Programmer}
 use Rattle.stk_emu.specs.Settled as of_emulated
 use Rattle.stk_emu.specs.Settled.{FitsPart}
-use Rattle.avr_tool.proofs.Given.Comparisons.{no_difference}
+use Rattle.avr_tool.proofs.StepData.Comparisons.{no_difference}
 use Rattle.avr_tool.proofs.WriteOperations.Pages.{effects_on}
 use Rattle.avr_tool.specs.Items.{action_items, actions_items, items}
 use Rattle.avr_laws.specs.TrueReports.{ReportsTrue, count_line, saved_bytes, IsTrueReport, BytesWritten, BytesVerified, Differed, BytesSaved, BytesRead, EraseLeftOut, WriteLeftOut, StepFailed, SessionDone}

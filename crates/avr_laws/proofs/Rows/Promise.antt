@@ -85,7 +85,7 @@ use Rattle.avr_laws.specs.Table.{IsProgrammer}
 use Rattle.stk_emu.specs.Settled.{FitsPart}
 use Rattle.avr_laws.proofs.Table.Emulated.{emulated_meets}
 use Rattle.avr_laws.proofs.Table.Kept.{kept_by_any}
-use Rattle.avr_tool.proofs.Given.FirstSteps.{sound_fits, sound_idle}
+use Rattle.avr_tool.proofs.StepData.FirstSteps.{sound_fits, sound_idle}
 use Rattle.avr_laws.specs.KeptByPort.{ConnectionState, IsKeptInFile, KeepsCommandLine, KeepsPlan, KeepsPlanAt}
 use Rattle.avr_laws.specs.Recorded.{RecordsFiles, RecordsOutput}
 use Rattle.avr_laws.specs.Worked.{fuse_plan, worked_frames, worked_replies, worked_settings}

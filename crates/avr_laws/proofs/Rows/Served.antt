@@ -4,7 +4,8 @@ use Rattle.std.proofs.Common.{◌≡◌, refl, ap, ℕ, List, [], ◌∷◌, len
 use Rattle.avr_desk.specs.Record.{Bytes, DeskState, Record, after_err, nothing_kept, showing, with_held, with_replaced}
 use Rattle.avr_laws.proofs.Limits.{LARGEST_CHIP_FILE}
 use Rattle.avr_tool.specs.Holding.{LocksFile}
-use Rattle.avr_tool.specs.Lines.{in_use_line}
+use Rattle.avr_desk.specs.Lines.{error}
+use Rattle.avr_tool.specs.Lines.{in_use_pieces}
 use Rattle.avr_tool.specs.Saving.{SavesChip}
 use Rattle.stk_host.specs.declared.link.Item.TheVariants.{End}
 use Rattle.stk_host.specs.Tape.{on_tape}
@@ -28,7 +29,7 @@ denials r = length r.denied
 abbrev file_count : Record → ℕ
 file_count r = length r.uses
 
-pub no_denial_unasked : (file : Bytes) → LocksFile begun (now (after_err (in_use_line file) nothing_kept) 0) file
+pub no_denial_unasked : (file : Bytes) → LocksFile begun (now (after_err (error (in_use_pieces file)) nothing_kept) 0) file
     (Err 1) → ⊥
 no_denial_unasked file holds = search rules
 

@@ -42,7 +42,7 @@ use Rattle.stk_host.specs.Transcript.{LinkState, Transcript, Got, Sent, heard, s
 use Rattle.stk_host.specs.declared.link.Item.TheVariants.{End}
 use Rattle.avr_tool.specs.Emulated.{IsSavedIfSent, RunsEmulator}
 use Rattle.avr_tool.specs.Headline.{IsRun, IsStopped, run}
-use Rattle.avr_tool.specs.Holding.{LockedAndLoaded, LocksAndLoads}
+use Rattle.avr_tool.specs.Holding.{LoadsLocked, LocksAndLoads}
 use Rattle.avr_tool.specs.OverNet.{RunsOverNet, new_link}
 use Rattle.avr_tool.specs.Program.{RunsProgram, StartsProgram}
 use Rattle.avr_tool.specs.Saving.{SavesChip}
@@ -89,7 +89,7 @@ abbrev name_of : Opening → Bytes
 name_of (Absent name) = name
 name_of (Found x) = x.name
 
-opened_by : (part : Part) (file : Bytes) (old new : DeskState) (chip : Chip) → LockedAndLoaded part file old new chip
+opened_by : (part : Part) (file : Bytes) (old new : DeskState) (chip : Chip) → LoadsLocked part file old new (Ok chip)
     → (opening : Opening) × (name_of opening ≡ file)
     × (all_uses new.kept ≡ all_uses old.kept ++ Opened opening ∷ [])
 opened_by part file old new chip it =
@@ -103,7 +103,7 @@ served_by part file most old new (inl it) =
     let opened = opened_by part file old.desk it.loaded_desk it.chip it.loaded in (
       opened.0,
       opened.1,
-      record { name = file; bytes = chip_file it.serves.left.programmer.chip },
+      record { name = file; bytes = chip_file it.then_is.left.programmer.chip },
       (search (rules, opened.2)),
     )
 served_by part file most old new (inr refused) = absurd (search rules)

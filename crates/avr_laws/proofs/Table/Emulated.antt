@@ -13,7 +13,7 @@ use Rattle.stk_emu.specs.Settled.{FitsPart, HasMemories}
 use Rattle.stk_emu.specs.WriteOperations.{IsStep, memories_after_step}
 use Rattle.stk_emu.proofs.Repeatable.{AreReplied, FailsAt, IsRepeatable, Settled, Unbroken, after_commands, joined_reply, on_data, reply_to}
 use Rattle.stk_emu.proofs.Replies.Commands.{enter_does, executes_command, leave_keeps, ready_idle, ready_settled, restart_is_settled, restart_keeps_memories, settled_idle}
-use Rattle.avr_tool.proofs.Given.StepsGive.{gives_given}
+use Rattle.avr_tool.proofs.StepData.EachStep.{data_of_attempt}
 use Rattle.avr_tool.proofs.WriteOperations.OutsideMode.{load_reply, step_ends, step_fits}
 use Rattle.avr_laws.specs.EmulatedStates.{HasEmptyBuffers, HasPart, chip_memories}
 use Rattle.avr_laws.specs.Table.{IsDoneOrNot, IsProgrammer, RefusesRow, IsRow, Row, Stands, addressed, enter_body}
@@ -143,7 +143,7 @@ module _ (part : Part) (sound : IsPart part) where
           ];
       good = λ loaded read long e.
           let has = good_reply read long e in (
-            gives_given part sound commands x read step f
+            data_of_attempt part sound commands x read step f
                 (record { from = p; stood = inl (settled part p s); is = has })
                 ∙ sym (r.reads x),
             done_from (subst (Settled part after) there (fits.whole p read has (settled part p s))),

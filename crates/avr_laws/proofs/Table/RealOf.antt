@@ -16,7 +16,7 @@ use Rattle.stk_emu.proofs.Replies.Commands.{executed_none}
 use Rattle.avr_session.specs.Actions.{Action}
 use Rattle.avr_session.specs.PlanSteps.{action_steps}
 use Rattle.avr_tool.specs.Items.{action_items}
-use Rattle.avr_tool.proofs.Given.StepsGive.{changed_sizes, given_same}
+use Rattle.avr_tool.proofs.StepData.EachStep.{changed_sizes, data_stays}
 use Rattle.avr_tool.proofs.Hosts.AnyExchange.{data_in}
 use Rattle.avr_tool.proofs.Real.{ActionsWork, AllWork, Real}
 use Rattle.avr_laws.specs.Table.{IsDoneOrNot, IsLoaded, IsProgrammer, RefusesRow, IsRow, Row, Stands, addressed}
@@ -323,7 +323,7 @@ module _ {P : Type 0} (part : Part) (sound : IsPart part) (m : Device P) (view :
         (good_at x f now p bytes j.0 j.1 s).0
     brings p bytes (inr s) has =
         let j = joined_judged m r.row.address r.command commands bytes p r.is_sent has in
-        (good_at after f_after then p bytes j.0 j.1 s).0 ∙ given_same part sound commands x step
+        (good_at after f_after then p bytes j.0 j.1 s).0 ∙ data_stays part sound commands x step
 
   unfoldable pub real_of : Real part
   real_of = record {

@@ -113,8 +113,7 @@ module _ (w : Weight) where
   play_spends : (steps : List (List Command)) (before : List ℕ) → Spends (4 * total steps) (play steps before)
   unfolding play
   play_spends [] before = λ k left le. done (omega (arith, le))
-  play_spends (commands ∷ steps) before = then_spends commands steps (λ bytes. play steps (before ++ bytes))
-      (λ bytes. play_spends steps (before ++ bytes))
+  play_spends (commands ∷ steps) before = search (rules, then_spends, play_spends steps)
 
   -- ---- operations
 

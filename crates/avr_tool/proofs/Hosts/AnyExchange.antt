@@ -193,7 +193,7 @@ module _ {P : Type 0} (m : Device P) where
     AfterStep (Err fault) q = Either q
 
     restart_keeps : (q : P) → Either q → Either (m.reset q)
-    restart_keeps q b' = search rules
+    restart_keeps q either = search rules
 
     prefixes : (q : P) → Either q → (i : ℕ) → AreReplied m i commands q → Either (after_commands m i commands q)
     prefixes q (inl b) i replied = fits.prefix q i b replied

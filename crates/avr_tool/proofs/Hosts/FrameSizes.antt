@@ -17,9 +17,6 @@ abbrev pub EachSendable : List (List Command) → Type 0
 EachSendable steps = Each AreSendable steps
 
 module _ (part : Part) (sound : IsPart part) where
-  fuse_sendable : (f : Fuse) (v : ℕ) → AreSendable (program_fuse f v ∷ [])
-  fuse_sendable f v = search rules
-
   fuse_read_sendable : (f : Fuse) → AreSendable (read_fuse f ∷ [])
   fuse_read_sendable f = search rules
 
@@ -27,7 +24,7 @@ module _ (part : Part) (sound : IsPart part) where
   by_commands written commands e s = subst AreSendable (sym e) s
 
   sendable : (commands : List Command) → IsStep part commands → AreSendable commands
-  sendable commands b' = search (rules, by_commands, page_most, fuse_sendable, fuse_read_sendable)
+  sendable commands is = search (rules, by_commands, page_most, fuse_read_sendable)
 
   pub all_sendable : (steps : List (List Command)) → AreSteps part steps → EachSendable steps
   all_sendable [] are = tt

@@ -27,16 +27,16 @@ use Rattle.avr_tool.proofs.WriteOperations.Items.{read_are_steps}
 use Rattle.avr_tool.proofs.OverFaultyLink.FirstSteps.{quiet_stays, read_quiet}
 use Rattle.avr_tool.proofs.Leads.{memories_after_steps, IsDataOfAttempt}
 use Rattle.avr_tool.proofs.Hosts.Attempts.{along_bind, along_next_dialog}
-use Rattle.avr_tool.proofs.Given.WholeMemories.{one_by_one}
-use Rattle.avr_tool.proofs.Given.StepsGive.{changed_sizes}
+use Rattle.avr_tool.proofs.StepData.WholeMemories.{one_by_one}
+use Rattle.avr_tool.proofs.StepData.EachStep.{changed_sizes}
 use Rattle.avr_tool.proofs.Hosts.AnyExchange.{over_any_exchange, Keeps, step_leads}
 
 module _ (part : Part) (sound : IsPart part) (real : Real part) where
-  gives_given : (commands : List Command) (m : Memories) (got : List ℕ) → IsStep part commands → FitsPart part m
+  data_of_attempt : (commands : List Command) (m : Memories) (got : List ℕ) → IsStep part commands → FitsPart part m
       → real.Works commands m
       → IsDataOfAttempt real.device commands (Settled real m) (Settled real (memories_after_step part commands m)) got
       → got ≡ data_of_step part commands m
-  gives_given commands m got is f w g = real.gives commands m g.from got is f w g.stood g.is
+  data_of_attempt commands m got is f w g = real.gives commands m g.from got is f w g.stood g.is
 
   one_more : (commands : List Command) (steps : List (List Command)) (m : Memories) (q : real.P)
       → Reached real steps (memories_after_step part commands m) q → Reached real (commands ∷ steps) m q
@@ -69,7 +69,7 @@ module _ (part : Part) (sound : IsPart part) (real : Real part) where
         wider,
         one_more,
         stepped,
-        gives_given commands m bytes are.0 f w.0,
+        data_of_attempt commands m bytes are.0 f w.0,
         play_goes steps (memories_after_step part commands m)
             (before ++ bytes) q are.1 (changed_sizes part commands m sound f) w.1 x.0,
       )))

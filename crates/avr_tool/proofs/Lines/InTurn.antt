@@ -21,7 +21,7 @@ use Rattle.stk_emu.specs.Wired.{WiredState, FollowsFates, NeverIdle, brought}
 use Rattle.stk_emu.specs.DialogOverExchanges.{state_after, outputs_after, SendsValidBodies}
 use Rattle.stk_emu.proofs.Wires.Arrivals.{none_clear}
 use Rattle.stk_emu.proofs.Replies.BodySizes.{replies_fit_frames}
-use Rattle.avr_tool.proofs.Given.LongerTape.{reading_extends}
+use Rattle.avr_tool.proofs.StepData.LongerTape.{reading_extends}
 use Rattle.avr_tool.proofs.Lines.Plays.{played_along, emitted_played, done_played, waits_played}
 use Rattle.avr_tool.proofs.Lines.WireTapes.{GoesOver, over_wire}
 

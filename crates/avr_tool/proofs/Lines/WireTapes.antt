@@ -64,14 +64,14 @@ module _ {P : Type 0} (m : Device P) (replies_fit : RepliesFitFrames m) where
   over_wire {E = E} {R = R} (Ask bytes go_on) n w (f ∷ sent) more asks clear lawful e =
       let is : frame n bytes ≡ f = head_is (frame n bytes) f _ (sent ++ more) e in
       let a = replies_fit bytes w.programmer asks.0 in
-      let w' = wire_after_frame m (frame n bytes) w in
+      let after = wire_after_frame m (frame n bytes) w in
       let reading = reading_of_exchange (exchange_of_fate (first_fate w.fates)) (m.reply bytes w.programmer) in
-      let read : answer n (tape_of m (frame n bytes ∷ sent) w) ≡ Some (reading, tape_of m sent w') =
-      arrival_read m n bytes w (tape_of m sent w') asks.0 a clear (first_lawful w.fates lawful) in
+      let read : answer n (tape_of m (frame n bytes ∷ sent) w) ≡ Some (reading, tape_of m sent after) =
+      arrival_read m n bytes w (tape_of m sent after) asks.0 a clear (first_lawful w.fates lawful) in
       let first : played (Ask bytes go_on) n (tape_of m (f ∷ sent) w)
-      ≡ prepend_events (Frame (frame n bytes) ∷ []) (played (go_on reading) (next n) (tape_of m sent w')) =
+      ≡ prepend_events (Frame (frame n bytes) ∷ []) (played (go_on reading) (next n) (tape_of m sent after)) =
       search rules in
-      let goes = over_wire (go_on reading) (next n) w' sent more (asks.1 reading)
+      let goes = over_wire (go_on reading) (next n) after sent more (asks.1 reading)
       (arrival_late m n bytes w asks.0 a clear) (others_lawful w.fates lawful)
       (tail_is (frame n bytes) f _ (sent ++ more) (sym (ap (λ x. frames_in x.events) first) ∙ e)) in
       subst (λ g. GoesOver m (Ask bytes go_on) n w (g ∷ sent) w.programmer (exchanges_of_fates w.fates)) is

@@ -7,7 +7,7 @@ use Rattle.avr_plan.specs.Plan.{Plan}
 use Rattle.avr_session.specs.Standing.{NoFault}
 use Rattle.avr_session.specs.Actions.{Action, actions}
 use Rattle.stk_emu.specs.Effect.{Memories, effects}
-use Rattle.avr_tool.proofs.Given.Comparisons.{no_difference, held_same}
+use Rattle.avr_tool.proofs.StepData.Comparisons.{no_difference, held_same}
 use Rattle.avr_tool.proofs.WriteOperations.Pages.{effects_on}
 use Rattle.avr_tool.specs.ComparisonsAgree.{ComparisonAgrees, EachComparisonAgrees, ComparisonsAgree}
 use Rattle.avr_tool.specs.ExpectedRun.{Expected, ◌then◌, action_expected, actions_expected, working_expected, expected_run}

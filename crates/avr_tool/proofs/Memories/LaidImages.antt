@@ -2,10 +2,12 @@
 use Rattle.std.proofs.Common.{◌≡◌, ℕ, zero, suc, ◌≤◌, arith, refl, ap, List, [], ◌∷◌, ◌++◌, length, get_or, Bool, true, false, Option, None, unwrap_or, rules}
 use Rattle.std.proofs.lemmas.Bool.{true≢false}
 use Rattle.std.proofs.lemmas.List.{length-replicate}
-use Rattle.std.specs.Prelude.{◌==◌, if◌then◌else◌}
+use Rattle.std.specs.Str.{bytes_eq}
+use Rattle.std.specs.Prelude.{if◌then◌else◌}
 use Rattle.avr_plan.specs.declared.settings.Switches.{Switches}
 use Rattle.std.specs.Option.{option_or}
 use Rattle.avr_image.specs.Image.{empty, byte_at, over}
+use Rattle.avr_part.specs.Mem.{name_of}
 use Rattle.avr_part.specs.Part.{Part, size_of}
 use Rattle.avr_part.specs.declared.part.Mem.{Mem}
 use Rattle.avr_plan.specs.declared.planned.Task.{Task}
@@ -17,7 +19,7 @@ use Rattle.stk_emu.proofs.Memories.LaidImages.{length-laid, length-and_in}
 use Rattle.avr_tool.proofs.WriteOperations.EachMemory.{same_memory, write_is, others_stay}
 use Rattle.avr_tool.specs.ComparisonsAgree.{EachComparisonAgrees}
 use Rattle.avr_tool.specs.Items.{actions_items}
-use Rattle.avr_tool.specs.Written.{memory_number, written_to, byte_in}
+use Rattle.avr_tool.specs.Written.{written_to, byte_in}
 use Rattle.avr_tool.proofs.Plans.Fits.{AllFitActions}
 
 -- ---- images laid over each other, byte by byte
@@ -102,7 +104,7 @@ module _ (part : Part) where
   length-written_to mem (action ∷ actions) fit = length-written_to mem actions fit.1
 
   write_left : (mem other : Mem) (image more : Image) (m new : Memories) (same : Bool)
-      → (memory_number other == memory_number mem) ≡ same → length image ≡ size_of other part
+      → bytes_eq (name_of other) (name_of mem) ≡ same → length image ≡ size_of other part
       → length more ≡ size_of mem part → HoldsImage image (memory_in part other (write_effect other image m))
       → Left part mem more (write_effect other image m) new
       → Left part mem (if same then over image more else more) m new
@@ -125,7 +127,7 @@ module _ (part : Part) where
   write_leaves false false mem other image more m e rest fit agree =
       let after = write_effect other image m in
       write_left mem other image (written_to part mem (actions_items more)) m (effects part (actions_items more) after)
-      (memory_number other == memory_number mem) refl
+      (bytes_eq (name_of other) (name_of mem)) refl
       fit.0.0 (length-written_to mem more fit.1.1) agree.1.0 (rest after fit.1.1 agree.1.1)
 
   -- if writes are read back
@@ -133,8 +135,7 @@ module _ (part : Part) where
       → Leave mem (tasks_actions s tasks) m
   tasks_left s verified mem [] m fit agree = left_as_it_is mem (size_of mem part) m
   tasks_left s verified mem (task.Write other image ∷ tasks) m fit agree =
-      write_leaves s.dry s.no_verify mem other image (tasks_actions s tasks) m verified
-      (λ now. tasks_left s verified mem tasks now) fit agree
+      search (rules, write_leaves, tasks_left s verified mem tasks)
   tasks_left s verified mem (task.Verify other image ∷ tasks) m fit agree =
       tasks_left s verified mem tasks m fit.1 agree.1
   tasks_left s verified mem (task.Read other format file ∷ tasks) m fit agree =

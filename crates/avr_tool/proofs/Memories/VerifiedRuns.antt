@@ -33,10 +33,6 @@ flash_erased : (part : Part) (due : Bool) (m : Memories) (addr : ℕ) → addr <
     → get_or (effects part (erase_if due) m).flash addr 0 ≡ (if due then 255 else get_or m.flash addr 0)
 flash_erased part due m addr l = search (rules, get_or-replicate)
 
-eeprom_blanked : (keeps : Bool) (xs : List ℕ) (addr : ℕ) → addr < length xs
-    → get_or (if keeps then xs else blank xs) addr 0 ≡ (if not keeps then 255 else get_or xs addr 0)
-eeprom_blanked keeps xs addr l = search (rules, get_or-replicate)
-
 fuse_kept : (part : Part) (fuse : Memories → ℕ) (due : Bool) (m : Memories) → fuse (effect part Erase m) ≡ fuse m
     → fuse (effects part (erase_if due) m) ≡ fuse m
 fuse_kept part fuse due m kept = search rules
@@ -76,7 +72,7 @@ module _ (plan : Plan) (before after : Memories) (all : All (IsFitted plan.part)
         images = λ mem. (memory_left mem).shows;
         rest_of_flash = λ addr l none. (memory_left Flash).rest addr none
             ∙ flash_erased part due before addr (omega (arith, l, fits.flash));
-        rest_of_eeprom = λ addr l none. (memory_left Eeprom).rest addr none ∙ (search (rules, eeprom_blanked));
+        rest_of_eeprom = λ addr l none. (memory_left Eeprom).rest addr none ∙ (search (rules, get_or-replicate));
         lfuse = λ none. (memory_left Lfuse).rest 0 none ∙ fuse_kept part (λ m. m.lfuse) due before refl;
         hfuse = λ none. (memory_left Hfuse).rest 0 none ∙ fuse_kept part (λ m. m.hfuse) due before refl;
         efuse = λ none. (memory_left Efuse).rest 0 none ∙ fuse_kept part (λ m. m.efuse) due before refl;

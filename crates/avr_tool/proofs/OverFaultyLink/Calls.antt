@@ -34,8 +34,7 @@ module _ {P : Type 0} (m : Device P) where
     reported_programmer k (Done o) p exchanges = search (rules, output_programmer)
     reported_programmer k (Emit e d) p exchanges = absurd e
     reported_programmer zero (Ask bytes go_on) p exchanges = refl
-    reported_programmer (suc k) (Ask bytes go_on) p exchanges =
-        reported_programmer k (go_on _) _ (later_exchanges exchanges)
+    reported_programmer (suc k) (Ask bytes go_on) p exchanges = search (rules, reported_programmer k)
 
     -- if the session is fine, all steps were completed
     pub reported_fine : (k : ℕ) (d : Dialog ⊥ StepOutcome) (p : P) (exchanges : List Exchange)

@@ -21,7 +21,7 @@ use Rattle.stk_emu.specs.WriteOperations.{steps_of_items}
 use Rattle.avr_tool.proofs.WriteOperations.Items.{ItemsFit}
 use Rattle.stk_emu.specs.Settled.{FitsPart}
 use Rattle.avr_tool.proofs.OverFaultyLink.FirstSteps.{Rests, rests_here, rests_before, rests_all, rests_behind, effects_sizes}
-use Rattle.avr_tool.proofs.Given.Comparisons.{signature_taken}
+use Rattle.avr_tool.proofs.StepData.Comparisons.{signature_taken}
 use Rattle.avr_tool.proofs.Hosts.AnyExchange.{Keeps}
 use Rattle.avr_tool.proofs.Hosts.Operations.{AfterCall, operation_goes, beginning_goes}
 use Rattle.avr_tool.proofs.Hosts.OneLink.{Spot, Runs}

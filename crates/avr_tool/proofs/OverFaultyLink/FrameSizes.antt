@@ -44,12 +44,10 @@ steps_light [] s = omega arith
 steps_light (commands ∷ steps) s = search (rules, commands_light, weighed_append, steps_light steps s.1)
 
 module _ (part : Part) (sound : IsPart part) where
-  action_sendable : (action : Action) → FitsAction part action → EachSendable (action_steps part action)
-  action_sendable action fits = search (rules, all_sendable, write_are_steps, read_are_steps)
-
   actions_sendable : (actions : List Action) → AllFitActions part actions → EachSendable (actions_steps part actions)
   actions_sendable [] fits = tt
-  actions_sendable (action ∷ actions) fits = search (rules, each_on, action_sendable, actions_sendable actions fits.1)
+  actions_sendable (action ∷ actions) fits =
+      search (rules, each_on, all_sendable, write_are_steps, read_are_steps, actions_sendable actions fits.1)
 
 -- every command of a session
 pub session_asks : (plan : Plan) → IsPart plan.part → All (IsFitted plan.part) plan.tasks

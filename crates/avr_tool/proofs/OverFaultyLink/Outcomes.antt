@@ -23,9 +23,9 @@ use Rattle.avr_tool.proofs.Plans.Fits.{work}
 use Rattle.avr_tool.specs.Items.{action_items}
 use Rattle.avr_tool.specs.Outcome.{HasFirstOperations, IsDone, IsExpectedRun}
 
-module _ (plan : Plan) (sound : IsPart plan.part) (real : Real plan.part) (m0 : Memories) (f0 : FitsPart plan.part m0)
-    (fitted : All (IsFitted plan.part) plan.tasks) (signs : AllWork real signature_steps m0)
-    (works : ActionsWork real (work plan) m0) where
+module _ (plan : Plan) (sound : IsPart plan.part) (real : Real plan.part) (before : Memories) (sizes : FitsPart plan.part before)
+    (fitted : All (IsFitted plan.part) plan.tasks) (signs : AllWork real signature_steps before)
+    (works : ActionsWork real (work plan) before) where
   anything : (actions : List Action) (m : Memories) → ActionsTrue plan.part real plan.switches Anything actions m
   anything [] m = tt
   anything (action ∷ actions) m = (
@@ -36,25 +36,25 @@ module _ (plan : Plan) (sound : IsPart plan.part) (real : Real plan.part) (m0 : 
   -- over any link, or if no step fails
   pub session_passes : (At : Memories → Spot real.P → Type 0) (Fails : Type 0)
       → Passes plan.part real plan.switches At Fails
-      → (z : Spot real.P) → Comes plan.part real plan.switches At Fails OpenSession m0 z
-      → Prints real.device Anything (AtMoment plan real m0) (AtEnd plan real m0 Fails) (session plan) z
+      → (z : Spot real.P) → Comes plan.part real plan.switches At Fails OpenSession before z
+      → Prints real.device Anything (AtMoment plan real before) (AtEnd plan real before Fails) (session plan) z
   session_passes At Fails pass z opened =
       session_prints plan sound real fitted Anything (λ fault q. any_outputs (fault_output plan.part fault) q)
-      (λ q. any_outputs (closing_output plan.switches.quiet plan.part (Ok tt)) q) At Fails pass m0 f0 works
-      (λ q is. any_outputs (outcome_output plan.part plan.switches OpenSession (outcome_of plan.part OpenSession m0)) q)
-      (anything (work plan) m0) z opened
+      (λ q. any_outputs (closing_output plan.switches.quiet plan.part (Ok tt)) q) At Fails pass before sizes works
+      (λ q is. any_outputs (outcome_output plan.part plan.switches OpenSession (outcome_of plan.part OpenSession before)) q)
+      (anything (work plan) before) z opened
 
-  module _ (p : real.P) (exchanges : List Exchange) (idle : HasMemories real m0 p) where
+  module _ (p : real.P) (exchanges : List Exchange) (idle : HasMemories real before p) where
     pub session_along : (k : ℕ)
-        → Printed real.device (AtMoment plan real m0) (AtEnd plan real m0 ⊤) k (session plan) (p, exchanges)
+        → Printed real.device (AtMoment plan real before) (AtEnd plan real before ⊤) k (session plan) (p, exchanges)
     session_along k =
-        at_moment real.device Anything (at_last plan real m0 ⊤) k
+        at_moment real.device Anything (at_last plan real before ⊤) k
         (session_passes (λ m z. Settled real m z.0) ⊤ (anyhow plan.part sound real plan.switches) (p, exchanges)
-        (on_link real.device (opening_comes plan.part sound real plan.switches m0 f0 signs p idle)))
+        (on_link real.device (opening_comes plan.part sound real plan.switches before sizes signs p idle)))
 
     -- with status 0 it is its expected run
     pub session_succeeds : (k status : ℕ) → (state_after real.device k (session plan) p exchanges).dialog ≡ Done status
-        → status ≡ 0 → IsExpectedRun plan m0
+        → status ≡ 0 → IsExpectedRun plan before
         (real.memories (state_after real.device k (session plan) p exchanges).programmer)
         (outputs_after real.device k (session plan) p exchanges) status
     session_succeeds k status e zero = elim ((session_along k).after status e).1 [
@@ -63,12 +63,12 @@ module _ (plan : Plan) (sound : IsPart plan.part) (real : Real plan.part) (m0 : 
     ]
 
     pub session_leaves : Leads real.device (session plan) p exchanges
-        (λ q. HasFirstOperations plan m0 (real.memories q))
-        (λ status q. status ≡ 0 → IsDone plan m0 (real.memories q))
+        (λ q. HasFirstOperations plan before (real.memories q))
+        (λ status q. status ≡ 0 → IsDone plan before (real.memories q))
     session_leaves = record {
       during = λ k. (session_along k).now.0;
       after = λ k status e zero.
           let run = session_succeeds k status e zero in
-          let agrees = (expected_status plan m0).0 (sym run.status_is ∙ zero) in
-          record { memories = run.memories ∙ expected_memories plan m0 agrees; agrees = agrees };
+          let agrees = (expected_status plan before).0 (sym run.status_is ∙ zero) in
+          record { memories = run.memories ∙ expected_memories plan before agrees; agrees = agrees };
     }

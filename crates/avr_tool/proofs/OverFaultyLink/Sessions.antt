@@ -59,7 +59,7 @@ module _ (plan : Plan) (real : Real plan.part) (m : Memories) where
   pub at_last : (Fails : Type 0) (status : ℕ) (emitted : List OutputEvent) (y : Spot real.P)
       → AtEnd Fails status emitted y
       → AtMoment emitted y
-  at_last Fails status emitted y e' = search rules
+  at_last Fails status emitted y ended = search rules
 
 module _ (plan : Plan) (sound : IsPart plan.part) (real : Real plan.part) (fitted : All (IsFitted plan.part) plan.tasks)
     (True : OutputEvent → real.P → Type 0)
@@ -88,11 +88,7 @@ module _ (plan : Plan) (sound : IsPart plan.part) (real : Real plan.part) (fitte
   }
 
   first_done : (y : Spot real.P) → RestsIn real (items plan) m y → HasFirstOperations plan m (real.memories y.0)
-  first_done y rests = record {
-    count = rests.count;
-    memories = real.has (memories_after_steps part rests.count (steps_of_items part (items plan)) m) y.0 rests.stands
-        ∙ items_counted part (items plan) rests.count m;
-  }
+  first_done y rests = search (rules, memories_after_steps, items_counted)
 
   module _ (emitted : List OutputEvent) (y : Spot real.P) (rests : RestsIn real (items plan) m y)
       (own : Own part real s At Fails w NoFault emitted y) where

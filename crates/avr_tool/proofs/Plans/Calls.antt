@@ -25,7 +25,7 @@ use Rattle.stk_emu.specs.WriteOperations.{steps_of_items, AreSteps}
 use Rattle.avr_tool.proofs.Leads.{memories_after_steps}
 use Rattle.stk_emu.specs.Settled.{FitsPart}
 use Rattle.avr_tool.proofs.OverFaultyLink.FirstSteps.{quiet_stays, read_quiet}
-use Rattle.avr_tool.proofs.Given.WholeMemories.{read_gives}
+use Rattle.avr_tool.proofs.StepData.WholeMemories.{read_gives}
 use Rattle.avr_tool.proofs.WriteOperations.Items.{changed_all, item_does, item_are_steps, read_are_steps}
 use Rattle.avr_tool.proofs.Plans.Fits.{FitsAction}
 use Rattle.avr_tool.specs.ExpectedRun.{Expected, reported_expected, action_expected}

@@ -98,8 +98,7 @@ pub session_is_run : (settings : Settings) (plan : Plan) (x : Devices) (between 
     → RunsSession plan (devices x.link between) y status → CountsNeverFall between y.desk
     × (((r : IsRun settings x y status) × (r.openings ≡ made.passed)) ⊎ (StopsSession plan (devices x.link between) y
     × (status ≡ 1)))
-session_is_run settings plan x between y status made runs =
-    (session_follows plan (devices x.link between) y status runs, either runs)
+session_is_run settings plan x between y status made runs = search (rules, session_follows, either)
   where
     either : RunsSession plan (devices x.link between) y status
         → ((r : IsRun settings x y status) × (r.openings ≡ made.passed))
@@ -274,7 +273,7 @@ planned_prefix settings x y stopped = record {
 
 pub stop_prefix : (settings : Settings) (x y : Devices) (status : ℕ) → IsStopped settings x y status
     → IsPrefixOfRun settings x y
-stop_prefix settings x y status e' = search (rules, stopped_prefix, planned_prefix)
+stop_prefix settings x y status stopped = search (rules, stopped_prefix, planned_prefix)
 
 -- a text other than the next line is no prefix
 abbrev line_of : List (Event OutputEvent) → Bytes

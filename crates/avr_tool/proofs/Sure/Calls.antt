@@ -13,7 +13,7 @@ use Rattle.stk_host.specs.Steps.{StepOutcome, step, unless_step_fault, play}
 use Rattle.stk_host.specs.ReadSteps.{signature_steps}
 use Rattle.stk_host.specs.Operations as host
 use Rattle.stk_host.specs.Operations.{checked_by, signature_checked, no_result}
-use Rattle.stk_emu.proofs.Replies.Commands.{ready_idle, ready_settled}
+use Rattle.stk_emu.proofs.Replies.Commands.{one_steady, ready_idle, ready_settled}
 use Rattle.stk_emu.specs.Device.{device}
 use Rattle.stk_emu.specs.Programmer.{Programmer}
 use Rattle.stk_emu.specs.Effect.{Memories, effects}
@@ -23,13 +23,13 @@ use Rattle.stk_emu.specs.Settled.{HasMemories, Ready, FitsPart}
 use Rattle.stk_emu.specs.Exchange.{Exchange}
 use Rattle.avr_tool.proofs.Emulated.{all_work, emulated}
 use Rattle.avr_tool.proofs.OverFaultyLink.EachAction.{Comes, Passes, operation_comes, opening_comes}
-use Rattle.avr_tool.proofs.Given.Comparisons.{signature_taken}
+use Rattle.avr_tool.proofs.StepData.Comparisons.{signature_taken}
 use Rattle.avr_tool.proofs.Sure.Exchanges.{Brings, IsSure, brings_bind, brings_reported, brings_play}
-use Rattle.avr_tool.proofs.Given.WholeMemories.{read_gives}
+use Rattle.avr_tool.proofs.StepData.WholeMemories.{read_gives}
 use Rattle.avr_tool.proofs.Hosts.Operations.{closing_goes}
 use Rattle.avr_tool.proofs.Hosts.OneLink.{Spot, on_link, both}
 use Rattle.avr_tool.proofs.WriteOperations.Items.{read_are_steps}
-use Rattle.avr_tool.proofs.WriteOperations.Steps.{sign_on_steady, enter_ready, leave_steady, leave_fits}
+use Rattle.avr_tool.proofs.WriteOperations.Steps.{enter_ready, leave_steady, leave_fits}
 use Rattle.avr_tool.proofs.Plans.Calls.{outcome_of, call_of, is_operation}
 use Rattle.avr_tool.proofs.Plans.Fits.{FitsAction}
 use Rattle.avr_tool.specs.Items.{action_items}
@@ -60,7 +60,7 @@ module _ (Such : List Exchange → Type 0) (sure : IsSure Such) where
         let name : List ℕ = 0x53 ∷ 0x54 ∷ 0x4B ∷ 0x35 ∷ 0x30 ∷ 0x30 ∷ 0x5F ∷ 0x32 ∷ [] in
         brings_bind Such (unless_step_fault (λ signed. step (enter ∷ []) >>= unless_step_fault read)) (Ok name)
         (Ok part.signature) (HasMemories part m) (HasMemories part m) (Ready part m) (step (SignOn ∷ []))
-        (search (rules, sure, sign_on_steady))
+        (search (rules, sure, one_steady))
         (brings_bind Such (unless_step_fault read) (Ok []) (Ok part.signature) (HasMemories part m) (Ready part m)
         (Ready part m) (step (enter ∷ []))
         (sure (enter ∷ []) [] (HasMemories part m) (Ready part m) (enter_ready part m) (omega arith) (λ q stands. refl))

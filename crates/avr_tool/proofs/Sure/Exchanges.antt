@@ -19,7 +19,7 @@ use Rattle.stk_emu.proofs.Repeatable.{joined_reply, IsRepeatable}
 use Rattle.avr_tool.proofs.Hosts.OneLink.{Spot, Runs}
 use Rattle.stk_emu.proofs.Replies.Commands.{steady}
 use Rattle.avr_tool.proofs.WriteOperations.Steps.{step_ready}
-use Rattle.avr_tool.proofs.Given.StepsGive.{step_data, changed_sizes, given_same}
+use Rattle.avr_tool.proofs.StepData.EachStep.{step_data, changed_sizes, data_stays}
 
 -- from each programmer under the first condition, over such exchanges, to this result and one under the second
 abbrev pub Brings : {R : Type 0} → (List Exchange → Type 0) → (Programmer → Type 0) → Dialog ⊥ R → R
@@ -49,7 +49,7 @@ module _ (Such : List Exchange → Type 0) where
 
 module _ (part : Part) (sound : IsPart part) where
   pub step_short : (commands : List Command) → IsStep part commands → length commands ≤ 2
-  step_short commands b' = search rules
+  step_short commands is = search rules
 
   -- all commands of one attempt have their data, whether or not the step was already done
   data_either : (commands : List Command) (m : Memories) → IsStep part commands → FitsPart part m → (q : Programmer)
@@ -57,7 +57,7 @@ module _ (part : Part) (sound : IsPart part) where
       → joined_reply device commands [] q ≡ Data (data_of_step part commands m)
   data_either commands m is f q (inl t) = step_data part sound commands m q is f t
   data_either commands m is f q (inr t) = step_data part sound commands (memories_after_step part commands m) q is
-      (changed_sizes part commands m sound f) t ∙ ap Data (given_same part sound commands m is)
+      (changed_sizes part commands m sound f) t ∙ ap Data (data_stays part sound commands m is)
 
   module _ (Such : List Exchange → Type 0) (sure : IsSure Such) where
     pub brings_one : (commands : List Command) (m : Memories) → IsStep part commands → FitsPart part m

@@ -15,7 +15,7 @@ use Rattle.avr_tool.specs.OverFaultyLink.{AllArriveRight}
 use Rattle.avr_tool.proofs.Hosts.AnyExchange.{AfterStep, try_goes}
 use Rattle.avr_tool.proofs.Hosts.OneLink.{Spot, this_link, Runs, on_link, both}
 use Rattle.stk_emu.proofs.Replies.Commands.{steady}
-use Rattle.avr_tool.proofs.WriteOperations.OutsideMode.{gathered_steady}
+use Rattle.avr_tool.proofs.WriteOperations.OutsideMode.{joined_steady}
 use Rattle.avr_tool.proofs.Sure.Exchanges.{IsSure}
 
 -- ---- links that don't end, and over which the programmer never restarts
@@ -78,13 +78,7 @@ attempt_has : (commands : List Command) (before : List ℕ) (z : Spot Programmer
 unfolding attempt exchange
 attempt_has [] before z got good has = done (has, good)
 attempt_has (command ∷ commands) before z got good has =
-    let q = steady.after (body command) z.0 in
-    let go_on : List ℕ → Dialog ⊥ Reply = λ bytes. attempt commands (before ++ bytes) in
-    ask tt (λ move. subst (λ one_exchange. Has got
-    (with_data go_on (reply_from_reading command (reading_of_exchange one_exchange (steady.reply (body command) z.0))))
-    (after_exchange one_exchange q z.0 steady.reset, later_exchanges z.1)) (sym (first_good z.1 good))
-    (replied go_on (λ bytes. joined_reply steady commands (before ++ bytes) q) got (q, later_exchanges z.1) _
-    (λ bytes f. attempt_has commands (before ++ bytes) (q, later_exchanges z.1) got (others_good z.1 good) f) has))
+    search (rules, ask, first_good, replied, joined_reply, steady, others_good, attempt_has commands)
 
 module _ (Before After : Programmer → Type 0) (commands : List Command) (got : List ℕ)
     (fits : IsRepeatable steady commands Before After)
@@ -107,7 +101,7 @@ module _ (Before After : Programmer → Type 0) (commands : List Command) (got :
       attempts (this_link steady) (λ bytes y. ⊤) commands Begins Whole
       (λ more y begins. wider (λ bytes y x. tt) (λ e y x. x) (after_try more)
       (both steady (on_link steady (try_goes steady commands Before After fits y.0 (inl begins.0)))
-      (attempt_has commands [] y got begins.1 (gathered_steady commands [] y.0 ∙ has y.0 (inl begins.0)))))
+      (attempt_has commands [] y got begins.1 (joined_steady commands [] y.0 ∙ has y.0 (inl begins.0)))))
       (λ fault y none. absurd none) 4 NoAnswer z (before, good)
 
 pub good_sure : IsSure AllArriveRight

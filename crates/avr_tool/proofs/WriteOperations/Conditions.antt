@@ -77,7 +77,7 @@ module _ {P : Type 0} (m : Device P) where
     unfolding play attempts_or_fault attempt exchange
     none_asked command commands steps before p exchanges at = search rules
 
-  -- each completed step leads from one condition to the next; for `steps_climb` (Given/FirstSteps)
+  -- each completed step leads from one condition to the next; for `steps_climb` (StepData/FirstSteps)
   pub play_climbs : (At : ℕ → P → Type 0) (steps : List (List Command)) (k : ℕ) (before : List ℕ) (p : P)
       (exchanges : List Exchange) → AreSome steps → AllFit m At steps → At 0 p
       → Climbs m At k steps p exchanges (state_after m k (play steps before) p exchanges)

@@ -16,7 +16,7 @@ use Rattle.stk_emu.specs.WriteOperations.{AreSteps}
 use Rattle.avr_tool.specs.Tallies.{Count, with_next, then_count, Tallies}
 use Rattle.avr_tool.proofs.Hosts.Attempts.{along_bind, along_next_dialog}
 use Rattle.avr_tool.proofs.WriteOperations.Conditions.{along_before}
-use Rattle.avr_tool.proofs.Given.FirstSteps.{steps_climb}
+use Rattle.avr_tool.proofs.StepData.FirstSteps.{steps_climb}
 
 pub none_left : {E R P : Type 0} (m : Device P) (d : Dialog E R) (p : P) (exchanges : List Exchange)
     → (state_after m 0 d p exchanges).left ≡ 0

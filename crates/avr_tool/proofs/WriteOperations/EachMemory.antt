@@ -1,14 +1,15 @@
 -- Writes, memory by memory: what a write makes of a memory, by whether the memory can only lose bits.
 use Rattle.std.proofs.Common.{◌≡◌, ℕ, List, length, Bool, true, false, rules}
-use Rattle.std.specs.Prelude.{◌==◌, ◌||◌, not, if◌then◌else◌}
+use Rattle.std.specs.Str.{bytes_eq}
+use Rattle.std.specs.Prelude.{◌||◌, not, if◌then◌else◌}
+use Rattle.avr_part.specs.Mem.{name_of}
 use Rattle.avr_part.specs.Part.{Part}
 use Rattle.avr_part.specs.declared.part.Mem.{Mem}
 use Rattle.avr_part.specs.declared.part.Mem.TheVariants.{Eeprom, Lfuse, Hfuse, Efuse, Lock, Signature, Calibration}
 use Rattle.stk_emu.specs.Effect.{Image, Memories, with_image, and_in, are_locked, write_effect, memory_in}
 use Rattle.stk_emu.proofs.Memories.LaidImages.{length-laid, length-and_in}
-use Rattle.avr_tool.specs.Written.{memory_number}
 
-pub same_memory : (other mem : Mem) → (memory_number other == memory_number mem) ≡ true → other ≡ mem
+pub same_memory : (other mem : Mem) → bytes_eq (name_of other) (name_of mem) ≡ true → other ≡ mem
 same_memory other mem e = search rules
 
 -- whether no write turns a zero of the memory into a one: flash, the lock, and what can't be written
@@ -32,7 +33,7 @@ is_barred mem locked = locked
 
 -- whether a write to one memory leaves another as it is
 abbrev pub leaves_memory : Mem → Mem → Bool → Bool
-leaves_memory other mem locked = not (memory_number other == memory_number mem) || is_barred mem locked
+leaves_memory other mem locked = not (bytes_eq (name_of other) (name_of mem)) || is_barred mem locked
 
 pub write_is : (part : Part) (other mem : Mem) (image : Image) (m : Memories)
     → memory_in part mem (write_effect other image m)
@@ -46,6 +47,6 @@ pub size_stays : (part : Part) (other mem : Mem) (image : Image) (m : Memories)
 size_stays part other mem image m = search (rules, length-and_in, length-laid)
 
 pub others_stay : (part : Part) (other mem : Mem) (image : Image) (m : Memories)
-    → (memory_number other == memory_number mem) ≡ false
+    → bytes_eq (name_of other) (name_of mem) ≡ false
     → memory_in part mem (write_effect other image m) ≡ memory_in part mem m
 others_stay part other mem image m e = search rules

@@ -172,9 +172,9 @@ replied_steady (suc (suc i)) [] p r = tt
 replied_steady (suc (suc i)) (command ∷ commands) p r =
     (r.0, replied_steady (suc i) commands (device.after (body command) p) r.1)
 
-pub gathered_steady : (commands : List Command) (before : List ℕ) (p : Programmer)
+pub joined_steady : (commands : List Command) (before : List ℕ) (p : Programmer)
     → joined_reply steady commands before p ≡ joined_reply device commands before p
-gathered_steady commands before p = search rules
+joined_steady commands before p = search rules
 
 module _ (part : Part) (sound : IsPart part) where
   as_written : (written commands : List Command) → commands ≡ written → Idles part written → Idles part commands
@@ -216,7 +216,7 @@ module _ (part : Part) (sound : IsPart part) where
 
   either_settled : (m n : Memories) (q r : Programmer) → q ≡ r → Ready part m q ⊎ Ready part n q
       → Settled part m r ⊎ Settled part n r
-  either_settled m n q r e f' = search rules
+  either_settled m n q r same ready = search rules
 
   pub step_fits : (commands : List Command) (m : Memories) → IsStep part commands
       → IsRepeatable device commands (Settled part m) (Settled part (memories_after_step part commands m))
@@ -238,7 +238,7 @@ module _ (part : Part) (sound : IsPart part) where
     whole = λ p bytes has s.
         subst (Settled part (memories_after_step part commands m)) (executed_steady (length commands) commands p)
         (ready_settled part (memories_after_step part commands m) (after_commands steady (length commands) commands p)
-        (ready.whole p bytes (gathered_steady commands [] p ∙ has)
+        (ready.whole p bytes (joined_steady commands [] p ∙ has)
         (settled_ready part m p (in_mode_by_data commands p bytes is has) s)));
     restart_keeps = λ p s. restart_is_settled part m p s;
     restart_keeps_after = λ p s. restart_is_settled part (memories_after_step part commands m) p s;

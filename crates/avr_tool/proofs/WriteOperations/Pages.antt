@@ -29,9 +29,6 @@ pub effects_on : (part : Part) (xs ys : List Item) (m : Memories)
 effects_on part [] ys m = refl
 effects_on part (x ∷ xs) ys m = effects_on part xs ys (effect part x m)
 
-and_blank : (o : Option ℕ) (x : ℕ) → x < 256 → bit_and x (byte_or_ff o) ≡ and_with o x
-and_blank o x l = search (rules, and_numeral)
-
 abbrev pub AllBelow : List ℕ → Type 0
 AllBelow xs = (i : ℕ) → i < length xs → get_or xs i 0 < 256
 
@@ -54,7 +51,7 @@ unused_gap page image start unused i from to =
 page_changed : (image : Image) (start page : ℕ) (old : List ℕ) → AllBelow old
     → Changed and_with image start (start + page) old (and_in (image_at start (filled_bytes image start page)) old)
 page_changed image start page old below =
-    search (rules, filled_is, length-and_in, get_and_in, placed_before, in_part, some_at, and_blank, placed_behind)
+    search (rules, filled_is, length-and_in, get_and_in, placed_before, in_part, some_at, and_numeral, placed_behind)
 
 module _ (part : Part) (sound : IsPart part) (image : Image) where
   -- flash after the write operations of these steps
@@ -103,23 +100,17 @@ module _ (part : Part) (sound : IsPart part) (image : Image) where
       let within : n * part.flash_page ≤ (n + suc k) * part.flash_page =
       less n (n + suc k) part.flash_page (omega arith) in
       page_first n (each_from (page_steps part image) (n + 1) k) m old free below (omega (arith, within, long, most))
-      (λ mid below' same. pages_free (n + 1) k m mid free below'
+      (λ mid still_below same. pages_free (n + 1) k m mid free still_below
       (ap (λ j. j * part.flash_page) (let e : n + 1 + k ≡ n + suc k = omega arith in e) ∙ (long ∙ sym same))
       (omega (arith, same, most)))
     where
       less : (a b page : ℕ) → a ≤ b → a * page ≤ b * page
       less a b page le = mul-le-mul_right page le
 
-  -- if flash is locked, nothing changes
-  page_locked : (n : ℕ) (others : List (List Command)) (m : Memories) → are_locked m ≡ true
-      → n * part.flash_page < 4294967296 → effects part (write_operations_of others) m ≡ m
-      → effects part (write_operations_of (page_steps part image n ++ others)) m ≡ m
-  page_locked n others m lock few rest = search rules
-
   pages_locked : (n k : ℕ) (m : Memories) → are_locked m ≡ true → (n + k) * part.flash_page ≤ 262144
       → effects part (write_operations_of (each_from (page_steps part image) n k)) m ≡ m
   pages_locked n zero m lock most = refl
-  pages_locked n (suc k) m lock most = search (rules, page_locked, pages_locked (n + 1) k m lock (search rules))
+  pages_locked n (suc k) m lock most = search (rules, pages_locked (n + 1) k m lock (search rules))
 
   -- the pages of an image do what its write does
   pub pages_effect : (m : Memories) → length m.flash ≡ part.flash_size → AllBelow m.flash

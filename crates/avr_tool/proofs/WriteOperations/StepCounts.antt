@@ -30,8 +30,7 @@ pub counted_write_operations : (part : Part) (count : ℕ) (steps : List (List C
 counted_write_operations part zero steps m are = refl
 counted_write_operations part (suc count) [] m are = refl
 counted_write_operations part (suc count) (commands ∷ steps) m are =
-    one_more part (write_operation_of commands) (write_operations_of steps) steps count m are.0
-    (λ n. counted_write_operations part count steps n are.1)
+    search (rules, one_more, counted_write_operations part count steps)
 
 either_are_write_operations : (b : Bool) (x : List (List Command)) → AreWriteOperations x
     → AreWriteOperations (cond b x [])

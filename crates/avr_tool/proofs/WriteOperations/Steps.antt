@@ -19,7 +19,7 @@ use Rattle.stk_emu.proofs.Memories.LaidImages.{laid_twice, and_in_twice, and_byt
 use Rattle.stk_emu.proofs.Replies.Commands.{one_fits, steady, in_mode_is, one_steady, two_steady, settled_idle, ready_settled, ready_idle, restart_keeps_memories, restart_is_settled, enter_does, leave_keeps, load_keeps, fuse_does, lock_does, erase_does, fuse_read_after, lock_read_after, calibration_read_after}
 use Rattle.stk_emu.proofs.Memories.Runs.{run_does}
 use Rattle.stk_emu.proofs.Memories.Pages.{page_does}
-use Rattle.avr_tool.proofs.Given.ReadReplies.{flash_read_keeps, eeprom_read_keeps}
+use Rattle.avr_tool.proofs.StepData.ReadReplies.{flash_read_keeps, eeprom_read_keeps}
 
 pub effect_twice : (part : Part) (item : Item) (m : Memories)
     → effect part item (effect part item m) ≡ effect part item m
@@ -40,21 +40,11 @@ module _ (part : Part) where
   sign_on_fits m = search (rules, one_fits, restart_keeps_memories)
 
   pub enter_fits : (m : Memories) → IsRepeatable device (enter ∷ []) (HasMemories part m) (Settled part m)
-  enter_fits m = search (
-    rules,
-    one_fits,
-    ready_settled,
-    enter_does,
-    settled_idle,
-    restart_keeps_memories,
-    restart_is_settled,
-  )
+  enter_fits m =
+      search (rules, one_fits, ready_settled, enter_does, settled_idle, restart_keeps_memories, restart_is_settled)
 
   pub leave_fits : (m : Memories) → IsRepeatable device (leave ∷ []) (HasMemories part m) (HasMemories part m)
   leave_fits m = search (rules, one_fits, leave_keeps, restart_keeps_memories)
-
-  pub sign_on_steady : (m : Memories) → IsRepeatable steady (SignOn ∷ []) (HasMemories part m) (HasMemories part m)
-  sign_on_steady m = search (rules, one_steady)
 
   pub enter_ready : (m : Memories) → IsRepeatable steady (enter ∷ []) (HasMemories part m) (Ready part m)
   enter_ready m = search (rules, one_steady, enter_does, ready_idle)

@@ -1,7 +1,7 @@
--- What each step gives from a settled programmer.
+-- The data of each step, and the memories after the first steps.
 pub mod LongerTape
 pub mod ReadReplies
 pub mod FirstSteps
-pub mod StepsGive
+pub mod EachStep
 pub mod WholeMemories
 pub mod Comparisons

@@ -47,20 +47,8 @@ further_used a n o body used e each = search rules
 pub used_within : (seq : ℕ) (pieces : List (List ℕ)) (body : List ℕ) (used : ℕ)
     → first_reply seq pieces ≡ Some (body, used) → used ≤ length (concat pieces)
 used_within seq [] body used e = absurd (none-some (body, used) e)
-used_within seq (piece ∷ pieces) body used e = elim (cases_Bool (is_reply seq piece)) [
-  | inl is_it ↦
-      let f : ◌≡◌ {A = Option (List ℕ × ℕ)} (Some (body_of piece, length piece)) (Some (body, used)) =
-      search (rules, cond-true) in
-      let p : ◌≡◌ {A = List ℕ × ℕ} (body_of piece, length piece) (body, used) = cc in
-      let g : length piece ≡ used = ap (λ x. x.1) p in
-      rw (length-append piece (concat pieces)) (omega arith)
-  | inr is_not ↦
-      let f : past_skipped (length piece) (first_reply seq pieces) ≡ Some (body, used) =
-      search (rules, cond-false) in
-      rw (length-append piece (concat pieces))
-      (further_used (length piece) (length (concat pieces)) (first_reply seq pieces) body used f
-      (λ b k g. used_within seq pieces b k g))
-]
+used_within seq (piece ∷ pieces) body used e =
+    search (rules, cases_Bool, cond-true, length-append, cond-false, further_used, used_within seq pieces)
 
 used_few : (seq : ℕ) (x body : List ℕ) (used : ℕ) → first_reply seq (cut x) ≡ Some (body, used) → used ≤ length x
 used_few seq x body used e =
@@ -77,11 +65,11 @@ stops_more : (seq : ℕ) (b : List ℕ) (tail u : Tape) (reading : Reading) (lef
     → answer seq ((on_tape b ++ tail) ++ u) ≡ Some (reading, left ++ u)
 stops_more seq b tail u reading left stops none few e = search (rules, append_assoc, reading_silent, reading_ended)
 
-given_more : (seq : ℕ) (t u : Tape) (o : Option (List ℕ × ℕ)) (reading : Reading) (left : Tape)
+reading_longer : (seq : ℕ) (t u : Tape) (o : Option (List ℕ × ℕ)) (reading : Reading) (left : Tape)
     → first_reply seq (cut (take reply_byte_limit (leading_bytes t))) ≡ o
     → reading_from_first o (take reply_byte_limit (leading_bytes t)) t ≡ Some (reading, left) → answer seq (t ++ u)
     ≡ Some (reading, left ++ u)
-given_more seq t u (Some (body, used)) reading left found e =
+reading_longer seq t u (Some (body, used)) reading left found e =
     let z = bytes_more t u in
     let y = take_more_bytes reply_byte_limit (leading_bytes t) z.0 in
     let x : List ℕ = take reply_byte_limit (leading_bytes t) in
@@ -94,7 +82,7 @@ given_more seq t u (Some (body, used)) reading left found e =
     (ap (first_reply seq) (cut_append x y.0)
     ∙ first_reply_stays seq (cut x) (cut (rest x ++ y.0)) (body, used) found)
     ∙ (search (rules, drop_more_tape)))
-given_more seq t u None reading left none e =
+reading_longer seq t u None reading left none e =
     let x : List ℕ = take reply_byte_limit (leading_bytes t) in
     let l : length x ≡ min reply_byte_limit (length (leading_bytes t)) =
     length-take reply_byte_limit (leading_bytes t) in
@@ -129,5 +117,5 @@ given_more seq t u None reading left none e =
 pub reading_extends : (seq : ℕ) (t u : Tape) (reading : Reading) (left : Tape) → answer seq t ≡ Some (reading, left)
     → answer seq (t ++ u) ≡ Some (reading, left ++ u)
 reading_extends seq t u reading left e =
-    given_more seq t u (first_reply seq (cut (take reply_byte_limit (leading_bytes t)))) reading left refl
+    reading_longer seq t u (first_reply seq (cut (take reply_byte_limit (leading_bytes t)))) reading left refl
     (sym (reads_by seq t (take reply_byte_limit (leading_bytes t)) refl) ∙ e)

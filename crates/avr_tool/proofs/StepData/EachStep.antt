@@ -1,4 +1,4 @@
--- What each step gives from a settled programmer: nothing, or the bytes of the memories.
+-- The data of each step from a settled programmer: none, or the bytes of the memories.
 use Rattle.std.proofs.Common.{◌≡◌, ℕ, ◌+◌, ◌*◌, ◌/◌, ◌%◌, ◌≤◌, ◌<◌, List, [], ◌∷◌, length, take, drop, ap, ◌∙◌, arith, inl, inr, ◌⊎◌, true, false, cond, drop-cons, length-append, rules}
 use Rattle.std.proofs.lemmas.Bool.{ne_eqb, eq-eqb, ltb-false, cond-true}
 use Rattle.std.proofs.lemmas.List.{length-take, length-drop, get_or-append_right, take-append-le, take_all}
@@ -30,20 +30,17 @@ use Rattle.avr_tool.proofs.WriteOperations.OutsideMode.{in_mode_by_data, load_re
 use Rattle.avr_tool.proofs.WriteOperations.Items.{effect_sizes, flash_even}
 
 module _ {P : Type 0} (m : Device P) where
-  one_gathered : (c : Command) (p : P) (bytes : List ℕ) → reply_to m c p ≡ Data bytes
+  joined_one : (c : Command) (p : P) (bytes : List ℕ) → reply_to m c p ≡ Data bytes
       → joined_reply m (c ∷ []) [] p ≡ Data bytes
-  one_gathered c p bytes e = ap (λ r. on_data r (λ b. Data b)) e
+  joined_one c p bytes e = ap (λ r. on_data r (λ b. Data b)) e
 
-  two_gathered : (c d : Command) (p : P) (bytes : List ℕ) → reply_to m c p ≡ Data []
+  joined_two : (c d : Command) (p : P) (bytes : List ℕ) → reply_to m c p ≡ Data []
       → reply_to m d (m.after (body c) p) ≡ Data bytes → joined_reply m (c ∷ d ∷ []) [] p ≡ Data bytes
-  two_gathered c d p bytes e f = search rules
+  joined_two c d p bytes e f = search rules
 
 in_mode_reply : (c : Command) (p : Programmer) (x y : programmer.Response) → p.mode ≡ true
     → reply_from_reading c (Replied (cond p.mode x y).0) ≡ reply_from_reading c (Replied x.0)
 in_mode_reply c p x y e = ap (λ (z : programmer.Response). reply_from_reading c (Replied z.0)) (cond-true p.mode x y e)
-
-fuse_reply : (f : Fuse) (v : ℕ) (p : Programmer) → p.mode ≡ true → reply_to device (program_fuse f v) p ≡ Data []
-fuse_reply f v p e = search rules
 
 flash_read_reply : (count : ℕ) (bytes : List ℕ) (p : Programmer) → p.mode ≡ true → 0 < count → count % 2 ≡ 0
     → count ≤ 256 → (flash_reads p.wide 0x20 p.address 0 count p.chip).0 ≡ bytes → length bytes ≡ count
@@ -62,11 +59,11 @@ module _ (part : Part) (sound : IsPart part) where
       → length (take count (drop start xs)) ≡ count
   block_length start count size xs long fits = let t = length-take count (drop start xs) in search (rules, length-drop)
 
-  flash_given : (start count : ℕ) (m : Memories) (p : Programmer) → IsBlock part Flash start count
+  flash_data : (start count : ℕ) (m : Memories) (p : Programmer) → IsBlock part Flash start count
       → AreWords start count → FitsPart part m → Ready part m p
       → joined_reply device (load_flash part start ∷ read_flash_block count ∷ []) [] p
       ≡ Data (data_of_step part (load_flash part start ∷ read_flash_block count ∷ []) m)
-  flash_given start count m p is_block words f s =
+  flash_data start count m p is_block words f s =
       let most = sound.flash_most in
       let few : start < 4294967296 = omega arith in
       let halves : start / 2 * 2 + 0 ≡ start = let e = words.start_even in omega arith in
@@ -80,16 +77,16 @@ module _ (part : Part) (sound : IsPart part) where
       let bytes = take count (drop start m.flash) in
       let is : (flash_reads (is_wide part) 0x20 (start / 2) 0 count p.chip).0 ≡ bytes =
       search rules in
-      two_gathered device (load_flash part start) (read_flash_block count) p
+      joined_two device (load_flash part start) (read_flash_block count) p
       (data_of_step part (load_flash part start ∷ read_flash_block count ∷ []) m)
       (load_reply (flash_address part start) p (address_fits part sound start few))
       (ap (reply_to device (read_flash_block count)) (flash_loaded_at part start p few)
       ∙ (search (rules, flash_read_reply, block_length, flash_address_back)))
 
-  eeprom_given : (start count : ℕ) (m : Memories) (p : Programmer) → IsBlock part Eeprom start count → FitsPart part m
+  eeprom_data : (start count : ℕ) (m : Memories) (p : Programmer) → IsBlock part Eeprom start count → FitsPart part m
       → Ready part m p → joined_reply device (load_eeprom start ∷ read_eeprom_block count ∷ []) [] p
       ≡ Data (data_of_step part (load_eeprom start ∷ read_eeprom_block count ∷ []) m)
-  eeprom_given start count m p is_block f s =
+  eeprom_data start count m p is_block f s =
       let inside = is_block.inside in
       let most = sound.eeprom_most in
       let q : Programmer = record p { address = start; wide = false } in
@@ -100,51 +97,31 @@ module _ (part : Part) (sound : IsPart part) where
       let bytes = take count (drop start m.eeprom) in
       let is : (eeprom_reads 0xA0 start 0 count p.chip).0 ≡ bytes =
       search rules in
-      two_gathered device (load_eeprom start) (read_eeprom_block count) p bytes
+      joined_two device (load_eeprom start) (read_eeprom_block count) p bytes
       (load_reply start p (omega arith))
       (ap (reply_to device (read_eeprom_block count)) (narrow_loaded start p (omega arith))
       ∙ eeprom_read_reply count bytes q s.mode is_block.some is_block.few is
       (block_length start count part.eeprom_size m.eeprom f.eeprom inside))
-
-  lock_given : (m : Memories) (p : Programmer) → Ready part m p
-      → reply_to device read_lock p ≡ Data (data_of_step part (read_lock ∷ []) m)
-  lock_given m p s = in_mode_reply read_lock p _ _ s.mode ∙ ap (λ (x : Memories). Data (x.lock ∷ [])) s.memories
-
-  signature_given : (place : ℕ) (m : Memories) (p : Programmer) → place < 3 → Ready part m p
-      → reply_to device (read_signature place) p ≡ Data (data_of_step part (read_signature place ∷ []) m)
-  signature_given place m p few s = search (rules, ne_eqb, drop-cons)
-
-  calibration_given : (m : Memories) (p : Programmer) → Ready part m p
-      → reply_to device read_calibration p ≡ Data (data_of_step part (read_calibration ∷ []) m)
-  calibration_given m p s = in_mode_reply read_calibration p _ _ s.mode
 
   as_written : (written commands : List Command) (m : Memories) (p : Programmer) → commands ≡ written
       → joined_reply device written [] p ≡ Data (data_of_step part written m)
       → joined_reply device commands [] p ≡ Data (data_of_step part commands m)
   as_written written commands m p e given = search rules
 
-  page_given : (number : ℕ) (bytes : List ℕ) (m : Memories) (p : Programmer) → IsPage part number bytes → Ready part m p
-      → joined_reply device (load_flash part (number * part.flash_page) ∷ program_page bytes ∷ []) [] p ≡ Data []
-  page_given number bytes m p is_page s = search (rules, page_most)
-
-  run_given : (address : ℕ) (bytes : List ℕ) (m : Memories) (p : Programmer) → FitsEepromPage part address bytes
-      → Ready part m p → joined_reply device (load_eeprom address ∷ program_eeprom_block bytes ∷ []) [] p ≡ Data []
-  run_given address bytes m p is_run s = search rules
-
   -- all commands of a step, each executed and replied to
   pub step_data : (commands : List Command) (m : Memories) (p : Programmer) → IsStep part commands → FitsPart part m
       → Ready part m p → joined_reply device commands [] p ≡ Data (data_of_step part commands m)
   step_data commands m p (Erases e) f s = search rules
-  step_data commands m p (ProgramsPage number bytes is_page e) f s = search (rules, as_written, page_given)
-  step_data commands m p (ProgramsEepromRun address bytes is_run e) f s = search (rules, as_written, run_given)
-  step_data commands m p (ProgramsFuse fuse v e) f s = search (rules, as_written, one_gathered, fuse_reply)
-  step_data commands m p (ProgramsLock v e) f s = search (rules, as_written, one_gathered, in_mode_reply)
-  step_data commands m p (ReadsFlash start count is_block words e) f s = search (rules, as_written, flash_given)
-  step_data commands m p (ReadsEeprom start count is_block e) f s = search (rules, as_written, eeprom_given)
+  step_data commands m p (ProgramsPage number bytes is_page e) f s = search (rules, as_written, page_most)
+  step_data commands m p (ProgramsEepromRun address bytes is_run e) f s = search (rules, as_written)
+  step_data commands m p (ProgramsFuse fuse v e) f s = search (rules, as_written, joined_one)
+  step_data commands m p (ProgramsLock v e) f s = search (rules, as_written, joined_one, in_mode_reply)
+  step_data commands m p (ReadsFlash start count is_block words e) f s = search (rules, as_written, flash_data)
+  step_data commands m p (ReadsEeprom start count is_block e) f s = search (rules, as_written, eeprom_data)
   step_data commands m p (ReadsFuse fuse e) f s = search rules
-  step_data commands m p (ReadsLock e) f s = search (rules, as_written, one_gathered, lock_given)
-  step_data commands m p (ReadsSignature place few e) f s = search (rules, as_written, one_gathered, signature_given)
-  step_data commands m p (ReadsCalibration e) f s = search (rules, as_written, one_gathered, calibration_given)
+  step_data commands m p (ReadsLock e) f s = search (rules, as_written, joined_one, in_mode_reply)
+  step_data commands m p (ReadsSignature place few e) f s = search (rules, as_written, joined_one, ne_eqb, drop-cons)
+  step_data commands m p (ReadsCalibration e) f s = search (rules, as_written, joined_one, in_mode_reply)
 
 -- a step keeps the sizes of the memories
 changed_sizes_by : (part : Part) (items : List Item) (m : Memories) → IsPart part → FitsPart part m
@@ -158,15 +135,15 @@ pub changed_sizes : (part : Part) (commands : List Command) (m : Memories) → I
 changed_sizes part commands m sound f = changed_sizes_by part (write_operation_of commands) m sound f
 
 module _ (part : Part) (sound : IsPart part) where
-  pub given_same : (commands : List Command) (m : Memories) → IsStep part commands
+  pub data_stays : (commands : List Command) (m : Memories) → IsStep part commands
       → data_of_step part commands (memories_after_step part commands m) ≡ data_of_step part commands m
-  given_same commands m c' = search rules
+  data_stays commands m is = search rules
 
   -- an attempt under either condition gives what the memories hold
-  pub gives_given : (commands : List Command) (m : Memories) (got : List ℕ) → IsStep part commands → FitsPart part m
+  pub data_of_attempt : (commands : List Command) (m : Memories) (got : List ℕ) → IsStep part commands → FitsPart part m
       → IsDataOfAttempt device commands (Settled part m) (Settled part (memories_after_step part commands m)) got
       → got ≡ data_of_step part commands m
-  gives_given commands m got is f g = search (rules, from_either)
+  data_of_attempt commands m got is f g = search (rules, from_either)
     where
       from_either : (q : Programmer) → Settled part m q ⊎ Settled part (memories_after_step part commands m) q
           → joined_reply device commands [] q ≡ Data got
@@ -175,4 +152,4 @@ module _ (part : Part) (sound : IsPart part) where
       from_either q (inr t) has =
           step_data part sound commands (memories_after_step part commands m) q is (changed_sizes part commands m sound
           f) (settled_ready part (memories_after_step part commands m) q (in_mode_by_data part sound commands q got is
-          has) t) ∙ ap Data (given_same commands m is)
+          has) t) ∙ ap Data (data_stays commands m is)
