@@ -39,7 +39,7 @@ class Renaming:
     def __init__(self, crate, file, old, new):
         folder, _, stem = file.rpartition("/")
         self.home = TOP / "crates" / crate / (folder or "specs") / f"{stem}.antt"
-        self.module = f"Rattle.{crate}.{folder or 'specs'}.{stem}"
+        self.module = f"Rattle.{crate}.{folder.replace('/', '.') or 'specs'}.{stem}"
         self.old, self.new = old, new
 
     def names_in(self, text):
