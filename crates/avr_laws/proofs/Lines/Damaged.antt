@@ -21,7 +21,7 @@ use Rattle.avr_tool.specs.Authentic.{first_execution, later_executions, on_readi
 use Rattle.avr_laws.specs.AnyTape.{adding_received, received_frames, good_frames, ReceivedSentFrames, executions_by_arrival}
 use Rattle.avr_laws.specs.NoForgedFrame.{frame_of_reply, IsAmongFirst, IsNotForged, AreNotForged, ForgesNoFrame}
 use Rattle.avr_laws.specs.Damaged.{DifferInOne, IsDamaged, Arrived, Arrival, FrameArrives, PauseArrives, EndArrives, tape_of_arrivals, frames_before_pause, IsReplyOfFirst, IsSomeRefusal, AreRecentReplies, bytes_up_to_reply, first_reading, IfRead, BringsReplies}
-use Rattle.avr_laws.proofs.Lines.NoForgedFrame.{alone}
+use Rattle.avr_laws.proofs.Lines.NoForgedFrame.{without_restart}
 
 -- ---- a damaged frame has its length, and a wrong XOR
 
@@ -108,22 +108,22 @@ came_by : (piece more got : List ℕ) → IsPiece piece → got ≡ piece ++ mor
 came_by piece more got whole e = ap frames e ∙ ap (filter is_frame) (cut_first piece more whole)
 
 good_arrived : (sent : List (List ℕ)) (through : List Bool) (got : List ℕ) → All IsPiece sent → All IsGood sent
-    → Arrived sent through got → received_frames (executions_by_arrival through) sent ≡ alone (good_frames got)
-good_arrived [] [] got whole good e = ap (λ (g : List ℕ). alone (good_frames g)) (sym e)
-good_arrived [] (true ∷ through) got whole good e = ap (λ (g : List ℕ). alone (good_frames g)) (sym e)
-good_arrived [] (false ∷ through) got whole good e = ap (λ (g : List ℕ). alone (good_frames g)) (sym e)
-good_arrived (piece ∷ sent) [] got whole good e = ap (λ (g : List ℕ). alone (good_frames g)) (sym e)
+    → Arrived sent through got → received_frames (executions_by_arrival through) sent ≡ without_restart (good_frames got)
+good_arrived [] [] got whole good e = ap (λ (g : List ℕ). without_restart (good_frames g)) (sym e)
+good_arrived [] (true ∷ through) got whole good e = ap (λ (g : List ℕ). without_restart (good_frames g)) (sym e)
+good_arrived [] (false ∷ through) got whole good e = ap (λ (g : List ℕ). without_restart (good_frames g)) (sym e)
+good_arrived (piece ∷ sent) [] got whole good e = ap (λ (g : List ℕ). without_restart (good_frames g)) (sym e)
 good_arrived (piece ∷ sent) (true ∷ through) got whole good (more, e, later) =
     ap (adding_received Executed piece) (good_arrived sent through more (All-tail IsPiece piece sent whole)
     (All-tail IsGood piece sent good) later)
-    ∙ ap alone (sym (ap (filter is_good) (came_by piece more got (All-head IsPiece piece sent whole) e)
+    ∙ ap without_restart (sym (ap (filter is_good) (came_by piece more got (All-head IsPiece piece sent whole) e)
     ∙ good_kept piece (cut more) (All-head IsGood piece sent good)))
 good_arrived (piece ∷ sent) (false ∷ through) got whole good (inl later) =
     good_arrived sent through got (All-tail IsPiece piece sent whole) (All-tail IsGood piece sent good) later
 good_arrived (piece ∷ sent) (false ∷ through) got whole good (inr (came, more, e, d, later)) =
     let bad = damaged piece came (All-head IsPiece piece sent whole) (All-head IsGood piece sent good) d in
     good_arrived sent through more (All-tail IsPiece piece sent whole) (All-tail IsGood piece sent good) later
-    ∙ ap alone (sym (ap (filter is_good) (came_by came more got bad.0 e) ∙ bad_dropped came (cut more) bad.1))
+    ∙ ap without_restart (sym (ap (filter is_good) (came_by came more got bad.0 e) ∙ bad_dropped came (cut more) bad.1))
 
 pub arrived_came : (sent : List (List ℕ)) (through : List Bool) (got : List ℕ) → All IsPiece sent → All IsGood sent
     → Arrived sent through got → ReceivedSentFrames got [] sent (executions_by_arrival through)

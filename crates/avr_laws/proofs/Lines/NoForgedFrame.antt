@@ -151,11 +151,11 @@ module _ {P : Type 0} (m : Device P) where
 
 -- ---- a programmer that got a prefix of the bytes sent, as over a link that keeps their order
 
-abbrev pub alone : List (List ℕ) → FramesByRestart
-alone got = (got, [])
+abbrev pub without_restart : List (List ℕ) → FramesByRestart
+without_restart got = (got, [])
 
 all_through : (xs ys : List (List ℕ))
-    → received_frames (executions_by_arrival (replicate (length xs) true)) (xs ++ ys) ≡ alone xs
+    → received_frames (executions_by_arrival (replicate (length xs) true)) (xs ++ ys) ≡ without_restart xs
 all_through [] ys = refl
 all_through (x ∷ xs) ys = ap (adding_received Executed x) (all_through xs ys)
 
@@ -185,5 +185,6 @@ pub prefix_came : (got : List ℕ) (sent others : List (List ℕ)) → sent ≡ 
 prefix_came got sent others is good = record {
   good = ap (received_frames (executions_by_arrival (replicate (length (frames got)) true))) is
       ∙ (all_through (frames got) others
-      ∙ ap alone (sym (all_good (frames got) others (subst (λ (s : List (List ℕ)). filter is_good s ≡ s) is good))));
+      ∙ ap without_restart (sym (all_good (frames got) others (subst (λ (s : List (List ℕ)). filter is_good s ≡ s) is
+      good))));
 }

@@ -112,9 +112,9 @@ abbrev name_in : Option (Bytes × Option Bytes) → Bytes
 name_in None = []
 name_in (Some held) = held.0
 
-abbrev found_in : Option (Bytes × Option Bytes) → Option Bytes
-found_in None = None
-found_in (Some held) = held.1
+abbrev was_in : Option (Bytes × Option Bytes) → Option Bytes
+was_in None = None
+was_in (Some held) = held.1
 
 -- A run in this model: its moments, the places where another file is mounted, the files that others hold, and the
 -- errors of calls that were to hold a file.
@@ -513,7 +513,7 @@ module _ (run : Run) where
       → (error_kind error ≡ ErrorKind.NotFound → (s.at.held ≡ Some (held, None)) × (s.at.now held ≡ None))
       → OpenSeenClauses (from_to s s) (is_now held) (Err error)
   open_seen_fails s held error was absent = record {
-    named = λ kind. (s.at, was, (absent kind).1, λ before is. ap found_in (sym is ∙ (absent kind).0));
+    named = λ kind. (s.at, was, (absent kind).1, λ before is. ap was_in (sym is ∙ (absent kind).0));
     opens = λ done is. is;
     keeps = λ other found may. may;
   }
@@ -544,7 +544,7 @@ module _ (run : Run) where
   place_new_met : (s : System) (file : NewFile) → run.happened s.at → finds_seen_and_new s None file
       → PlaceNewClauses (from_to s (placed file s)) (is_now file.place) file (Ok file)
   place_new_met s file was finds = record {
-    only = (s.at, was, finds.1, λ before is. ap found_in (sym is ∙ finds.0));
+    only = (s.at, was, finds.1, λ before is. ap was_in (sym is ∙ finds.0));
     whole = placed_whole s file;
     placed = placed_there s file;
     stays = λ done is. is;

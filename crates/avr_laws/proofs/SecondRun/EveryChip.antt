@@ -22,16 +22,16 @@ use Rattle.avr_laws.proofs.Plans.Items.{plan_agrees}
 
 -- ---- bytes: if two agree, the third agrees with them
 
-abbrev Third : ℕ → ℕ → ℕ → Type 0
-Third z o m = z ≡ o → m ≡ z
+abbrev ThirdAgrees : ℕ → ℕ → ℕ → Type 0
+ThirdAgrees z o m = z ≡ o → m ≡ z
 
-abbrev Thirds : List ℕ → List ℕ → List ℕ → Type 0
-Thirds [] [] [] = ⊤
-Thirds (z ∷ zs) (o ∷ os) (m ∷ ms) = Third z o m × Thirds zs os ms
-Thirds zs os ms = ⊥
+abbrev EachThirdAgrees : List ℕ → List ℕ → List ℕ → Type 0
+EachThirdAgrees [] [] [] = ⊤
+EachThirdAgrees (z ∷ zs) (o ∷ os) (m ∷ ms) = ThirdAgrees z o m × EachThirdAgrees zs os ms
+EachThirdAgrees zs os ms = ⊥
 
-thirds_laid : (image : Image) (zs os ms : List ℕ) → Thirds zs os ms
-    → Thirds (with_image image zs) (with_image image os) (with_image image ms)
+thirds_laid : (image : Image) (zs os ms : List ℕ) → EachThirdAgrees zs os ms
+    → EachThirdAgrees (with_image image zs) (with_image image os) (with_image image ms)
 thirds_laid image [] [] [] t = tt
 thirds_laid [] (z ∷ zs) (o ∷ os) (m ∷ ms) t = t
 thirds_laid (b ∷ image) (z ∷ zs) (o ∷ os) (m ∷ ms) t = ((search rules), thirds_laid image zs os ms t.1)
@@ -40,9 +40,9 @@ thirds_laid image zs os ms t = absurd t
 record At (zs os ms : List ℕ) (i : ℕ) : Type 0 where
   in_zeros : i < length zs
   in_ones : i < length os
-  is : Third (get_or zs i 0) (get_or os i 0) (get_or ms i 0)
+  is : ThirdAgrees (get_or zs i 0) (get_or os i 0) (get_or ms i 0)
 
-third_at : (zs os ms : List ℕ) (i : ℕ) → Thirds zs os ms → i < length ms → At zs os ms i
+third_at : (zs os ms : List ℕ) (i : ℕ) → EachThirdAgrees zs os ms → i < length ms → At zs os ms i
 third_at (z ∷ zs) (o ∷ os) (m ∷ ms) zero t l = record { in_zeros = omega arith; in_ones = omega arith; is = t.0 }
 third_at (z ∷ zs) (o ∷ os) (m ∷ ms) (suc i) t l = search (rules, third_at zs os ms i t.1 (omega (arith, l)))
 third_at [] [] [] i t l = absurd (omega (arith, l))
@@ -53,7 +53,7 @@ third_at zs os ms i t l = absurd t
 -- a memory that keeps zeros is the same in all three
 abbrev Alike : Bool → List ℕ → List ℕ → List ℕ → Type 0
 Alike true zs os ms = (os ≡ zs) × (ms ≡ zs)
-Alike false zs os ms = Thirds zs os ms
+Alike false zs os ms = EachThirdAgrees zs os ms
 
 alike_holds : (zeros : Bool) (image : Image) (zs os ms : List ℕ) → Alike zeros zs os ms → HoldsImage image zs
     → HoldsImage image os → HoldsImage image ms
@@ -114,7 +114,7 @@ module _ (part : Part) where
 
   -- ---- after an erase
 
-  any_third : (n : ℕ) (ms : List ℕ) → length ms ≡ n → Thirds (replicate n 0) (replicate n 255) ms
+  any_third : (n : ℕ) (ms : List ℕ) → length ms ≡ n → EachThirdAgrees (replicate n 0) (replicate n 255) ms
   any_third zero [] e = tt
   any_third (suc n) (m ∷ ms) e = search (rules, any_third n ms (omega (arith, e)))
   any_third n ms e = absurd (omega (arith, e))
