@@ -98,8 +98,8 @@ run_is part e s is =
         >>= (λ streams. Ok (settings_with part e port updates))))) ≡ Ok s → EntriesGive part e s
     by_results (Err fault) port updates from_programmer from_port from_updates is = absurd (cc is)
     by_results (Ok unit) (Err fault) updates from_programmer from_port from_updates is = absurd (cc is)
-    by_results (Ok unit) (Ok port) (Err fault) p q r is = absurd (cc is)
-    by_results (Ok unit) (Ok port) (Ok updates) p q r is =
+    by_results (Ok unit) (Ok port) (Err fault) from_programmer from_port from_updates is = absurd (cc is)
+    by_results (Ok unit) (Ok port) (Ok updates) from_programmer from_port from_updates is =
         let all = by_streams port updates (checked_streams port updates e.parts e.chip) is in
         search rules
 

@@ -16,6 +16,7 @@ use Rattle.avr_tool.proofs.Bounds.Weights.{WeighsAtMost, weighed_append, session
 abbrev one : Weight
 one bytes = 1
 
+-- commands weigh as much as there are
 commands_weigh : (commands : List Command) → total_weight one (map body commands) ≡ length commands
 commands_weigh [] = omega arith
 commands_weigh (command ∷ commands) = let more = commands_weigh commands in omega (arith, more)
@@ -24,6 +25,7 @@ steps_weigh : (steps : List (List Command)) → total_weight one (bodies_in step
 steps_weigh [] = omega arith
 steps_weigh (commands ∷ steps) = search (rules, commands_weigh, weighed_append, steps_weigh steps)
 
+-- a dialog whose bodies weigh at most `n` asks at most `n` commands
 asks_weighed : {E R : Type 0} (n : ℕ) (d : Dialog E R) → WeighsAtMost one n d → AsksAtMost n d
 asks_weighed n (Done r) f = tt
 asks_weighed n (Emit e d) f = asks_weighed n d f.1

@@ -23,6 +23,7 @@ module _ {P : Type 0} (m : Device P) where
   GoesAlong d k sent p executions =
       (exchanges : List Exchange) × ((state_after m k d p exchanges).programmer ≡ after_sent_frames m sent executions p)
 
+  -- without a further command the programmer stays as it is
   not_asked : {E R : Type 0} (d : Dialog E R) (p : P) (exchanges : List Exchange)
       → (state_after m 0 d p exchanges).programmer ≡ p
   not_asked (Emit e d) p exchanges = not_asked d p exchanges
@@ -49,6 +50,7 @@ module _ {P : Type 0} (m : Device P) where
     arrives : on_time ≡ after_execution execution (after_frame m (frame n bytes) p) p m.reset
     arrives = ap (λ (q : P). after_execution execution q p m.reset) (sym executed)
 
+    -- by what is read for the first command
     by_answer : (o : Option (Reading × Tape)) → answer n tape ≡ o → k ≤ length (rest o)
         → ((reading : Reading) (left : Tape) → k ≤ length (frames_in (played (go_on reading) (next n) left).events)
         → NoneForged m (take k (frames_in (played (go_on reading) (next n) left).events)) left on_time
