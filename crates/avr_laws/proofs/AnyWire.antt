@@ -42,13 +42,13 @@ pub authentic_received : {E R : Type 0} (d : Dialog E R) (n : ℕ) (p : Programm
 authentic_received d n p fates w asks lawful keeps exchanges prefix =
     let events = (played d n (heard w.transcript)).events in
     let executions = executions_of_fates (length (frames_in events)) fates in
-    let some = frames_prefix events (sent w.transcript) prefix.0 (sends_whole d n (heard w.transcript) asks) prefix.1 in
-    let le : length (frames (sent w.transcript)) ≤ length (frames_in events) =
-    let all = ap length some.1 in omega (arith, all, length-append (frames (sent w.transcript)) some.0) in
+    let rest = frames_prefix events (sent w.transcript) prefix.0 (sends_whole d n (heard w.transcript) asks) prefix.1 in
+    let within : length (frames (sent w.transcript)) ≤ length (frames_in events) =
+    let all = ap length rest.1 in omega (arith, all, length-append (frames (sent w.transcript)) rest.0) in
     let brings = keeps.brings (never_idle d n p fates w.transcript asks lawful exchanges) in
     authentic_prefix device d n (heard w.transcript) w.waits p executions
     (subst (λ (t : Tape). RepliesAreAuthentic device d n t p executions) brings
-    ((goes_along d n p fates w asks lawful keeps exchanges prefix).is_authentic (length (frames_in events)) le))
+    ((goes_along d n p fates w asks lawful keeps exchanges prefix).is_authentic (length (frames_in events)) within))
 
 module _ (plan : Plan) (w v : WiredState) (fresh : IsFresh w) (stays : Preserves ComesOf w v)
     (is_sound : IsSoundChip w.wire.programmer.chip)
@@ -89,8 +89,8 @@ emulated_wire r =
     over_any_wire r.plan (new_wire r.chip []) r.after (search rules) r.comes r.sound r.part r.fitted r.loaded_desk
     r.played_desk r.session_status r.runs
 
-one_no : ◌≡◌ {A = ℕ} 1 0 → ⊥
-one_no e = cc
+one_is_not_zero : ◌≡◌ {A = ℕ} 1 0 → ⊥
+one_is_not_zero e = cc
 
 -- a session with status 0, and one that sent no frame
 module _ (plan : Plan) (w v : WiredState) (d e : DeskState) (status : ℕ) (over : SessionOverWire plan w v d e status)
@@ -98,10 +98,12 @@ module _ (plan : Plan) (w v : WiredState) (d e : DeskState) (status : ℕ) (over
     abbrev emitted : List OutputEvent
     emitted = outputs (events_over plan v)
 
+    -- with status 0 the session came to its end
     pub came_to : status ≡ 0 → EndsOverExchanges plan (memories w) (memories v) (exchanges_of_fates w.wire.fates)
         emitted status × ChangesRecord (after_events emitted) d e
-    came_to zero = elim over.end [ inl came ↦ came | inr broke ↦ absurd (one_no (sym broke.1 ∙ zero)) ]
+    came_to zero = elim over.end [ inl came ↦ came | inr broke ↦ absurd (one_is_not_zero (sym broke.1 ∙ zero)) ]
 
+    -- a session that sent no frame left the memories
     pub untouched : frames (sent v.transcript) ≡ [] → memories v ≡ memories w
     untouched none = search rules
 
