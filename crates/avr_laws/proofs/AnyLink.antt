@@ -61,7 +61,8 @@ module _ (plan : Plan) (begun : Programmer) (is_sound : IsSoundChip begun.chip) 
 
       programmer_there : after_sent_frames device (frames bytes) executions begun
           ≡ (state_after device count (session plan) begun exchanges).programmer
-      programmer_there = sym (goes_along.programmer count within ∙ ap (λ fs. after_sent_frames device fs executions begun) first_frames)
+      programmer_there = sym (goes_along.programmer count within
+          ∙ ap (λ fs. after_sent_frames device fs executions begun) first_frames)
 
       pub over_any_end : ReportsOverExchanges plan begun (after_sent_frames device (frames bytes) executions begun)
           exchanges bytes events_played

@@ -32,6 +32,7 @@ use Rattle.avr_laws.specs.KeptByPort.{KeepsPlan}
 abbrev NoneOpened : List OutputEvent → Type 0
 NoneOpened output_events = openings_in output_events ≡ []
 
+-- the output of each action opens none
 opening_none : (quiet : ℕ) (part : Part) (outcome : Result Bytes HostFault)
     → NoneOpened (opening_output quiet part outcome)
 opening_none quiet part outcome = search (rules, openings_joined)
@@ -54,24 +55,29 @@ OpensNone (Emit (Opens opening) dialog) = ⊥
 OpensNone (Emit event dialog) = OpensNone dialog
 OpensNone {R = R} (Ask body resume) = (reading : Reading) → OpensNone (resume reading)
 
-bound : {A R : Type 0} (dialog : Dialog OutputEvent A) (go_on : A → Dialog OutputEvent R) → OpensNone dialog
+-- nor do dialogs one after the other
+opens_none_bind : {A R : Type 0} (dialog : Dialog OutputEvent A) (go_on : A → Dialog OutputEvent R) → OpensNone dialog
     → ((a : A) → OpensNone (go_on a)) → OpensNone (dialog >>= go_on)
-bound (Done a) go_on opens more = more a
-bound (Emit (Opens opening) dialog) go_on opens more = absurd opens
-bound (Emit event dialog) go_on opens more = bound dialog go_on opens more
-bound (Ask body resume) go_on opens more = λ reading. bound (resume reading) go_on (opens reading) more
+opens_none_bind (Done a) go_on opens more = more a
+opens_none_bind (Emit (Opens opening) dialog) go_on opens more = absurd opens
+opens_none_bind (Emit event dialog) go_on opens more = opens_none_bind dialog go_on opens more
+opens_none_bind (Ask body resume) go_on opens more =
+    λ reading. opens_none_bind (resume reading) go_on (opens reading) more
 
-silent : {R : Type 0} (dialog : Dialog ⊥ R) → OpensNone (lifted dialog)
-silent (Done r) = tt
-silent (Emit e dialog) = absurd e
-silent (Ask body resume) = λ reading. silent (resume reading)
+-- nor does a dialog that puts nothing out
+opens_none_lifted : {R : Type 0} (dialog : Dialog ⊥ R) → OpensNone (lifted dialog)
+opens_none_lifted (Done r) = tt
+opens_none_lifted (Emit e dialog) = absurd e
+opens_none_lifted (Ask body resume) = λ reading. opens_none_lifted (resume reading)
 
-emitted : {R : Type 0} (output_events : List OutputEvent) (dialog : Dialog OutputEvent R)
+-- nor does output before a dialog
+opens_none_emits : {R : Type 0} (output_events : List OutputEvent) (dialog : Dialog OutputEvent R)
     → openings_in output_events ≡ [] → OpensNone dialog → OpensNone (emits output_events dialog)
-emitted [] dialog opens more = more
-emitted (Opens opening ∷ output_events) dialog opens more = absurd (cc opens)
-emitted (event ∷ output_events) dialog opens more = emitted output_events dialog opens more
+opens_none_emits [] dialog opens more = more
+opens_none_emits (Opens opening ∷ output_events) dialog opens more = absurd (cc opens)
+opens_none_emits (event ∷ output_events) dialog opens more = opens_none_emits output_events dialog opens more
 
+-- so a run of such a dialog opens none
 played_none : {R : Type 0} (dialog : Dialog OutputEvent R) (seq : ℕ) (tape : Tape) → OpensNone dialog
     → openings_in (outputs (played dialog seq tape).events) ≡ []
 played_none (Done r) seq tape opens = refl
@@ -86,30 +92,35 @@ played_none (Ask body resume) seq tape opens =
 
 -- ---- a session
 
+-- an operation that is reported
 reported_none : {A : Type 0} (operation : Dialog ⊥ (Result A HostFault))
     (outcome_output : Result A HostFault → List OutputEvent)
     → ((outcome : Result A HostFault) → NoneOpened (outcome_output outcome))
     → OpensNone (reported operation outcome_output)
-reported_none operation outcome_output each = search (rules, bound, silent, emitted)
+reported_none operation outcome_output each = search (rules, opens_none_bind, opens_none_lifted, opens_none_emits)
 
+-- a dialog that a fault leaves out
 unless_none : (dialog : Dialog OutputEvent Standing) → OpensNone dialog → (before : Standing)
     → OpensNone (unless_fault dialog before)
 unless_none dialog opens before = search rules
 
 module _ (part : Part) (s : Switches) where
+  -- each action
   action_none : (action : Action) → OpensNone (action_dialog part s action)
-  action_none action = search (rules, reported_none, opening_none, bytes_none, read_none, emitted, skipped_none)
+  action_none action =
+      search (rules, reported_none, opening_none, bytes_none, read_none, opens_none_emits, skipped_none)
 
   actions_none : (all : List Action) → OpensNone (actions_dialog part s all)
   actions_none [] = tt
-  actions_none (action ∷ all) = search (rules, bound, unless_none, action_none, actions_none all)
+  actions_none (action ∷ all) = search (rules, opens_none_bind, unless_none, action_none, actions_none all)
 
   ending_none : (before : Standing) → OpensNone (ending part s before)
-  ending_none before = search (rules, reported_none, bound)
+  ending_none before = search (rules, reported_none, opens_none_bind)
 
+-- a session
 session_none : (plan : Plan) → OpensNone (session plan)
 unfolding session
-session_none plan = search (rules, bound, actions_none, ending_none)
+session_none plan = search (rules, opens_none_bind, actions_none, ending_none)
 
 pub session_opens_none : (plan : Plan) (seq : ℕ) (tape : Tape)
     → openings_in (outputs (played (session plan) seq tape).events) ≡ []
@@ -117,14 +128,17 @@ session_opens_none plan seq tape = played_none (session plan) seq tape (session_
 
 -- ---- nor does a prefix of it
 
+-- if a list is empty, its first part is
 front_none : (xs ys : List Opening) → xs ++ ys ≡ [] → xs ≡ []
 front_none [] ys is = refl
 front_none (x ∷ xs) ys is = absurd (cc is)
 
+-- an event that broke off opens nothing
 begun_none : (begun later : List (Event OutputEvent)) → IsPartOfFirst IsPartOfEvent begun later
     → openings_in (outputs begun) ≡ []
 begun_none begun later part = search rules
 
+-- nor does a prefix of events
 prefix_none : (shown events : List (Event OutputEvent)) → IsPrefixOfEvents IsPartOfEvent shown events
     → openings_in (outputs events) ≡ [] → openings_in (outputs shown) ≡ []
 prefix_none shown events prefix opens =
@@ -166,6 +180,7 @@ run_keeps s plan openings tape old new output_events IsSo made are kept so = (
   so,
 )
 
+-- so it is with a session, whole or not
 pub session_keeps : (s : Settings) (x y : Devices) (status : ℕ) (IsSo : Plan → Type 0)
     (with : WithPlan s x.desk (λ plan desk. RunsSession plan (devices x.link desk) y status)) → IsSo with.plan
     → KeepsPlan s x.desk.kept y.desk.kept [] IsSo

@@ -58,6 +58,7 @@ module _ (plan : Plan) (part : Part) (sound : IsPart part) (fits : HasGeometryOf
 
 module _ {P : Type 0} (part : Part) (m : Device P) (view : P → Memories) (IsIn IsReady : P → Type 0)
     (becomes : Mem → ℕ → ℕ) where
+  -- so it is if the second run starts where the first one ended
   pub as_one_by_any : (plan : Plan) (first second : Transcript) (old now : Record) (p q : P)
       → IsBegunByAny part m view IsIn IsReady becomes plan first
       → IsKeptByAny part m view IsIn IsReady becomes plan second old now
@@ -106,6 +107,7 @@ module _ (plan : Plan) (first second : Transcript) (old now : Record) (p q : Pro
     abbrev after : Memories
     after = memories_of (after_sent_frames device (frames (sent second)) others q).chip
 
+    -- the second run kept its plan
     there : KeepsOnPart p.chip.part plan (memories_of q.chip) after old now
     there = search rules
 
@@ -113,6 +115,7 @@ module _ (plan : Plan) (first second : Transcript) (old now : Record) (p q : Pro
     are_alike : AreAlike (session plan) (session its_plan)
     are_alike = session_alike plan p.chip.part fits there.signature
 
+    -- what the first run left
     ended : ReportsOverExchanges its_plan p (after_sent_frames device (frames (sent first)) executions p)
         (exchanges_on_tape (session its_plan) 1 (heard first) executions) (sent first)
         (played (session its_plan) 1 (heard first)).events
