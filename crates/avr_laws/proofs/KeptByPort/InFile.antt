@@ -29,7 +29,7 @@ use Rattle.avr_laws.proofs.Held.Chip.{IsReadFrom, in_file, memories_in_file}
 use Rattle.avr_laws.proofs.Outcomes.ByTasks.{made_by_tasks, tasks_agree}
 use Rattle.avr_laws.proofs.Outcomes.Saved.{WritesFiles, expected_writes, reading_writes, these_saved}
 use Rattle.avr_laws.proofs.Outcomes.Openings.{session_opens_none}
-use Rattle.avr_laws.proofs.Plans.Given.{opened_by_uses, since, went_asked}
+use Rattle.avr_laws.proofs.Plans.Given.{opened_by_uses, openings_since, went_asked}
 use Rattle.avr_laws.proofs.Plans.OnlyReading.{only_reads}
 use Rattle.avr_laws.specs.ChipFound.{IsChipInFile}
 use Rattle.avr_laws.specs.FilesRead.{read_whole}
@@ -136,7 +136,7 @@ module _ (settings : Settings) (file : Bytes) (old new : DeskState) (r : RunsOve
       ∙ (ap (λ (k : Record). all_openings k ++ opening ∷ []) r.loaded.held.0
       ∙ (ap (λ (o : Opening). all_openings r.planned_desk.kept ++ o ∷ []) opening_read.1.0
       ∙ (ap (λ (os : List Opening). os ++ read_whole file opening_read.0 ∷ [])
-      (since old r.planned_desk r.made.output_events r.made.kept)
+      (openings_since old r.planned_desk r.made.output_events r.made.kept)
       ∙ append_assoc (all_openings old.kept) plan_files (read_whole file opening_read.0 ∷ [])))))))))))
 
   -- ---- the files that memories were read into

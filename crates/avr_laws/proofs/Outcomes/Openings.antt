@@ -24,7 +24,7 @@ use Rattle.stk_host.specs.Play.{IsPartOfFirst, IsPrefixOfEvents}
 use Rattle.stk_host.specs.Tape.{Reading, Tape, answer, on_tape}
 use Rattle.stk_host.specs.Transcript.{heard}
 use Rattle.stk_host.specs.declared.fault.HostFault.{HostFault}
-use Rattle.avr_laws.proofs.Plans.Given.{desk_asked, opened_by_uses, openings_joined, since, went_asked}
+use Rattle.avr_laws.proofs.Plans.Given.{desk_asked, opened_by_uses, openings_joined, openings_since, went_asked}
 use Rattle.avr_laws.specs.KeptByPort.{KeepsPlan}
 
 -- ---- output that opens no file
@@ -149,7 +149,7 @@ session_opened : (plan : Plan) (old new : Devices) (status : ℕ) → RunsSessio
     → all_openings new.desk.kept ≡ all_openings old.desk.kept
 session_opened plan old new status (inl (after, ran)) =
     let none = session_opens_none plan start.next (on_tape start.unread ++ (heard ran.during ++ [])) in
-    search (rules, since old.desk new.desk (outputs ran.events) ran.kept, ran.plays.plays [], none, append-nil)
+    search (rules, openings_since old.desk new.desk (outputs ran.events) ran.kept, ran.plays.plays [], none, append-nil)
 session_opened plan old new status (inr (broke, one)) = search (
   rules,
   prefix_none,
@@ -175,7 +175,7 @@ run_keeps s plan openings tape old new output_events IsSo made are kept so = (
   plan,
   openings_in (planned s openings).output_events,
   opened_by_uses old.kept new.kept (openings_in (planned s openings).output_events ++ [])
-      (search (rules, since old new output_events kept, openings_joined, session_opens_none)),
+      (search (rules, openings_since old new output_events kept, openings_joined, session_opens_none)),
   desk_asked s openings plan made,
   so,
 )
@@ -185,7 +185,7 @@ pub session_keeps : (s : Settings) (x y : Devices) (status : ℕ) (IsSo : Plan �
     (with : WithPlan s x.desk (λ plan desk. RunsSession plan (devices x.link desk) y status)) → IsSo with.plan
     → KeepsPlan s x.desk.kept y.desk.kept [] IsSo
 session_keeps s x y status IsSo with so =
-    let first = since x.desk with.between with.made.output_events with.made.kept in
+    let first = openings_since x.desk with.between with.made.output_events with.made.kept in
     let later = session_opened with.plan (devices x.link with.between) y status with.then_is in
     let asked = went_asked s with.plan x.desk with.between with.made in search (
       rules,

@@ -42,6 +42,7 @@ ReadsAction Reads (SaveMemory mem format file) = Reads mem
 ReadsAction Reads (SkipAction what) = Unit {0}
 ReadsAction Reads action = ⊥
 
+-- actions that write nothing leave the memories
 only_reads : (Reads : Mem → Type 0) (part : Part) (actions : List Action) (x : Memories)
     → Each (ReadsAction Reads) actions → effects part (actions_items actions) x ≡ x
 only_reads Reads part [] x each = refl
@@ -52,6 +53,7 @@ only_reads Reads part (OpenSession ∷ actions) x each = absurd each.0
 only_reads Reads part (EraseChip ∷ actions) x each = absurd each.0
 only_reads Reads part (WriteImage mem image ∷ actions) x each = absurd each.0
 
+-- status 0 means no fault
 succeeded : (at : Standing) → status_of at ≡ 0 → at ≡ NoFault
 succeeded at e = grind arith
 
@@ -77,6 +79,7 @@ module _ {part : Part} (sound : IsPart part) (real : Real part) (IsIn : real.P �
   executed Executed bytes p i = t.executed bytes p i
   executed (ThenRestarted execution) bytes p i = t.restarted _ (executed execution bytes p i)
 
+  -- by an exchange
   exchanged : (one : Exchange) (bytes : List ℕ) (p : real.P) → IsIn p
       → IsIn (after_exchange one (m.after bytes p) p m.reset)
   exchanged AsIntended bytes p i = t.executed bytes p i
@@ -100,6 +103,7 @@ module _ {part : Part} (sound : IsPart part) (real : Real part) (IsIn : real.P �
 
     -- ---- actions that only read
 
+    -- whatever actions put out
     anything : (actions : List Action) (x : Memories) → ActionsTrue part real s Anything actions x
     anything [] x = tt
     anything (action ∷ actions) x = (
@@ -111,9 +115,10 @@ module _ {part : Part} (sound : IsPart part) (real : Real part) (IsIn : real.P �
       abbrev RestAgrees : Memories → Type 0
       RestAgrees x = EachComparisonAgrees part rest x
 
-      found : (x : Memories) (at : Standing) (emitted : List OutputEvent) (y : Spot real.P)
+      -- after actions that only read, without a fault, their comparisons agree
+      rest_found : (x : Memories) (at : Standing) (emitted : List OutputEvent) (y : Spot real.P)
           → After part real s (λ x z. Settled real x z.0) ⊤ rest x at emitted y → Then RestAgrees at y
-      found x at emitted y (rests, inl own) = (
+      rest_found x at emitted y (rests, inl own) = (
         t.is_in _ y.0 rests.stands,
         λ fine.
             let agreement = agrees_for_actions part s rest x in
@@ -122,10 +127,11 @@ module _ {part : Part} (sound : IsPart part) (real : Real part) (IsIn : real.P �
             subst RestAgrees (sym (has ∙ (agreement.memories no_fault ∙ only_reads Reads part rest x reads)))
             (agreement.if_fine no_fault),
       )
-      found x at emitted y (rests, inr broken) = (t.is_in _ y.0 rests.stands, λ fine. absurd (broken.faulty fine))
+      rest_found x at emitted y (rests, inr broken) = (t.is_in _ y.0 rests.stands, λ fine. absurd (broken.faulty fine))
 
+      -- so it is with their dialog
       rest_goes : (y : Spot real.P) → IsIn y.0 → Goes (Then RestAgrees) (actions_dialog part s rest) y
-      rest_goes y i = prints_wider m Anything (λ emitted z now. tt) (found (real.memories y.0))
+      rest_goes y i = prints_wider m Anything (λ emitted z now. tt) (rest_found (real.memories y.0))
           (goes_actions part sound real s Anything (λ fault q. any_outputs (fault_output part fault) q)
           (λ x z. Settled real x z.0) ⊤ (anyhow part sound real s) rest (real.memories y.0) y fits (t.sizes y.0 i)
           (t.works rest (real.memories y.0) reads) (anything rest (real.memories y.0)) (t.settled y.0 i))
@@ -133,18 +139,20 @@ module _ {part : Part} (sound : IsPart part) (real : Real part) (IsIn : real.P �
     -- ---- after any actions
 
     module _ (Claim : Memories → Type 0) where
-      unless : (next : Dialog OutputEvent Standing) → ((z : Spot real.P) → IsIn z.0 → Goes (Then Claim) next z)
+      -- a dialog that a fault leaves out
+      unless_goes : (next : Dialog OutputEvent Standing) → ((z : Spot real.P) → IsIn z.0 → Goes (Then Claim) next z)
           → (at : Standing) (emitted : List OutputEvent) (z : Spot real.P) → IsIn z.0
           → Goes (Then Claim) (unless_fault next at) z
-      unless next goes at emitted z i = grind (arith, faulty_fine, over_fine)
+      unless_goes next goes at emitted z i = grind (arith, faulty_fine, over_fine)
 
-      behind : (done rest : List Action)
+      -- so it is after any other actions
+      after_others : (done rest : List Action)
           → ((y : Spot real.P) → IsIn y.0 → Goes (Then Claim) (actions_dialog part s rest) y) → (y : Spot real.P)
           → IsIn y.0 → Goes (Then Claim) (actions_dialog part s (done ++ rest)) y
-      behind [] rest goes y i = goes y i
-      behind (action ∷ done) rest goes y i =
+      after_others [] rest goes y i = goes y i
+      after_others (action ∷ done) rest goes y i =
           prints_then m Anything (λ emitted z now. now) (record { holds = stays_in (action_dialog part s action) y i })
-          (unless (actions_dialog part s (done ++ rest)) (λ z i. behind done rest goes z i))
+          (unless_goes (actions_dialog part s (done ++ rest)) (λ z i. after_others done rest goes z i))
 
       abbrev AtEnd : Standing → Spot real.P → Type 0
       AtEnd at y = at ≡ NoFault → Claim (real.memories y.0)
@@ -181,39 +189,45 @@ module _ (plan : Plan) (sound : IsPart plan.part) (real : Real plan.part) (IsIn 
   abbrev Fine : Standing → Spot real.P → Type 0
   Fine at y = at ≡ NoFault → Agrees (real.memories y.0)
 
+  -- so it is with a session's actions
   dialog_goes : (z : Spot real.P) → IsIn z.0 → Goes sound real IsIn Reads t Fine (session_dialog plan) z
   dialog_goes z i = prints_then real.device Anything (λ emitted y now. now)
       (subst (λ (all : List Action). Goes sound real IsIn Reads t (Then sound real IsIn Reads t s Agrees)
       (actions_dialog plan.part s (OpenSession ∷ all)) z) (sym are)
-      (behind sound real IsIn Reads t s Agrees (OpenSession ∷ done) rest
+      (after_others sound real IsIn Reads t s Agrees (OpenSession ∷ done) rest
       (rest_goes sound real IsIn Reads t s rest fits reads) z i))
       (λ at emitted y held. ends sound real IsIn Reads t s Agrees at y held)
 
+  -- and with the session
   session_goes : (z : Spot real.P) → IsIn z.0
       → Goes sound real IsIn Reads t (λ status y. status ≡ 0 → Agrees (real.memories y.0)) (session plan) z
   unfolding session
   session_goes z i = search (rules, prints_then, dialog_goes, succeeded)
 
-  along : (p : real.P) → IsIn p → (exchanges : List Exchange) (k : ℕ)
+  -- at its end
+  after_session : (p : real.P) → IsIn p → (exchanges : List Exchange) (k : ℕ)
       → (state_after real.device k (session plan) p exchanges).dialog ≡ Done 0
       → Agrees (real.memories (state_after real.device k (session plan) p exchanges).programmer)
-  along p i exchanges k ended =
+  after_session p i exchanges k ended =
       (at_moment real.device Anything (λ status emitted y at. tt) k (session_goes (p, exchanges) i)).after 0 ended refl
 
 -- ---- over a reader
 
 module _ {P : Type 0} (part : Part) (sound : IsPart part) (m : Device P) (view : P → Memories) (IsIn : P → Type 0)
     (Reads : Mem → Type 0) (t : IsReader part m view IsIn Reads) where
+  -- a reader does what an action reads
   action_works : (action : Action) (x : Memories) → ReadsAction Reads action
       → StepsWork part (ReadsOneOf Reads part) (action_steps part action) x
   action_works action x reads = grind (arith, reading_works)
 
+  -- so it does for all actions
   all_work : (actions : List Action) (x : Memories) → Each (ReadsAction Reads) actions
       → ActionsWorkBy part (ReadsOneOf Reads part) actions x
   all_work [] x each = tt
   all_work (action ∷ actions) x (reads, others) =
       (action_works action x reads, all_work actions (effects part (action_items action) x) others)
 
+-- so after status 0 the last comparisons agree
 pub session_agrees : {P : Type 0} (plan : Plan) → IsPart plan.part → (m : Device P) (view : P → Memories)
     (IsIn : P → Type 0) (Reads : Mem → Type 0) → IsReader plan.part m view IsIn Reads → (done rest : List Action)
     → work plan ≡ done ++ rest → AllFitActions plan.part rest → Each (ReadsAction Reads) rest → (p : P) → IsIn p
@@ -221,7 +235,7 @@ pub session_agrees : {P : Type 0} (plan : Plan) → IsPart plan.part → (m : De
     → EachComparisonAgrees plan.part rest (view (state_after m k (session plan) p exchanges).programmer)
 unfolding real_of
 session_agrees plan sound m view IsIn Reads t done rest are fits reads p i exchanges k ended =
-    along plan sound (real_of plan.part sound m view IsIn IsIn (ReadsOneOf Reads plan.part) t.keeps) IsIn Reads
+    after_session plan sound (real_of plan.part sound m view IsIn IsIn (ReadsOneOf Reads plan.part) t.keeps) IsIn Reads
     (record {
       settled = λ q i. record { memories = refl; is = i };
       is_in = λ x q s. s.is;

@@ -20,6 +20,7 @@ abbrev key_of : List ℕ → ℕ
 key_of body = if slice_index body 0 == 0x18 then 0x18 + 256 * (slice_index body 2 + 256 * slice_index body 3)
     else slice_index body 0
 
+-- the same of a step's bodies
 abbrev key_in : List (List ℕ) → ℕ
 key_in [] = 0
 key_in (first ∷ []) = key_of first
@@ -44,6 +45,7 @@ memory_by n = if n == 0x14 then Some Flash else if n == 0x16 then Some Eeprom el
     else if n == 0x1C then Some Calibration
     else None
 
+-- each memory has its own key
 by_key : (mem : Mem) → memory_by (key mem) ≡ Some mem
 by_key mem = search rules
 
@@ -56,24 +58,27 @@ no_memory a e = cc
 module _ (Reads : Mem → Type 0) (part : Part) (x : Memories) (mem : Mem) (reads : Reads mem) (row : Row)
     (same : key mem ≡ key_in (bodies row)) where
   -- the memory that a row with this key reads
-  this : (other : Row) → row ≡ other → Some mem ≡ memory_by (key_in (bodies other))
-  this other is = sym (by_key mem) ∙ (ap memory_by same ∙ ap (λ (r : Row). memory_by (key_in (bodies r))) is)
+  row_memory : (other : Row) → row ≡ other → Some mem ≡ memory_by (key_in (bodies other))
+  row_memory other is = sym (by_key mem) ∙ (ap memory_by same ∙ ap (λ (r : Row). memory_by (key_in (bodies r))) is)
 
+  -- a row that reads this memory may be read
   reads_it : (m : Mem) → Some mem ≡ Some m → Reads m
   reads_it m is = subst Reads (same_memory mem m is) reads
 
   pub is_read : (is : IsRow part row) → ReadsOneOf Reads part row is x
-  is_read is = search (rules, reads_it, this, no_memory)
+  is_read is = search (rules, reads_it, row_memory, no_memory)
 
 module _ (Reads : Mem → Type 0) (part : Part) where
   -- these commands read this memory
   abbrev Has : Mem → List Command → Type 0
   Has mem commands = key mem ≡ key_in (map body commands)
 
-  works : (mem : Mem) (commands : List Command) → Reads mem → Has mem commands → (x : Memories)
+  -- commands that read this memory
+  reading_works_by : (mem : Mem) (commands : List Command) → Reads mem → Has mem commands → (x : Memories)
       → WorksBy part (ReadsOneOf Reads part) commands x
-  works mem commands reads has x row is sent = search (rules, bodies, is_read)
+  reading_works_by mem commands reads has x row is sent = search (rules, bodies, is_read)
 
+  -- the steps that read a memory
   step_keys : (mem : Mem) → Each (Has mem) (read_steps part mem)
   step_keys Flash = search (rules, each_of)
   step_keys Eeprom = search (rules, each_of)
@@ -84,11 +89,12 @@ module _ (Reads : Mem → Type 0) (part : Part) where
   step_keys Signature = search (rules, each_of)
   step_keys Calibration = search (rules, each_of)
 
+  -- they all read it
   all_work : (mem : Mem) → Reads mem → (steps : List (List Command)) → Each (Has mem) steps → (x : Memories)
       → StepsWork part (ReadsOneOf Reads part) steps x
   all_work mem reads [] each x = tt
   all_work mem reads (commands ∷ steps) (has, others) x = (
-    works mem commands reads has x,
+    reading_works_by mem commands reads has x,
     all_work mem reads steps others (memories_after_step part commands x),
   )
 

@@ -17,6 +17,7 @@ use Rattle.avr_laws.proofs.SecondRun.ErasesTwice.{plan_again}
 use Rattle.avr_tool.proofs.Memories.ExpectedAgrees.{expected_status, expected_memories}
 use Rattle.avr_tool.proofs.OverFaultyLink.FirstSteps.{effects_sizes}
 
+-- a chip filled with one byte fits its part
 chip_fits : (part : Part) (byte : ℕ) → byte < 256 → FitsPart part (chip_filled_with part byte)
 chip_fits part byte l = grind (arith, common_steps, length-replicate)
 
@@ -25,6 +26,7 @@ pub two_of_all : (plan : Plan) → ((m : Memories) → FitsPart plan.part m → 
     → AgreesOnTwoChips plan
 two_of_all plan all = search (rules, chip_fits)
 
+-- a second run over any first write operations has the outcome of one run
 pub run_repairs : (plan : Plan) (k : ℕ) (m : Memories) → IsPart plan.part → All (IsFitted plan.part) plan.tasks
     → FitsPart plan.part m → has_erase (items plan) ≡ true → AgreesOnTwoChips plan
     → (erase_keeps_eeprom plan.part m ≡ true → ItemsKeepEeprom plan.part (items plan))
@@ -32,6 +34,7 @@ pub run_repairs : (plan : Plan) (k : ℕ) (m : Memories) → IsPart plan.part �
 run_repairs plan k m sound fitted f erases both kept =
     search (rules, agrees_anyway, effects_sizes, expected_status, expected_memories, plan_again)
 
+-- so it is over what a run left
 pub first_writes_repaired : (plan : Plan) (before after : Memories) → IsPart plan.part
     → All (IsFitted plan.part) plan.tasks → FitsPart plan.part before → has_erase (items plan) ≡ true
     → AgreesOnTwoChips plan → (erase_keeps_eeprom plan.part before ≡ true → ItemsKeepEeprom plan.part (items plan))
