@@ -26,7 +26,7 @@ use Rattle.avr_records.specs.declared.kind.Ending.{Ending}
 use Rattle.avr_laws.proofs.Held.Files.{held_file}
 use Rattle.avr_laws.proofs.Held.Parts.{held_parts}
 use Rattle.avr_laws.proofs.Held.Values.{held_values}
-use Rattle.avr_laws.proofs.Plans.Fitted.{Image, not_bad, produced_ok}
+use Rattle.avr_laws.proofs.Plans.Fitted.{Image, was_ok, produced_ok}
 use Rattle.avr_laws.specs.HeldImage.{HoldsImageAs}
 use Rattle.avr_laws.specs.AskedPlan.{GivesText, HasImage, IsTaskOf, AreTasksOf, ArePartsOf, IsAsked}
 use Rattle.avr_plan.specs.ImageFile.{image_within, kind_of, image_of_file}
@@ -130,7 +130,7 @@ module _ (Gives : GivesText) where
   -- so is one that was checked
   within_checked : (name : Bytes) (kind : Format) (size : ℕ) (text : Bytes) (made : Image × Ending)
       → checked_image name kind size text ≡ Ok made → IsWithin kind text size made
-  within_checked name kind size text made is = search (rules, within, not_bad)
+  within_checked name kind size text made is = search (rules, within, was_ok)
 
   -- ---- the plan
 

@@ -57,8 +57,8 @@ content_passes : {A : Type 0} (name : Bytes) (limit : ℕ) (judge : Bytes → Re
 content_passes name limit judge opening openings a is = search rules
 
 -- a result that became no line was OK
-pub not_bad : (file : Bytes) (r : ImageOrBadFile) (p : Image × Ending) → or_line (bad_file_line file) r ≡ Ok p → r ≡ Ok p
-not_bad file r p is = search rules
+pub was_ok : (file : Bytes) (r : ImageOrBadFile) (p : Image × Ending) → or_line (bad_file_line file) r ≡ Ok p → r ≡ Ok p
+was_ok file r p is = search rules
 
 -- the image of a file has the memory's size
 file_size : (switches : Switches) (file : Bytes) (kind : Format) (size : ℕ) (openings : List Opening) (image : Image)
@@ -70,7 +70,7 @@ file_size switches file kind size openings image is =
     >>= λ ok. result_stage (Ok g.0)) openings image is in
     let opened = earlier (open_stage file) (content_stage file LARGEST_IMAGE_FILE judge) openings first.0 first.1.0 in
     let read = content_passes file LARGEST_IMAGE_FILE judge opened.0 _ first.0 opened.1.1 in
-    let whole = not_bad file (image_within LARGEST_IMAGE_FILE kind read.0 size) first.0 read.1 in
+    let whole = was_ok file (image_within LARGEST_IMAGE_FILE kind read.0 size) first.0 read.1 in
     let same : first.0.0 ≡ image = cc in
     ap length (sym same) ∙ image-size LARGEST_IMAGE_FILE kind read.0 size first.0.0 first.0.1 (sym whole)
 

@@ -57,6 +57,7 @@ idle_forges_none = by_test device (frames worked_frames) worked_replies programm
 abbrev pub reading_plan : Plan
 reading_plan = record fuse_plan { tasks = Read Lfuse Raw (codes "fuse") ∷ [] }
 
+-- the file has the low fuse
 pub the_file_saved : (m : Memories)
     → saved_files reading_plan m ≡ record { name = codes "fuse"; bytes = m.lfuse ∷ [] } ∷ []
 unfolding saved_text
@@ -66,6 +67,7 @@ abbrev first_byte : List Writing → ℕ
 first_byte [] = 0
 first_byte (file ∷ files) = slice_index file.bytes 0
 
+-- a file with another byte isn't what was saved
 pub another_text : (m : Memories) (old now : Record) (byte : ℕ) → (m.lfuse ≡ byte → ⊥) → files_among (all_uses old) ≡ []
     → FilesAreSaved (saved_files reading_plan m) old now
     → files_among (all_uses now) ≡ record { name = codes "fuse"; bytes = byte ∷ [] } ∷ [] → ⊥
@@ -76,6 +78,7 @@ another_text m old now byte differs empty saved is =
     ∙ ap named_files (the_file_saved m))) in
     differs (sym (ap first_byte same))
 
+-- nor is no file
 pub no_file : (m : Memories) (old now : Record) → files_among (all_uses old) ≡ []
     → FilesAreSaved (saved_files reading_plan m) old now → files_among (all_uses now) ≡ [] → ⊥
 no_file m old now empty saved is =

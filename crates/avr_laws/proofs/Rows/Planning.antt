@@ -29,6 +29,7 @@ use Rattle.avr_plan.specs.declared.planned.Task.{Task}
 use Rattle.avr_plan.specs.declared.planned.Task.TheVariants.{Write}
 use Rattle.avr_desk.proofs.Stages.Breaks.{Begins, begins_then, begins_file, unopened, opened_is_reported, ReportsOne, refused_once}
 
+-- the limits of an image's file and of a part file
 limits : (LARGEST_IMAGE_FILE ≡ 4194304) × (LARGEST_PART_FILE ≡ 65536)
 limits = (refl, refl)
 
@@ -64,8 +65,8 @@ task = file_image_stage no_switches file Ihex 32768 >>= λ image. result_stage (
 abbrev tasks : Stage (List Task)
 tasks = task >>= λ first. result_stage (Ok (first ∷ []))
 
-begins : Begins file (planned wanted)
-begins =
+begins_with_file : Begins file (planned wanted)
+begins_with_file =
     begins_then file tasks (λ all. result_stage (Ok (record { part = m328p; tasks = all; switches = no_switches })))
     (begins_then file task (λ first. result_stage (Ok (first ∷ []))) (search (rules, begins_then, begins_file)))
 
@@ -79,6 +80,7 @@ differs place line notice old new apart (inr part) = search rules
 
 -- ---- when it allocates with no file open
 
+-- a single update is the one that is due
 only_due : (u due : Update) (done more : List Update) → u ∷ [] ≡ done ++ due ∷ more → due ≡ u
 only_due u due [] more is = cc
 only_due u due (x ∷ []) more is = let none : [] ≡ due ∷ more = cc in absurd (cc)
@@ -88,6 +90,7 @@ only_due u due (x ∷ y ∷ done) more is = let none : [] ≡ y ∷ (done ++ due
 abbrev mixed : Settings
 mixed = record wanted { updates = of_values ∷ of_file ∷ [] }
 
+-- before it allocates for the values nothing was opened
 begins_mixed : (passed : List Opening) (emitted : List OutputEvent) (done : List Update) (due : Update)
     (more : List Update)
     (made : Plan) → of_values ∷ of_file ∷ [] ≡ done ++ due ∷ more → op_allocates due due.op ≡ true
@@ -99,6 +102,7 @@ begins_mixed : (passed : List Opening) (emitted : List OutputEvent) (done : List
 begins_mixed passed emitted [] due more made is allocates planned_so = search rules
 begins_mixed passed emitted (x ∷ done) due more made is allocates planned_so = search (rules, only_due)
 
+-- so it is at each such moment
 takes_first : (passed : List Opening) (emitted : List OutputEvent) → AtAllocatingUpdate mixed passed emitted
     → (passed ≡ []) × (emitted ≡ [])
 takes_first passed emitted at =
@@ -122,7 +126,8 @@ module _ (r : Record) (k l m n status : ℕ) where
   ReportedAs notice = ReportsFailureAs (not_opened_line file) notice (showing r k m) (showing (after_err notice r) l n)
 
   notice_by : (notice : Bytes) → Ends notice → ReportedAs notice
-  notice_by notice ends = of_file_alone (unopened (AtAllocatingUpdate wanted) file notice (planned wanted) begins r k l
+  notice_by notice ends =
+      of_file_alone (unopened (AtAllocatingUpdate wanted) file notice (planned wanted) begins_with_file r k l
       m n status ends)
     where
       of_file_alone : ReportedAs notice ⊎ (ReportsLineAs memory_line notice (showing r k m)
@@ -181,6 +186,7 @@ lacking = record wanted { part = codes "t99" }
 abbrev refusal : Bytes
 refusal = no_part_line (codes "t99")
 
+-- planning is refused, and opens nothing
 lacks : (openings : List Opening) → planned lacking openings
     ≡ record { output_events = []; stage_outcome = Refused refusal; openings_left = openings }
 lacks openings = refl
