@@ -42,8 +42,8 @@ module _ (plan : Plan) (begun : Programmer) (is_sound : IsSoundChip begun.chip) 
     events_played = (played (session plan) 1 tape).events
 
     -- the session goes along the exchanges of its tape
-    goes_along : GoesAlongExchanges device (session plan) 1 tape begun executions
-    goes_along = goes_as device (session plan) 1 tape begun executions asks_bodies is_authentic
+    goes : GoesAlongExchanges device (session plan) 1 tape begun executions
+    goes = goes_as device (session plan) 1 tape begun executions asks_bodies is_authentic
 
     -- however it ends: after the frames of any prefix of the bytes that it sends
     module _ (bytes : List ℕ) (prefix : IsBytePrefixOf bytes (bytes_sent events_played)) where
@@ -59,14 +59,13 @@ module _ (plan : Plan) (begun : Programmer) (is_sound : IsSoundChip begun.chip) 
       first_frames : take count (frames_in events_played) ≡ frames bytes
       first_frames = search (rules, more_frames, take-append-le, take_all)
 
-      programmer_there : after_sent_frames device (frames bytes) executions begun
+      stands : after_sent_frames device (frames bytes) executions begun
           ≡ (state_after device count (session plan) begun exchanges).programmer
-      programmer_there = sym (goes_along.programmer count within
-          ∙ ap (λ fs. after_sent_frames device fs executions begun) first_frames)
+      stands = sym (goes.programmer count within ∙ ap (λ fs. after_sent_frames device fs executions begun) first_frames)
 
       pub over_any_end : ReportsOverExchanges plan begun (after_sent_frames device (frames bytes) executions begun)
           exchanges bytes events_played
-      over_any_end = search (rules, reports_over_exchanges, programmer_there, by_tape)
+      over_any_end = search (rules, reports_over_exchanges, stands, by_tape)
 
     -- a whole session
     module _ (bytes : List ℕ) (left : Tape) (events : List (Event OutputEvent)) (status next : ℕ)
@@ -79,10 +78,10 @@ module _ (plan : Plan) (begun : Programmer) (is_sound : IsSoundChip begun.chip) 
       frames_are = search (rules, sends_whole, asks_bodies, frames_sent)
 
       status_there : (state_after device (length (frames bytes)) (session plan) begun exchanges).dialog ≡ Done status
-      status_there = search (rules, frames_are, goes_along)
+      status_there = search (rules, frames_are, goes)
 
       outputs_there : outputs events ≡ outputs_after device (length (frames bytes)) (session plan) begun exchanges
-      outputs_there = search (rules, frames_are, goes_along)
+      outputs_there = search (rules, frames_are, goes)
 
       pub over_any_line : WholeSessionOverExchanges plan begun (after_sent_frames device (frames bytes) executions
           begun) exchanges bytes events status
@@ -92,7 +91,7 @@ module _ (plan : Plan) (begun : Programmer) (is_sound : IsSoundChip begun.chip) 
             (ap (λ p. p.events) is) (over_any_end bytes all_sent),
         ends_and_reports_over_exchanges plan begun is_sound part_is fitted exchanges
             (after_sent_frames device (frames bytes) executions begun)
-            bytes (programmer_there bytes all_sent) (outputs events) status status_there outputs_there,
+            bytes (stands bytes all_sent) (outputs events) status status_there outputs_there,
       )
 
   -- over a link that forges no frame

@@ -15,15 +15,14 @@ prefix_cut (p ∷ ps) [] rest is = absurd (cc is)
 prefix_cut (p ∷ ps) (c ∷ cs) rest is = search (rules, nat_tests, cases_Bool, prefix_cut ps cs rest)
 
 -- a text that is cut at its first colon
-pub cut_at_first : (text before after : Bytes) → split_first text ≡ Some (before, after) → text
-    ≡ before ++ colon ∷ after
-cut_at_first [] before after is = absurd (cc is)
-cut_at_first (c ∷ cs) before after is = search (rules, nat_tests, cases_Bool, cut_at_first cs)
+pub first_cut : (text before after : Bytes) → split_first text ≡ Some (before, after) → text ≡ before ++ colon ∷ after
+first_cut [] before after is = absurd (cc is)
+first_cut (c ∷ cs) before after is = search (rules, nat_tests, cases_Bool, first_cut cs)
 
 -- a text that is cut at its last colon
-pub cut_at_last : (text before after : Bytes) → split_last text ≡ Some (before, after) → text ≡ before ++ colon ∷ after
-cut_at_last [] before after is = absurd (cc is)
-cut_at_last (c ∷ cs) before after is = search (rules, nat_tests, cases_Bool, cut_at_last cs)
+pub last_cut : (text before after : Bytes) → split_last text ≡ Some (before, after) → text ≡ before ++ colon ∷ after
+last_cut [] before after is = absurd (cc is)
+last_cut (c ∷ cs) before after is = search (rules, nat_tests, cases_Bool, last_cut cs)
 
 -- a text with a colon is cut
 pub cut_at_some_colon : (before after : Bytes) → split_first (before ++ colon ∷ after) ≡ None → ⊥
@@ -31,13 +30,12 @@ cut_at_some_colon [] after is = absurd (cc is)
 cut_at_some_colon (c ∷ before) after is = search (rules, nat_tests, cases_Bool, cut_at_some_colon before after)
 
 -- a text without a colon isn't cut
-pub no_colon_no_cut : (text : Bytes) → ((before after : Bytes) → text ≡ before ++ colon ∷ after → ⊥) → split_first text
-    ≡ None
-no_colon_no_cut text none = by (split_first text) refl
+pub colonless : (text : Bytes) → ((before after : Bytes) → text ≡ before ++ colon ∷ after → ⊥) → split_first text ≡ None
+colonless text none = by (split_first text) refl
   where
     by : (cut : Option (Bytes × Bytes)) → split_first text ≡ cut → split_first text ≡ None
     by None is = is
-    by (Some (a, b)) is = absurd (none a b (cut_at_first text a b is))
+    by (Some (a, b)) is = absurd (none a b (first_cut text a b is))
 
 -- ---- a file and its format's letter
 

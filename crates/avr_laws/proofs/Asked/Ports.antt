@@ -11,7 +11,7 @@ use Rattle.avr_plan.specs.Port.{is_address, port_number, port_of}
 use Rattle.avr_plan.proofs.AddressCuts.{address_is_cut}
 use Rattle.avr_plan.specs.declared.settings.Port.{Port}
 use Rattle.avr_plan.specs.declared.settings.Port.TheVariants.{Stdio, Emulated, Network, Served}
-use Rattle.avr_laws.proofs.Asked.Cuts.{prefix_cut, cut_at_last}
+use Rattle.avr_laws.proofs.Asked.Cuts.{prefix_cut, last_cut}
 use Rattle.avr_laws.specs.AskedSettings.{IsAddress, IsPortNumber, NamesPort}
 
 -- a number that is read is a port number
@@ -25,7 +25,7 @@ number_read digits all some few = search (rules, nat_tests)
 
 -- what is taken for an address is a host, a colon and a port number
 address_is : (text : Bytes) → is_address text ≡ true → IsAddress text
-address_is text is = search (rules, nat_tests, cut_at_last, number_is)
+address_is text is = search (rules, nat_tests, last_cut, number_is)
 
 -- a port that is read is the one that the text names
 pub port_is : (text : Bytes) (port : Port) → port_of text ≡ Ok port → NamesPort text port

@@ -81,8 +81,7 @@ settings_with part e port updates =
 
 -- settings that are made of entries
 run_is : (part : Bytes) (e : Entries) (s : Settings) → run_settings part e ≡ Ok s → EntriesGive part e s
-run_is part e s is =
-    by_results (checked_programmer e.programmer) (port_of_option e.port) (updates_of e.updates) refl refl refl
+run_is part e s is = by (checked_programmer e.programmer) (port_of_option e.port) (updates_of e.updates) refl refl refl
     is
   where
     by_streams : (port : Port) (updates : List Update) (checks : Result ⊤ SettingsFault)
@@ -91,15 +90,15 @@ run_is part e s is =
     by_streams port updates (Err fault) is = absurd (cc is)
     by_streams port updates (Ok unit) is = (refl, cc is)
 
-    by_results : (programmer : Result ⊤ SettingsFault) (port : Result Port SettingsFault)
+    by : (programmer : Result ⊤ SettingsFault) (port : Result Port SettingsFault)
         (updates : Result (List Update) SettingsFault) → checked_programmer e.programmer ≡ programmer
         → port_of_option e.port ≡ port → updates_of e.updates ≡ updates → programmer >>= (λ programmer.
         port >>= (λ port. updates >>= (λ updates. checked_streams port updates e.parts e.chip
         >>= (λ streams. Ok (settings_with part e port updates))))) ≡ Ok s → EntriesGive part e s
-    by_results (Err fault) port updates from_programmer from_port from_updates is = absurd (cc is)
-    by_results (Ok unit) (Err fault) updates from_programmer from_port from_updates is = absurd (cc is)
-    by_results (Ok unit) (Ok port) (Err fault) from_programmer from_port from_updates is = absurd (cc is)
-    by_results (Ok unit) (Ok port) (Ok updates) from_programmer from_port from_updates is =
+    by (Err fault) port updates from_programmer from_port from_updates is = absurd (cc is)
+    by (Ok unit) (Err fault) updates from_programmer from_port from_updates is = absurd (cc is)
+    by (Ok unit) (Ok port) (Err fault) from_programmer from_port from_updates is = absurd (cc is)
+    by (Ok unit) (Ok port) (Ok updates) from_programmer from_port from_updates is =
         let all = by_streams port updates (checked_streams port updates e.parts e.chip) is in
         search rules
 

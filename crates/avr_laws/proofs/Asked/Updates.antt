@@ -22,28 +22,27 @@ use Rattle.avr_plan.specs.declared.settings.SettingsFault.TheVariants.{BadUpdate
 use Rattle.avr_plan.specs.declared.update.Update.{Update}
 use Rattle.avr_plan.specs.declared.update.UpdateFault.{UpdateFault}
 use Rattle.avr_plan.specs.declared.update.UpdateFault.TheVariants.{BadMemory, BadOp, BadFormat, NoFile}
-use Rattle.avr_laws.proofs.Asked.Cuts.{cut_at_some_colon, cut_at_first, letter_is, no_letter_follows, no_letter_read, no_colon_no_cut}
+use Rattle.avr_laws.proofs.Asked.Cuts.{cut_at_some_colon, first_cut, letter_is, no_letter_follows, no_letter_read, colonless}
 use Rattle.avr_laws.specs.AskedSettings.{AskForUpdates, AsksForUpdate}
 
 -- ---- an update
 
 -- what is found passes the test
-found_passes : {X : Type 0} (test : X → Bool) (xs : List X) (x : X) → find test xs ≡ Some x → test x ≡ true
-found_passes test [] x is = absurd (cc is)
-found_passes {X} test (y ∷ xs) x is = elim (cases_Bool (test y)) [
+passing : {X : Type 0} (test : X → Bool) (xs : List X) (x : X) → find test xs ≡ Some x → test x ≡ true
+passing test [] x is = absurd (cc is)
+passing {X} test (y ∷ xs) x is = elim (cases_Bool (test y)) [
   | inl passes ↦
       let same : ◌≡◌ {A = Option X} (Some y) (Some x) =
       sym (ap (λ (b : Bool). cond b (Some y) (find test xs)) passes) ∙ is in
       let here : y ≡ x = cc same in
       ap test (sym here) ∙ passes
-  | inr fails ↦ found_passes test xs x (sym (ap (λ (b : Bool). cond b (Some y) (find test xs)) fails) ∙ is)
+  | inr fails ↦ passing test xs x (sym (ap (λ (b : Bool). cond b (Some y) (find test xs)) fails) ∙ is)
 ]
 
 -- a memory that is read has this name
 memory_is : (name : Bytes) (mem : Mem) → memory_named name ≡ Some mem → name ≡ name_of mem
 memory_is name mem is =
-    sym ((bytes_eq-Decides (name_of mem) name).0 (found_passes (λ (m : Mem). bytes_eq (name_of m) name) all_memories mem
-    is))
+    sym ((bytes_eq-Decides (name_of mem) name).0 (passing (λ (m : Mem). bytes_eq (name_of m) name) all_memories mem is))
 
 -- an operation that is read has this letter
 op_is : (name : Bytes) (op : Op) → op_named name ≡ Some op → name ≡ op_name op
@@ -57,9 +56,9 @@ record IsMade (mem : Mem) (op : Op) (named : Bytes × Option ℕ) (u : Update) :
   format : format_of op named.1 ≡ Some u.format
   some : 0 < length named.0
 
-update_made : (mem : Mem) (op : Op) (named : Bytes × Option ℕ) (u : Update) → update_by mem op named ≡ Ok u
+is_made : (mem : Mem) (op : Op) (named : Bytes × Option ℕ) (u : Update) → update_by mem op named ≡ Ok u
     → IsMade mem op named u
-update_made mem op named u is = by (length named.0 == 0) (format_of op named.1) refl refl is
+is_made mem op named u is = by (length named.0 == 0) (format_of op named.1) refl refl is
   where
     by : (empty : Bool) (format : Option Format) → (length named.0 == 0) ≡ empty → format_of op named.1 ≡ format
         → (if empty then Err NoFile else ok_or format BadFormat)
@@ -93,7 +92,7 @@ after_op mem rest u is = by (split_first rest) refl is
         absurd (cc clash)
     by (Some (a, b)) cut is =
         let o = named a b (op_named a) refl is in
-        search (rules, cut_at_first)
+        search (rules, first_cut)
 
 record IsCut (text : Bytes) (u : Update) : Type 0 where
   mem : Mem
@@ -122,24 +121,23 @@ cut_is text u is = by (split_first text) refl is
     by (Some (a, b)) cut is =
         let m = named a b (memory_named a) refl is in
         let o = after_op m.0 b u m.2 in
-        search (rules, cut_at_first)
+        search (rules, first_cut)
 
 -- a text with all parts asks for its update
-cut_asks : (text : Bytes) (u : Update) (c : IsCut text u) (named : Bytes × Option ℕ)
+of_cut : (text : Bytes) (u : Update) (c : IsCut text u) (named : Bytes × Option ℕ)
     → file_and_letter c.file_part ≡ named → IsMade c.mem c.op named u → AsksForUpdate text u
-cut_asks text u c named is m = search (rules, letter_is, no_letter_follows)
+of_cut text u c named is m = search (rules, letter_is, no_letter_follows)
 
 -- so does a file alone
-file_alone_asks : (text : Bytes) (u : Update) → split_first text ≡ None → update_by Flash Write (text, None) ≡ Ok u
+of_file_alone : (text : Bytes) (u : Update) → split_first text ≡ None → update_by Flash Write (text, None) ≡ Ok u
     → AsksForUpdate text u
-file_alone_asks text u no_colon is = search (rules, nat_tests, cut_at_some_colon)
+of_file_alone text u no_colon is = search (rules, nat_tests, cut_at_some_colon)
 
 -- an update that is read is the one that the text asks for
 pub update_is : (text : Bytes) (u : Update) → update_of text ≡ Ok u → AsksForUpdate text u
 update_is text u is = elim (cut_is text u is) [
-  | inl c ↦ cut_asks text u c (file_and_letter c.file_part) refl
-      (update_made c.mem c.op (file_and_letter c.file_part) u c.is)
-  | inr (none, by) ↦ file_alone_asks text u none by
+  | inl c ↦ of_cut text u c (file_and_letter c.file_part) refl (is_made c.mem c.op (file_and_letter c.file_part) u c.is)
+  | inr (none, by) ↦ of_file_alone text u none by
 ]
 
 -- the memory and the operation are read before the file
@@ -155,8 +153,7 @@ file_part_read mem op file letter format some is = search (rules, nat_tests)
 
 -- and conversely
 pub update_read : (text : Bytes) (u : Update) → AsksForUpdate text u → update_of text ≡ Ok u
-update_read text u e =
-    search (rules, head_read, file_and_letter-append, file_part_read, no_letter_read, no_colon_no_cut)
+update_read text u e = search (rules, head_read, file_and_letter-append, file_part_read, no_letter_read, colonless)
 
 -- ---- all updates
 

@@ -68,8 +68,8 @@ module _ (settings : Settings) (file : Bytes) (stock : Stock) (old new : MemDesk
   ))
 
   -- and until the run ends
-  later_uses : (more : List FileUse) × (all_uses new.kept ≡ (first_uses ++ Opened opening ∷ []) ++ more)
-  later_uses = past_shown (first_uses ++ Opened opening ∷ []) new.kept
+  later : (more : List FileUse) × (all_uses new.kept ≡ (first_uses ++ Opened opening ∷ []) ++ more)
+  later = past_shown (first_uses ++ Opened opening ∷ []) new.kept
       (saved_past (first_uses ++ Opened opening ∷ []) _ r.played_desk (memory_state new) file _ r.session_status status
       r.saved played_past)
 
@@ -83,21 +83,20 @@ module _ (settings : Settings) (file : Bytes) (stock : Stock) (old new : MemDesk
       ∙ (search (rules, files_absent, files_used, first_files))
 
   -- all uses were true
-  each_use_true : OpeningsAreTrue stock [] (first_uses ++ Opened opening ∷ later_uses.0)
-  each_use_true = search (rules, append_assoc, all_true, later_uses.1)
+  each_true : OpeningsAreTrue stock [] (first_uses ++ Opened opening ∷ later.0)
+  each_true = search (rules, append_assoc, all_true, later.1)
 
   -- so were all uses when the plan was made
   pub planned_true : OpeningsAreTrue stock [] (all_uses r.planned_desk.kept)
-  planned_true = search (rules, true_front, each_use_true)
+  planned_true = search (rules, true_front, each_true)
 
   -- its opening was true by the files before the run
-  opening_true : IsTrueOpening stock (all_files old.kept) opening
-  opening_true = search (rules, true_behind stock [] first_uses (Opened opening ∷ later_uses.0) each_use_true,
-      each_use_true, first_files)
+  is_true : IsTrueOpening stock (all_files old.kept) opening
+  is_true = search (rules, true_behind stock [] first_uses (Opened opening ∷ later.0) each_true, each_true, first_files)
 
   -- the chip was read from what the file held before the run
   pub chip_read : IsReadFrom r.plan.part (contents_held stock old.kept file) r.chip
-  chip_read = grind (arith, common_steps, opening_true)
+  chip_read = grind (arith, common_steps, is_true)
 
   -- so it is the chip in that file
   pub chip_found : IsChipInFile r.plan.part (contents_held stock old.kept file) r.chip

@@ -15,12 +15,11 @@ other : (name : Bytes) (f : Writing) (older : Option Bytes) → (f.name ≡ name
 other name f older differs = search rules
 
 -- and standard output is no file
-dash_no_file : (name : Bytes) (fs : List Writing) (older : Option Bytes) → is_dash name ≡ true
+is_no_file : (name : Bytes) (fs : List Writing) (older : Option Bytes) → is_dash name ≡ true
     → newest name older (named_files fs) ≡ older
-dash_no_file name [] older dash = refl
-dash_no_file name (f ∷ fs) older dash =
-    search (rules, cases_Bool, dash_no_file name fs older dash, dash_no_file name fs (or_older name older f) dash,
-    other)
+is_no_file name [] older dash = refl
+is_no_file name (f ∷ fs) older dash =
+    search (rules, cases_Bool, is_no_file name fs older dash, is_no_file name fs (or_older name older f) dash, other)
 
 -- what a name means is its newest file, or else what it meant before
 stood_newest : (stock : Stock) (made : List Writing) (name : Bytes) → is_dash name ≡ false
@@ -30,7 +29,7 @@ stood_newest stock made name isnt = search (rules, newest_append, append-nil)
 -- so it is for the files that were saved
 pub stood_named : (stock : Stock) (fs : List Writing) (name : Bytes)
     → content_of_name stock (named_files fs) name ≡ newest name (content_of_name stock [] name) (named_files fs)
-stood_named stock fs name = search (rules, cases_Bool, dash_no_file, stood_newest)
+stood_named stock fs name = search (rules, cases_Bool, is_no_file, stood_newest)
 
 -- a file of another name doesn't change what this name means
 stood_more : (stock : Stock) (made : List Writing) (f : Writing) (name : Bytes) → (f.name ≡ name → ⊥)

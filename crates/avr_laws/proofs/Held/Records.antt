@@ -93,11 +93,11 @@ all_inside : (size : ℕ) (placed : List (ℕ × ℕ)) → first_outside size pl
 all_inside size [] none = refl
 all_inside size (place ∷ placed) none = search (rules, nat_tests, all_inside size placed)
 
-append_inside : (size : ℕ) (these those : List (ℕ × ℕ)) → list_all (λ (place : ℕ × ℕ). nat_lt place.0 size) these ≡ true
-    → list_all (λ (place : ℕ × ℕ). nat_lt place.0 size) those ≡ true
-    → list_all (λ (place : ℕ × ℕ). nat_lt place.0 size) (these ++ those) ≡ true
-append_inside size [] those first second = second
-append_inside size (place ∷ these) those first second = search (rules, nat_tests, append_inside size these those)
+append_inside : (size : ℕ) (a b : List (ℕ × ℕ)) → list_all (λ (place : ℕ × ℕ). nat_lt place.0 size) a ≡ true
+    → list_all (λ (place : ℕ × ℕ). nat_lt place.0 size) b ≡ true
+    → list_all (λ (place : ℕ × ℕ). nat_lt place.0 size) (a ++ b) ≡ true
+append_inside size [] b first second = second
+append_inside size (place ∷ a) b first second = search (rules, nat_tests, append_inside size a b)
 
 -- neither of two options is given
 or_none : {A : Type 0} (a b : Option A) → option_or a b ≡ None → (a ≡ None) × (b ≡ None)
@@ -123,42 +123,41 @@ count_next before r = grind (arith, nat_tests, sum_by-append)
 
 -- the placed bytes of these lines, after those before
 abbrev bytes_from : List LineResult → List LineResult → List (ℕ × ℕ)
-bytes_from before results = flat_map bytes_of_line (with_lines_before before (up_to_end results))
+bytes_from before after = flat_map bytes_of_line (with_lines_before before (up_to_end after))
 
 -- the reader finds no fault in these lines, after those before
 abbrev AreFine : ℕ → List LineResult → List LineResult → Type 0
-AreFine size before results = first_fault size (with_lines_before before (up_to_end results)) ≡ None
+AreFine size before after = first_fault size (with_lines_before before (up_to_end after)) ≡ None
 
 -- the bytes of these lines are where the definition places them, inside the memory
-record ArePlaced (size : ℕ) (before results : List LineResult) (meanings : List (Option Meaning)) : Type 0 where
-  are : placed_bytes (base_after before) (count_by is_data_record before) meanings ≡ Some (bytes_from before results)
-  are_inside : list_all (λ (place : ℕ × ℕ). nat_lt place.0 size) (bytes_from before results) ≡ true
+record ArePlaced (size : ℕ) (before after : List LineResult) (means : List (Option Meaning)) : Type 0 where
+  are : placed_bytes (base_after before) (count_by is_data_record before) means ≡ Some (bytes_from before after)
+  are_inside : list_all (λ (place : ℕ × ℕ). nat_lt place.0 size) (bytes_from before after) ≡ true
 
 -- under an equal base and count the same bytes are placed
-placed_alike : (base new : AddressBase) (count next : ℕ) (meanings : List (Option Meaning)) (out : Option (List (ℕ
-    × ℕ))) → base ≡ new → count ≡ next → placed_bytes base count meanings ≡ out → placed_bytes new next meanings ≡ out
-placed_alike base new count next meanings out same equal is = search rules
+placed_alike : (base new : AddressBase) (count next : ℕ) (means : List (Option Meaning)) (out : Option (List (ℕ
+    × ℕ))) → base ≡ new → count ≡ next → placed_bytes base count means ≡ out → placed_bytes new next means ≡ out
+placed_alike base new count next means out same equal is = search rules
 
-module _ (size : ℕ) (before results : List LineResult) (meanings : List (Option Meaning))
-    (rest : (more : List LineResult) → AreFine size more results → ArePlaced size more results meanings) where
+module _ (size : ℕ) (before after : List LineResult) (means : List (Option Meaning))
+    (rest : (more : List LineResult) → AreFine size more after → ArePlaced size more after means) where
   abbrev with_line : LineResult → List LineResult
   with_line r = before ++ r ∷ []
 
-  next_are : (r : LineResult) → ArePlaced size (with_line r) results meanings
+  next_are : (r : LineResult) → ArePlaced size (with_line r) after means
       → placed_bytes (next_base (base_after before) r) (if is_data_record r then count_by is_data_record before + 1
-      else count_by is_data_record before) meanings ≡ Some (bytes_from (with_line r) results)
+      else count_by is_data_record before) means ≡ Some (bytes_from (with_line r) after)
   next_are r next = search (rules, placed_alike, base_next, count_next)
 
   -- by what the first line means
-  meaning_placed : (m : Meaning) → AreFine size before (Ok m ∷ results)
-      → ArePlaced size before (Ok m ∷ results) (Some m ∷ meanings)
-  meaning_placed Nothing fine =
+  is_placed : (m : Meaning) → AreFine size before (Ok m ∷ after) → ArePlaced size before (Ok m ∷ after) (Some m ∷ means)
+  is_placed Nothing fine =
       let next = rest (with_line (Ok Nothing)) fine in
       record { are = next_are (Ok Nothing) next; are_inside = next.are_inside }
-  meaning_placed (Rebase new) fine =
+  is_placed (Rebase new) fine =
       let next = rest (with_line (Ok (Rebase new))) fine in
       record { are = next_are (Ok (Rebase new)) next; are_inside = next.are_inside }
-  meaning_placed (Data offset bytes) fine =
+  is_placed (Data offset bytes) fine =
       let first = or_none _ _ fine in
       let next = rest (with_line (Ok (Data offset bytes))) first.1 in
       let these = places (base_after before) offset bytes in
@@ -166,26 +165,25 @@ module _ (size : ℕ) (before results : List LineResult) (meanings : List (Optio
         are = ap (option_map (λ (later : List (ℕ × ℕ)). these ++ later)) (next_are (Ok (Data offset bytes)) next);
         are_inside = search (rules, append_inside, all_inside, map_none);
       }
-  meaning_placed (Counted n) fine =
+  is_placed (Counted n) fine =
       let first = or_none _ _ fine in
       let same = count_agrees (n == count_by is_data_record before) _ first.0 in
       let next = rest (with_line (Ok (Counted n))) first.1 in
       record { are = rw same (next_are (Ok (Counted n)) next); are_inside = next.are_inside }
-  meaning_placed End fine = record { are = refl; are_inside = refl }
+  is_placed End fine = record { are = refl; are_inside = refl }
 
   -- by how the first line is read
-  result_placed : (r : LineResult) (o : Option Meaning) → ((m : Meaning) → r ≡ Ok m → o ≡ Some m)
-      → AreFine size before (r ∷ results) → ArePlaced size before (r ∷ results) (o ∷ meanings)
-  result_placed (Err fault) o meant fine = absurd (cc fine)
-  result_placed (Ok m) o meant fine = search (rules, meaning_placed m fine)
+  one_placed : (r : LineResult) (o : Option Meaning) → ((m : Meaning) → r ≡ Ok m → o ≡ Some m)
+      → AreFine size before (r ∷ after) → ArePlaced size before (r ∷ after) (o ∷ means)
+  one_placed (Err fault) o meant fine = absurd (cc fine)
+  one_placed (Ok m) o meant fine = search (rules, is_placed m fine)
 
 -- lines without a fault place their bytes as the definition says
 lines_placed : (kind : Kind) (size : ℕ) (lines : List (List ℕ)) (before : List LineResult)
     → AreFine size before (map (line_result kind) lines)
     → ArePlaced size before (map (line_result kind) lines) (map (line_meaning kind) lines)
 lines_placed kind size [] before fine = record { are = refl; are_inside = refl }
-lines_placed kind size (line ∷ lines) before fine =
-    search (rules, result_placed, lines_placed kind size lines, line_meant)
+lines_placed kind size (line ∷ lines) before fine = search (rules, one_placed, lines_placed kind size lines, line_meant)
 
 -- what is made unless there is a fault
 ok_without_fault : {A : Type 0} (fault : Option RecordFault) (given made : A) → ok_unless fault given ≡ Ok made
@@ -291,12 +289,11 @@ none_outside : (size : ℕ) (placed : List (ℕ × ℕ))
 none_outside size [] all = refl
 none_outside size (place ∷ placed) all = search (rules, nat_tests, none_outside size placed)
 
-inside_of_append : (size : ℕ) (these those : List (ℕ × ℕ))
-    → list_all (λ (place : ℕ × ℕ). nat_lt place.0 size) (these ++ those) ≡ true
-    → (list_all (λ (place : ℕ × ℕ). nat_lt place.0 size) these ≡ true)
-    × (list_all (λ (place : ℕ × ℕ). nat_lt place.0 size) those ≡ true)
-inside_of_append size [] those all = (refl, all)
-inside_of_append size (place ∷ these) those all = search (rules, nat_tests, inside_of_append size these those)
+inside_of_append : (size : ℕ) (a b : List (ℕ × ℕ)) → list_all (λ (place : ℕ × ℕ). nat_lt place.0 size) (a ++ b) ≡ true
+    → (list_all (λ (place : ℕ × ℕ). nat_lt place.0 size) a ≡ true)
+    × (list_all (λ (place : ℕ × ℕ). nat_lt place.0 size) b ≡ true)
+inside_of_append size [] b all = (refl, all)
+inside_of_append size (place ∷ a) b all = search (rules, nat_tests, inside_of_append size a b)
 
 -- what is mapped was there
 mapped_some : {A B : Type 0} (f : A → B) (o : Option A) (b : B) → option_map f o ≡ Some b
@@ -307,28 +304,27 @@ abbrev Inside : ℕ → List (ℕ × ℕ) → Type 0
 Inside size placed = list_all (λ (place : ℕ × ℕ). nat_lt place.0 size) placed ≡ true
 
 -- these lines are read without a fault, and place these bytes
-record AreRead (size : ℕ) (before results : List LineResult) (placed : List (ℕ × ℕ)) : Type 0 where
-  fine : AreFine size before results
-  are : bytes_from before results ≡ placed
+record AreRead (size : ℕ) (before after : List LineResult) (placed : List (ℕ × ℕ)) : Type 0 where
+  fine : AreFine size before after
+  are : bytes_from before after ≡ placed
 
-module _ (size : ℕ) (before results : List LineResult) (meanings : List (Option Meaning))
+module _ (size : ℕ) (before after : List LineResult) (means : List (Option Meaning))
     (rest : (more : List LineResult) (placed : List (ℕ × ℕ))
-    → placed_bytes (base_after more) (count_by is_data_record more) meanings ≡ Some placed → Inside size placed
-    → AreRead size more results placed) where
-  abbrev with_this_line : LineResult → List LineResult
-  with_this_line r = before ++ r ∷ []
+    → placed_bytes (base_after more) (count_by is_data_record more) means ≡ Some placed → Inside size placed
+    → AreRead size more after placed) where
+  abbrev onto : LineResult → List LineResult
+  onto r = before ++ r ∷ []
 
   -- the lines after this one
   next_read : (r : LineResult) (placed : List (ℕ × ℕ))
       → placed_bytes (next_base (base_after before) r) (if is_data_record r then count_by is_data_record before + 1
-      else count_by is_data_record before) meanings ≡ Some placed → Inside size placed → AreRead size (with_this_line r)
-      results placed
+      else count_by is_data_record before) means ≡ Some placed → Inside size placed → AreRead size (onto r) after placed
   next_read r placed are within = search (rules, placed_alike, base_next, count_next)
 
   -- by what the first line means
   step_read : (m : Meaning) (placed : List (ℕ × ℕ))
-      → placed_bytes (base_after before) (count_by is_data_record before) (Some m ∷ meanings) ≡ Some placed
-      → Inside size placed → AreRead size before (Ok m ∷ results) placed
+      → placed_bytes (base_after before) (count_by is_data_record before) (Some m ∷ means) ≡ Some placed
+      → Inside size placed → AreRead size before (Ok m ∷ after) placed
   step_read Nothing placed are within =
       let next = next_read (Ok Nothing) placed are within in record { fine = next.fine; are = next.are }
   step_read (Rebase new) placed are within =
@@ -336,7 +332,7 @@ module _ (size : ℕ) (before results : List LineResult) (meanings : List (Optio
   step_read (Data offset bytes) placed are within =
       let these = places (base_after before) offset bytes in
       let later = mapped_some (λ (later : List (ℕ × ℕ)). these ++ later)
-      (placed_bytes (base_after before) (count_by is_data_record before + 1) meanings) placed are in
+      (placed_bytes (base_after before) (count_by is_data_record before + 1) means) placed are in
       let two = inside_of_append size these later.0 (subst (Inside size) (sym later.2) within) in
       let next = next_read (Ok (Data offset bytes)) later.0 later.1 two.1 in
       record {
@@ -345,18 +341,18 @@ module _ (size : ℕ) (before results : List LineResult) (meanings : List (Optio
       }
   step_read (Counted n) placed are within =
       let passed = tested (n == count_by is_data_record before)
-      (placed_bytes (base_after before) (count_by is_data_record before) meanings) placed are in
+      (placed_bytes (base_after before) (count_by is_data_record before) means) placed are in
       let next = next_read (Ok (Counted n)) placed passed.1 within in
       record { fine = rw passed.0 next.fine; are = next.are }
   step_read End placed are within = record { fine = refl; are = cc are }
 
   -- by whether the first line has a meaning
   meant_read : (r : LineResult) (o : Option Meaning) (placed : List (ℕ × ℕ)) → ((m : Meaning) → o ≡ Some m → r ≡ Ok m)
-      → placed_bytes (base_after before) (count_by is_data_record before) (o ∷ meanings) ≡ Some placed
-      → Inside size placed → AreRead size before (r ∷ results) placed
+      → placed_bytes (base_after before) (count_by is_data_record before) (o ∷ means) ≡ Some placed
+      → Inside size placed → AreRead size before (r ∷ after) placed
   meant_read r None placed read are within = absurd (cc are)
   meant_read r (Some m) placed read are within =
-      subst (λ (first : LineResult). AreRead size before (first ∷ results) placed) (sym (read m refl))
+      subst (λ (first : LineResult). AreRead size before (first ∷ after) placed) (sym (read m refl))
       (step_read m placed are within)
 
 -- lines that place their bytes inside the memory are read

@@ -40,15 +40,13 @@ seen_outputs stock (Opens opening ∷ output_events) are = (are.0, seen_outputs 
 seen_outputs stock (event ∷ output_events) are = seen_outputs stock output_events are
 
 -- reading and reporting make no file
-reading_makes_none : (output_events : List OutputEvent) (r : Record) → OnlyReadsAndPrints output_events
+reads_make_none : (output_events : List OutputEvent) (r : Record) → OnlyReadsAndPrints output_events
     → all_files (after_events output_events r) ≡ all_files r
-reading_makes_none [] r reads = refl
-reading_makes_none (Opens opening ∷ output_events) r reads =
-    reading_makes_none output_events (after_opening opening r) reads
+reads_make_none [] r reads = refl
+reads_make_none (Opens opening ∷ output_events) r reads = reads_make_none output_events (after_opening opening r) reads
     ∙ search (rules, absent_used, files_used, append-nil, files_opened, files_absent)
-reading_makes_none (PrintsLine bytes ∷ output_events) r reads =
-    reading_makes_none output_events (after_err bytes r) reads
-reading_makes_none (event ∷ output_events) r reads = absurd reads
+reads_make_none (PrintsLine bytes ∷ output_events) r reads = reads_make_none output_events (after_err bytes r) reads
+reads_make_none (event ∷ output_events) r reads = absurd reads
 
 -- ---- planning
 
@@ -68,7 +66,7 @@ module _ (settings : Settings) (stock : Stock) (old m : DeskState) (stage_outcom
 
   -- so it made no file
   no_files : all_files m.kept ≡ []
-  no_files = ap all_files kept_is ∙ reading_makes_none notice nothing_kept only_read
+  no_files = ap all_files kept_is ∙ reads_make_none notice nothing_kept only_read
 
   -- its openings are those in the record
   opened : all_openings m.kept ≡ openings_in notice

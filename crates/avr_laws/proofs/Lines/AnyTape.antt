@@ -29,15 +29,15 @@ by_reply : {P : Type 0} (m : Device P) (bytes : List ℕ) (p : P) (execution : E
     → IsExchangeOf m bytes p execution (Replied came) (exchange_with_reply execution came)
 by_reply m bytes p NotExecuted came (inl own) = absurd own.0
 by_reply m bytes p NotExecuted came (inr is) = (ap Replied (sym is), refl)
-by_reply m bytes p Executed came authentic = search (rules, bytes_eq-Decides)
-by_reply m bytes p (ThenRestarted execution) came authentic =
-    let inner = by_reply m bytes p execution came authentic in (inner.0, ap m.reset inner.1)
+by_reply m bytes p Executed came h = search (rules, bytes_eq-Decides)
+by_reply m bytes p (ThenRestarted execution) came h =
+    let inner = by_reply m bytes p execution came h in (inner.0, ap m.reset inner.1)
 
 pub authentic_exchange : {P : Type 0} (m : Device P) (bytes : List ℕ) (p : P) (execution : Execution)
     (reading : Reading) → IsAuthentic m bytes p execution reading → IsExchangeOf m bytes p execution reading
     (exchange_by execution reading)
-authentic_exchange m bytes p execution (Replied came) authentic = by_reply m bytes p execution came authentic
-authentic_exchange m bytes p execution reading authentic = (refl, refl)
+authentic_exchange m bytes p execution (Replied came) h = by_reply m bytes p execution came h
+authentic_exchange m bytes p execution reading h = (refl, refl)
 
 -- without a further command the programmer stays as it is
 none_further : {E R P : Type 0} (m : Device P) (d : Dialog E R) (p : P) (exchanges : List Exchange)
@@ -76,9 +76,8 @@ module _ {P : Type 0} (m : Device P) where
         ∷ []) (continue_with_reading (λ reading. played (go_on reading) (next n)) o)
 
     -- a command that waits for its reply
-    awaits_reply : answer n tape ≡ None
-        → ReadAs m (Ask bytes go_on) n tape p executions (Disturbed execution NoReply ∷ [])
-    awaits_reply e = search (rules, none-some, none_further, arrives)
+    awaiting : answer n tape ≡ None → ReadAs m (Ask bytes go_on) n tape p executions (Disturbed execution NoReply ∷ [])
+    awaiting e = search (rules, none-some, none_further, arrives)
 
     -- a command that got its reply, by its exchange
     module _ (one_exchange : Exchange) (later : List Exchange) (left : Tape)
@@ -104,29 +103,28 @@ module _ {P : Type 0} (m : Device P) where
         → ReadAs m (Ask bytes go_on) n tape p executions
         (exchanges_from execution (λ reading left. exchanges_on_tape (go_on reading) (next n) left
         (later_executions executions)) o)
-    command_read_as o e each authentic = search (rules, awaits_reply, authentic_exchange, by_exchange)
+    command_read_as o e each h = search (rules, awaiting, authentic_exchange, by_exchange)
 
   -- a run over an authentic tape goes along the tape's exchanges
   read_as : {E R : Type 0} (d : Dialog E R) (n : ℕ) (tape : Tape) (p : P) (executions : List Execution)
       → SendsValidBodies d → RepliesAreAuthentic m d n tape p executions
       → ReadAs m d n tape p executions (exchanges_on_tape d n tape executions)
-  read_as (Done r) n tape p executions asks authentic =
+  read_as (Done r) n tape p executions asks h =
       record { reply_count = 0; left = tape; play = refl; all = λ q seq rest o. refl; programmer = none_sent }
     where
       none_sent : (k : ℕ) → k ≤ 0 → p ≡ after_sent_frames m (take k []) executions p
       none_sent zero le = refl
       none_sent (suc k) le = absurd (omega (arith, le))
-  read_as (Emit e d) n tape p executions asks authentic = search (rules, read_as d n tape p executions asks authentic)
-  read_as (Ask bytes go_on) n tape p executions asks authentic =
+  read_as (Emit e d) n tape p executions asks h = search (rules, read_as d n tape p executions asks h)
+  read_as (Ask bytes go_on) n tape p executions asks h =
       command_read_as bytes go_on n tape p executions asks.0 (answer n tape) refl
       (λ reading left inner. read_as (go_on reading) (next n) left _ (later_executions executions) (asks.1 reading)
-      inner) authentic
+      inner) h
 
   -- THE LAW
   pub goes_as : {E R : Type 0} (d : Dialog E R) (n : ℕ) (tape : Tape) (p : P) (executions : List Execution)
       → SendsValidBodies d → RepliesAreAuthentic m d n tape p executions → GoesAlongExchanges m d n tape p executions
-  goes_as {R =
-      R} d n tape p executions asks authentic = search (rules, read_as, emitted_played, done_played, waits_played)
+  goes_as {R = R} d n tape p executions asks h = search (rules, read_as, emitted_played, done_played, waits_played)
 
 -- ---- the first readings of an authentic tape
 
@@ -140,25 +138,22 @@ AuthenticReading m bytes go_on n p executions = on_reading (λ reading left.
 
 module _ {P : Type 0} (m : Device P) where
   -- by what is read first of the longer tape
-  front_is_authentic : {E R : Type 0} (bytes : List ℕ) (go_on : Reading → Dialog E R) (n : ℕ) (tape more : Tape) (p : P)
-      (executions : List Execution) (o : Option (Reading × Tape)) → answer n tape ≡ o
+  shorter : {E R : Type 0} (bytes : List ℕ) (go_on : Reading → Dialog E R) (n : ℕ) (t u : Tape) (p : P)
+      (executions : List Execution) (o : Option (Reading × Tape)) → answer n t ≡ o
       → ((reading : Reading) (left : Tape) (q : P)
-      → RepliesAreAuthentic m (go_on reading) (next n) (left ++ more) q (later_executions executions)
+      → RepliesAreAuthentic m (go_on reading) (next n) (left ++ u) q (later_executions executions)
       → RepliesAreAuthentic m (go_on reading) (next n) left q (later_executions executions))
-      → RepliesAreAuthentic m (Ask bytes go_on) n (tape ++ more) p executions
+      → RepliesAreAuthentic m (Ask bytes go_on) n (t ++ u) p executions
       → AuthenticReading m bytes go_on n p executions o
-  front_is_authentic bytes go_on n tape more p executions None e each authentic = tt
-  front_is_authentic bytes go_on n tape more p executions (Some (reading, left)) e each authentic =
-      search (rules, reading_extends)
+  shorter bytes go_on n t u p executions None e each h = tt
+  shorter bytes go_on n t u p executions (Some (reading, left)) e each h = search (rules, reading_extends)
 
-  pub authentic_prefix : {E R : Type 0} (d : Dialog E R) (n : ℕ) (tape more : Tape) (p : P) (executions : List
-      Execution) → RepliesAreAuthentic m d n (tape ++ more) p executions → RepliesAreAuthentic m d n tape p executions
-  authentic_prefix (Done r) n tape more p executions authentic = tt
-  authentic_prefix (Emit e d) n tape more p executions authentic = authentic_prefix d n tape more p executions authentic
-  authentic_prefix (Ask bytes go_on) n tape more p executions authentic =
-      front_is_authentic bytes go_on n tape more p executions (answer n tape) refl
-      (λ reading left q inner. authentic_prefix (go_on reading) (next n) left more q (later_executions executions)
-      inner) authentic
+  pub authentic_prefix : {E R : Type 0} (d : Dialog E R) (n : ℕ) (t u : Tape) (p : P) (executions : List
+      Execution) → RepliesAreAuthentic m d n (t ++ u) p executions → RepliesAreAuthentic m d n t p executions
+  authentic_prefix (Done r) n t u p executions h = tt
+  authentic_prefix (Emit e d) n t u p executions h = authentic_prefix d n t u p executions h
+  authentic_prefix (Ask bytes go_on) n t u p executions h = shorter bytes go_on n t u p executions (answer n t) refl
+      (λ reading left q inner. authentic_prefix (go_on reading) (next n) left u q (later_executions executions) inner) h
 
 -- ---- what the programmer cuts from the bytes that it got
 

@@ -56,9 +56,9 @@ same_length (x ∷ xs) (y ∷ ys) (inl (other, same)) = ap (λ zs. suc (length z
 same_length (x ∷ xs) (y ∷ ys) (inr (same, d)) = ap suc (same_length xs ys d)
 
 -- a frame whose number or later bytes differ in one place does so as a whole
-header_same : (start number other high low token : ℕ) (more rest : List ℕ) → DifferInOne (number ∷ more) (other ∷ rest)
-    → DifferInOne (start ∷ number ∷ high ∷ low ∷ token ∷ more) (start ∷ other ∷ high ∷ low ∷ token ∷ rest)
-header_same start number other high low token more rest e = grind arith
+header_same : (start seq other hi lo tok : ℕ) (more rest : List ℕ) → DifferInOne (seq ∷ more) (other ∷ rest)
+    → DifferInOne (start ∷ seq ∷ hi ∷ lo ∷ tok ∷ more) (start ∷ other ∷ hi ∷ lo ∷ tok ∷ rest)
+header_same start seq other hi lo tok more rest e = grind arith
 
 -- the damaged frame is a piece as long, and no good one
 abbrev BadPiece : List ℕ → Type 0
@@ -72,18 +72,17 @@ zero_xor piece good = eqb-true (xor_all piece) 0 (and_parts (is_frame piece) (xo
 bad_piece : (piece came : List ℕ) → IsPiece piece → is_good piece ≡ true → IsDamaged piece came → BadPiece came
 bad_piece [] came whole good d = absurd d
 bad_piece (start ∷ []) came whole good d = absurd d
-bad_piece (start ∷ number ∷ []) came whole good d = absurd d
-bad_piece (start ∷ number ∷ high ∷ []) came whole good d = absurd d
-bad_piece (start ∷ number ∷ high ∷ low ∷ []) came whole good d = absurd d
-bad_piece (start ∷ number ∷ high ∷ low ∷ token ∷ more) came whole good (other, rest, e, d) = subst BadPiece (sym e) (
-  whole ∙ same_length (start ∷ number ∷ high ∷ low ∷ token ∷ more) (start ∷ other ∷ high ∷ low ∷ token ∷ rest) differ,
-  λ fine. xor_differs (start ∷ number ∷ high ∷ low ∷ token ∷ more) (start ∷ other ∷ high ∷ low ∷ token ∷ rest) 0 differ
-      (zero_xor (start ∷ number ∷ high ∷ low ∷ token ∷ more) good ∙ sym
-      (zero_xor (start ∷ other ∷ high ∷ low ∷ token ∷ rest) fine)),
+bad_piece (start ∷ seq ∷ []) came whole good d = absurd d
+bad_piece (start ∷ seq ∷ hi ∷ []) came whole good d = absurd d
+bad_piece (start ∷ seq ∷ hi ∷ lo ∷ []) came whole good d = absurd d
+bad_piece (start ∷ seq ∷ hi ∷ lo ∷ tok ∷ more) came whole good (other, rest, e, d) = subst BadPiece (sym e) (
+  whole ∙ same_length (start ∷ seq ∷ hi ∷ lo ∷ tok ∷ more) (start ∷ other ∷ hi ∷ lo ∷ tok ∷ rest) differ,
+  λ fine. xor_differs (start ∷ seq ∷ hi ∷ lo ∷ tok ∷ more) (start ∷ other ∷ hi ∷ lo ∷ tok ∷ rest) 0 differ
+      (zero_xor (start ∷ seq ∷ hi ∷ lo ∷ tok ∷ more) good ∙ sym (zero_xor (start ∷ other ∷ hi ∷ lo ∷ tok ∷ rest) fine)),
 )
   where
-    differ : DifferInOne (start ∷ number ∷ high ∷ low ∷ token ∷ more) (start ∷ other ∷ high ∷ low ∷ token ∷ rest)
-    differ = header_same start number other high low token more rest d
+    differ : DifferInOne (start ∷ seq ∷ hi ∷ lo ∷ tok ∷ more) (start ∷ other ∷ hi ∷ lo ∷ tok ∷ rest)
+    differ = header_same start seq other hi lo tok more rest d
 
 -- ---- what the programmer gets
 
@@ -114,9 +113,9 @@ abbrev IsGood : List ℕ → Type 0
 IsGood piece = is_good piece ≡ true
 
 -- the frames in bytes that begin with a piece
-first_piece_cut : (piece more got : List ℕ) → IsPiece piece → got ≡ piece ++ more → frames got
+came_by : (piece more got : List ℕ) → IsPiece piece → got ≡ piece ++ more → frames got
     ≡ filter is_frame (piece ∷ cut more)
-first_piece_cut piece more got whole e = ap frames e ∙ ap (filter is_frame) (cut_first piece more whole)
+came_by piece more got whole e = ap frames e ∙ ap (filter is_frame) (cut_first piece more whole)
 
 -- the good frames in what arrived are those that passed
 good_arrived : (sent : List (List ℕ)) (through : List Bool) (got : List ℕ) → All IsPiece sent → All IsGood sent
@@ -128,16 +127,14 @@ good_arrived (piece ∷ sent) [] got whole good e = ap (λ (g : List ℕ). witho
 good_arrived (piece ∷ sent) (true ∷ through) got whole good (more, e, later) =
     ap (adding_received Executed piece) (good_arrived sent through more (All-tail IsPiece piece sent whole)
     (All-tail IsGood piece sent good) later)
-    ∙ ap without_restart (sym (ap (filter is_good) (first_piece_cut piece more got (All-head IsPiece piece sent whole)
-    e)
+    ∙ ap without_restart (sym (ap (filter is_good) (came_by piece more got (All-head IsPiece piece sent whole) e)
     ∙ good_kept piece (cut more) (All-head IsGood piece sent good)))
 good_arrived (piece ∷ sent) (false ∷ through) got whole good (inl later) =
     good_arrived sent through got (All-tail IsPiece piece sent whole) (All-tail IsGood piece sent good) later
 good_arrived (piece ∷ sent) (false ∷ through) got whole good (inr (came, more, e, d, later)) =
     let bad = bad_piece piece came (All-head IsPiece piece sent whole) (All-head IsGood piece sent good) d in
     good_arrived sent through more (All-tail IsPiece piece sent whole) (All-tail IsGood piece sent good) later
-    ∙ ap without_restart (sym (ap (filter is_good) (first_piece_cut came more got bad.0 e) ∙ bad_dropped came (cut more)
-    bad.1))
+    ∙ ap without_restart (sym (ap (filter is_good) (came_by came more got bad.0 e) ∙ bad_dropped came (cut more) bad.1))
 
 pub arrived_came : (sent : List (List ℕ)) (passed : List Bool) (got : List ℕ) → All IsPiece sent → All IsGood sent
     → Arrived sent passed got → ReceivedSentFrames got [] sent (executions_by_arrival passed)
@@ -164,19 +161,18 @@ damaged_frame : (n : ℕ) (body came : List ℕ) → IsFrameBody body → IsDama
 damaged_frame n body came b d = bad_piece (frame n body) came (frame_is_piece_whole n body b) (frame_is_good n body b.some) d
 
 -- a reply to one of these commands, or such a reply damaged
-reply_is_sound : (k : ℕ) (sent : List (List ℕ)) (piece : List ℕ) → AllReplies sent → IsReplyOfFirst k sent piece
+reply_sound : (k : ℕ) (sent : List (List ℕ)) (piece : List ℕ) → AllReplies sent → IsReplyOfFirst k sent piece
     → Sound (IsAmongFirst k sent) piece
-reply_is_sound zero sent piece all is = absurd is
-reply_is_sound (suc k) [] piece all is = absurd is
-reply_is_sound (suc k) (first ∷ sent) piece (inl none, all) (inl same) = inl (same ∙ none)
-reply_is_sound (suc k) (first ∷ sent) piece (inr (n, body, b, e), all) (inl same) =
+reply_sound zero sent piece all is = absurd is
+reply_sound (suc k) [] piece all is = absurd is
+reply_sound (suc k) (first ∷ sent) piece (inl none, all) (inl same) = inl (same ∙ none)
+reply_sound (suc k) (first ∷ sent) piece (inr (n, body, b, e), all) (inl same) =
     inr (subst IsPiece (sym (same ∙ e)) (frame_is_piece_whole n body b), λ good. inl same)
-reply_is_sound (suc k) (first ∷ sent) piece (inl none, all) (inr (inl d)) =
-    absurd (subst (λ f. IsDamaged f piece) none d)
-reply_is_sound (suc k) (first ∷ sent) piece (inr (n, body, b, e), all) (inr (inl d)) =
+reply_sound (suc k) (first ∷ sent) piece (inl none, all) (inr (inl d)) = absurd (subst (λ f. IsDamaged f piece) none d)
+reply_sound (suc k) (first ∷ sent) piece (inr (n, body, b, e), all) (inr (inl d)) =
     let bad = damaged_frame n body piece b (subst (λ f. IsDamaged f piece) e d) in
     inr (bad.0, λ good. absurd (bad.1 good))
-reply_is_sound (suc k) (first ∷ sent) piece (reply, all) (inr (inr is)) = elim (reply_is_sound k sent piece all is) [
+reply_sound (suc k) (first ∷ sent) piece (reply, all) (inr (inr is)) = elim (reply_sound k sent piece all is) [
   | inl none ↦ inl none
   | inr (whole, among) ↦ inr (whole, λ good. inr (among good))
 ]
@@ -185,22 +181,22 @@ refused_body : IsFrameBody refusal
 refused_body = record { some = omega arith; few = omega arith }
 
 -- a refusal, or a refusal damaged
-refusal_is_sound : (piece : List ℕ) → IsSomeRefusal piece → Sound (λ p. body_of p ≡ refusal) piece
-refusal_is_sound piece (n, inl same) = inr (
+refusal_sound : (piece : List ℕ) → IsSomeRefusal piece → Sound (λ p. body_of p ≡ refusal) piece
+refusal_sound piece (n, inl same) = inr (
   subst IsPiece (sym same) (frame_is_piece_whole n refusal refused_body),
   λ good. ap body_of same ∙ body_of_frame n refusal,
 )
-refusal_is_sound piece (n, inr d) =
+refusal_sound piece (n, inr d) =
     let bad = damaged_frame n refusal piece refused_body d in inr (bad.0, λ good. absurd (bad.1 good))
 
 -- what arrives is nothing, or a whole piece that isn't forged
-not_forged : (sent : List (List ℕ)) (piece : List ℕ) → AllReplies sent → IsReplyOfFirst 256 sent piece
+unforged : (sent : List (List ℕ)) (piece : List ℕ) → AllReplies sent → IsReplyOfFirst 256 sent piece
     ⊎ IsSomeRefusal piece → (piece ≡ []) ⊎ (IsPiece piece × IsNotForged sent piece)
-not_forged sent piece all (inl is) = elim (reply_is_sound 256 sent piece all is) [
+unforged sent piece all (inl is) = elim (reply_sound 256 sent piece all is) [
   | inl none ↦ inl none
   | inr (whole, among) ↦ inr (whole, λ good. inr (among good))
 ]
-not_forged sent piece all (inr is) = elim (refusal_is_sound piece is) [
+unforged sent piece all (inr is) = elim (refusal_sound piece is) [
   | inl none ↦ inl none
   | inr (whole, of) ↦ inr (whole, λ good. inl (of good))
 ]
@@ -236,7 +232,7 @@ take_none most = grind arith
 none_forged : (n most : ℕ) (sent pieces : List (List ℕ)) → AllReplies sent → AreRecentReplies n sent pieces
     → Window n pieces most → AreNotForged n sent (cut (take most (concat pieces)))
 none_forged n most sent [] all replies le = subst (λ bs. AreNotForged n sent (cut bs)) (sym (take_none most)) tt
-none_forged n most sent (piece ∷ pieces) all (is, later) le = elim (not_forged sent piece all is) [
+none_forged n most sent (piece ∷ pieces) all (is, later) le = elim (unforged sent piece all is) [
   | inl none ↦ subst (λ p. AreNotForged n sent (cut (take most (p ++ concat pieces)))) (sym none)
       (none_forged n most sent pieces all (later (nothing_is_no_reply n piece none))
       (omega (arith, window_rest n piece pieces most (nothing_is_no_reply n piece none) le)))
@@ -265,8 +261,8 @@ bytes_before_pause (PauseArrives ∷ come) = refl
 bytes_before_pause (EndArrives ∷ come) = refl
 
 -- the awaited reply comes, as the end of these bytes
-abbrev Arrives : ℕ → List Arrival → List ℕ → Type 0
-Arrives n come bytes = (body : List ℕ) × (left : List Arrival) × (first_reading n come ≡ Some (Replied body, left))
+abbrev Comes : ℕ → List Arrival → List ℕ → Type 0
+Comes n come bytes = (body : List ℕ) × (left : List Arrival) × (first_reading n come ≡ Some (Replied body, left))
     × (tape_of_arrivals come ≡ on_tape bytes ++ tape_of_arrivals left) × (first_reply n (cut bytes)
     ≡ Some (body, length bytes))
 
@@ -289,14 +285,14 @@ further_first n piece bytes e other = grind (arith, further_zero, cut_first, con
 reply_is_something : (n : ℕ) (piece : List ℕ) → piece ≡ [] → is_reply n piece ≡ true → ⊥
 reply_is_something n piece none is = false≢true (sym (nothing_is_no_reply n piece none) ∙ is)
 
-nothing_or_piece : {A : Type 0} (piece : List ℕ) → (piece ≡ []) ⊎ (IsPiece piece × A) → (piece ≡ []) ⊎ IsPiece piece
-nothing_or_piece piece e = grind arith
+shape : {A : Type 0} (piece : List ℕ) → (piece ≡ []) ⊎ (IsPiece piece × A) → (piece ≡ []) ⊎ IsPiece piece
+shape piece e = grind arith
 
 -- a frame in front that isn't the reply
-behind_other_frame : (n : ℕ) (piece bytes : List ℕ) (come : List Arrival) → (piece ≡ []) ⊎ IsPiece piece
-    → is_reply n piece ≡ false → Arrives n come bytes ⊎ Lost n come bytes
-    → Arrives n (FrameArrives piece ∷ come) (piece ++ bytes) ⊎ Lost n (FrameArrives piece ∷ come) (piece ++ bytes)
-behind_other_frame n piece bytes come whole other (inl (body, left, is, tape, first)) =
+skipped : (n : ℕ) (piece bytes : List ℕ) (come : List Arrival) → (piece ≡ []) ⊎ IsPiece piece
+    → is_reply n piece ≡ false → Comes n come bytes ⊎ Lost n come bytes
+    → Comes n (FrameArrives piece ∷ come) (piece ++ bytes) ⊎ Lost n (FrameArrives piece ∷ come) (piece ++ bytes)
+skipped n piece bytes come whole other (inl (body, left, is, tape, first)) =
     let size : length piece + length bytes ≡ length (piece ++ bytes) = sym (length-append piece bytes) in
     inl (
       body,
@@ -306,7 +302,7 @@ behind_other_frame n piece bytes come whole other (inl (body, left, is, tape, fi
       further_first n piece bytes whole other
           ∙ (ap (past_skipped (length piece)) first ∙ ap (λ k. Some (body, k)) size),
     )
-behind_other_frame n piece bytes come whole other (inr (left, is, none, tape, first)) = inr (
+skipped n piece bytes come whole other (inr (left, is, none, tape, first)) = inr (
   left,
   cond-false (is_reply n piece) _ _ other ∙ is,
   none,
@@ -315,30 +311,28 @@ behind_other_frame n piece bytes come whole other (inr (left, is, none, tape, fi
 )
 
 -- by the pieces that arrive, one after the other
-arrives_or_not : (n : ℕ) (sent : List (List ℕ)) (come : List Arrival) → AllReplies sent
-    → AreRecentReplies n sent (frames_before_pause come)
-    → Arrives n come (bytes_up_to_reply n (frames_before_pause come))
+by_piece : (n : ℕ) (sent : List (List ℕ)) (come : List Arrival) → AllReplies sent
+    → AreRecentReplies n sent (frames_before_pause come) → Comes n come (bytes_up_to_reply n (frames_before_pause come))
     ⊎ Lost n come (bytes_up_to_reply n (frames_before_pause come))
-arrives_or_not n sent [] all replies = inr ([], refl, refl, refl, refl)
-arrives_or_not n sent (PauseArrives ∷ come) all replies = inr (PauseArrives ∷ come, refl, refl, refl, refl)
-arrives_or_not n sent (EndArrives ∷ come) all replies = inr (EndArrives ∷ come, refl, refl, refl, refl)
-arrives_or_not n sent (FrameArrives piece ∷ come) all (is, later) = elim (cases_Bool (is_reply n piece)) [
-  | inl found ↦ subst (λ bs. Arrives n (FrameArrives piece ∷ come) (piece ++ bs)
+by_piece n sent [] all replies = inr ([], refl, refl, refl, refl)
+by_piece n sent (PauseArrives ∷ come) all replies = inr (PauseArrives ∷ come, refl, refl, refl, refl)
+by_piece n sent (EndArrives ∷ come) all replies = inr (EndArrives ∷ come, refl, refl, refl, refl)
+by_piece n sent (FrameArrives piece ∷ come) all (is, later) = elim (cases_Bool (is_reply n piece)) [
+  | inl found ↦ subst (λ bs. Comes n (FrameArrives piece ∷ come) (piece ++ bs)
       ⊎ Lost n (FrameArrives piece ∷ come) (piece ++ bs))
       (sym (cond-true (is_reply n piece) [] (bytes_up_to_reply n (frames_before_pause come)) found))
-      (inl (taken found (not_forged sent piece all is)))
-  | inr other ↦ subst (λ bs. Arrives n (FrameArrives piece ∷ come) (piece ++ bs)
+      (inl (taken found (unforged sent piece all is)))
+  | inr other ↦ subst (λ bs. Comes n (FrameArrives piece ∷ come) (piece ++ bs)
       ⊎ Lost n (FrameArrives piece ∷ come) (piece ++ bs))
       (sym (cond-false (is_reply n piece) [] (bytes_up_to_reply n (frames_before_pause come)) other))
-      (behind_other_frame n piece (bytes_up_to_reply n (frames_before_pause come)) come
-      (nothing_or_piece piece (not_forged sent piece all is))
-      other (arrives_or_not n sent come all (later other)))
+      (skipped n piece (bytes_up_to_reply n (frames_before_pause come)) come (shape piece (unforged sent piece all is))
+      other (by_piece n sent come all (later other)))
 ]
   where
     taken : is_reply n piece ≡ true → (piece ≡ []) ⊎ (IsPiece piece × IsNotForged sent piece)
-        → Arrives n (FrameArrives piece ∷ come) (piece ++ [])
+        → Comes n (FrameArrives piece ∷ come) (piece ++ [])
     taken found (inl none) = absurd (reply_is_something n piece none found)
-    taken found (inr (whole, was)) = subst (Arrives n (FrameArrives piece ∷ come)) (sym (append-nil piece)) (
+    taken found (inr (whole, was)) = subst (Comes n (FrameArrives piece ∷ come)) (sym (append-nil piece)) (
       body_of piece,
       come,
       cond-true (is_reply n piece) _ _ found,
@@ -353,19 +347,18 @@ on_the_tape None = None
 on_the_tape (Some (reading, come)) = Some (reading, tape_of_arrivals come)
 
 -- if the reply doesn't come, a timeout or the end is read
-read_if_lost : (n : ℕ) (bytes : List ℕ) (left : List Arrival) → frames_before_pause left ≡ []
-    → first_reply n (cut bytes)
+lost_reads : (n : ℕ) (bytes : List ℕ) (left : List Arrival) → frames_before_pause left ≡ [] → first_reply n (cut bytes)
     ≡ None → length bytes < reply_byte_limit → answer n (on_tape bytes ++ tape_of_arrivals left)
     ≡ on_the_tape (first_reading n left)
-read_if_lost n bytes [] none first lt = ap (answer n) (append-nil (on_tape bytes)) ∙ reading_waits n bytes first lt
-read_if_lost n bytes (PauseArrives ∷ left) none first lt = reading_silent n bytes (tape_of_arrivals left) first lt
-read_if_lost n bytes (EndArrives ∷ left) none first lt = reading_ended n bytes (tape_of_arrivals left) first lt
-read_if_lost n bytes (FrameArrives piece ∷ left) none first lt = cc
+lost_reads n bytes [] none first lt = ap (answer n) (append-nil (on_tape bytes)) ∙ reading_waits n bytes first lt
+lost_reads n bytes (PauseArrives ∷ left) none first lt = reading_silent n bytes (tape_of_arrivals left) first lt
+lost_reads n bytes (EndArrives ∷ left) none first lt = reading_ended n bytes (tape_of_arrivals left) first lt
+lost_reads n bytes (FrameArrives piece ∷ left) none first lt = cc
 
 -- what is read of the tape is what arrives
-read_as_arrived : (n : ℕ) (come : List Arrival) (bytes : List ℕ) → Arrives n come bytes ⊎ Lost n come bytes
+is_read : (n : ℕ) (come : List Arrival) (bytes : List ℕ) → Comes n come bytes ⊎ Lost n come bytes
     → length bytes < reply_byte_limit → answer n (tape_of_arrivals come) ≡ on_the_tape (first_reading n come)
-read_as_arrived n come bytes e lt = grind (arith, reading_found, read_if_lost)
+is_read n come bytes e lt = grind (arith, reading_found, lost_reads)
 
 -- ---- the law
 
@@ -388,8 +381,7 @@ module _ {P : Type 0} (m : Device P) (bodies : (bytes : List ℕ) (p : P) → Is
       subst (on_reading (λ reading left.
       AreNotForged n now (cut (take reply_byte_limit (leading_bytes (tape_of_arrivals come))))
       × ForgesNoFrame m (go_on reading) (next n) left afterwards (later_executions executions) now))
-      (sym (read_as_arrived n come (bytes_up_to_reply n (frames_before_pause come))
-      (arrives_or_not n now come all_now replies) lt))
+      (sym (is_read n come (bytes_up_to_reply n (frames_before_pause come)) (by_piece n now come all_now replies) lt))
       (by (λ reading left claim. brings_no_frame (go_on reading) (next n) left afterwards (later_executions executions)
       now all_now claim) (first_reading n come) later)
     where

@@ -57,39 +57,36 @@ module _ (part : Part) (addr : ℕ) where
   byte m = get_or m.flash addr 0
 
   -- a byte of flash is made by the images that items write, and by an erase
-  pub flash_byte_made : (xs : List Item) (m : Memories) → addr < length m.flash
+  pub byte_made : (xs : List Item) (m : Memories) → addr < length m.flash
       → IsMadeByImages xs addr (byte m) (byte (effects part xs m))
-  flash_byte_made [] m l = record { first = byte m; bytes = []; first_is = inl refl; are_there = tt; is = refl }
-  flash_byte_made (Erase ∷ xs) m l = search (
+  byte_made [] m l = record { first = byte m; bytes = []; first_is = inl refl; are_there = tt; is = refl }
+  byte_made (Erase ∷ xs) m l = search (
     rules,
     written_later,
     get_or-replicate,
     length-replicate,
-    flash_byte_made xs (effect part Erase m) (search (rules, length-replicate)),
+    byte_made xs (effect part Erase m) (search (rules, length-replicate)),
   )
-  flash_byte_made (Write Flash image ∷ xs) m l = search (
+  byte_made (Write Flash image ∷ xs) m l = search (
     rules,
     write_joined,
     get_and_in,
     still_inside,
-    flash_byte_made xs (effect part (Write Flash image) m) (still_inside image m.flash addr (are_locked m) l),
+    byte_made xs (effect part (Write Flash image) m) (still_inside image m.flash addr (are_locked m) l),
   )
-  flash_byte_made (Write mem image ∷ xs) m l =
-      search (rules, written_later, flash_byte_made xs (effect part (Write mem image) m) l)
+  byte_made (Write mem image ∷ xs) m l = search (rules, written_later, byte_made xs (effect part (Write mem image) m) l)
 
 -- the first items of a list
-written_in_first : (k : ℕ) (xs : List Item) (addr byte : ℕ) → IsWrittenAt (take k xs) addr byte
-    → IsWrittenAt xs addr byte
-written_in_first zero xs addr byte is = absurd is
-written_in_first (suc k) [] addr byte is = absurd is
-written_in_first (suc k) (x ∷ xs) addr byte (inl is) = inl is
-written_in_first (suc k) (x ∷ xs) addr byte (inr is) = inr (written_in_first k xs addr byte is)
+written_first : (k : ℕ) (xs : List Item) (addr byte : ℕ) → IsWrittenAt (take k xs) addr byte → IsWrittenAt xs addr byte
+written_first zero xs addr byte is = absurd is
+written_first (suc k) [] addr byte is = absurd is
+written_first (suc k) (x ∷ xs) addr byte (inl is) = inl is
+written_first (suc k) (x ∷ xs) addr byte (inr is) = inr (written_first k xs addr byte is)
 
-pub all_written_in_first : (k : ℕ) (xs : List Item) (addr : ℕ) (bytes : List ℕ) → AreWrittenAt (take k xs) addr bytes
+pub all_written_first : (k : ℕ) (xs : List Item) (addr : ℕ) (bytes : List ℕ) → AreWrittenAt (take k xs) addr bytes
     → AreWrittenAt xs addr bytes
-all_written_in_first k xs addr [] are = tt
-all_written_in_first k xs addr (b ∷ bytes) are =
-    (written_in_first k xs addr b are.0, all_written_in_first k xs addr bytes are.1)
+all_written_first k xs addr [] are = tt
+all_written_first k xs addr (b ∷ bytes) are = (written_first k xs addr b are.0, all_written_first k xs addr bytes are.1)
 
 -- if the first items erase, all do
 pub erase_in_first : (k : ℕ) (xs : List Item) → has_erase (take k xs) ≡ true → has_erase xs ≡ true

@@ -147,9 +147,9 @@ module _ (s : Settings) (plan : Plan) (x y : Devices) (r : IsRun s x y 0)
       -- ---- without -F it has the signature of the plan's part
 
       -- the handshake gives the signature, or a fault
-      handshake_goes : Upholds (over_any_exchange real.device) (λ body q. HasMemories real before q) NoOutput
+      beginning : Upholds (over_any_exchange real.device) (λ body q. HasMemories real before q) NoOutput
           (AfterBeginning real before) handshake p
-      handshake_goes = beginning_goes part sound real before p sizes signs idle
+      beginning = beginning_goes part sound real before p sizes signs idle
 
       -- a dialog over what was received
       abbrev run : Dialog OutputEvent ℕ → Played OutputEvent ℕ
@@ -164,8 +164,7 @@ module _ (s : Settings) (plan : Plan) (x y : Devices) (r : IsRun s x y 0)
         -- the chip has the signature of the plan's part, or `-F` was given
         pub own : plan.switches.force ≡ false → part.signature ≡ plan.part.signature
         own unforced =
-            own_signature plan part real before handshake 1 tape p executions r.next (left_over s x y r)
-            handshake_goes.holds
+            own_signature plan part real before handshake 1 tape p executions r.next (left_over s x y r) beginning.holds
             (no_forged_frame_authentic real.device handshake 1 tape p executions [] tt first) ended unforced
 
         -- so its session differs in printed lines alone

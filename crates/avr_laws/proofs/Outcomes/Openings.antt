@@ -56,26 +56,25 @@ OpensNone (Emit event dialog) = OpensNone dialog
 OpensNone {R = R} (Ask body resume) = (reading : Reading) → OpensNone (resume reading)
 
 -- nor do dialogs one after the other
-opens_none_bind : {A R : Type 0} (dialog : Dialog OutputEvent A) (go_on : A → Dialog OutputEvent R) → OpensNone dialog
+bind_none : {A R : Type 0} (dialog : Dialog OutputEvent A) (go_on : A → Dialog OutputEvent R) → OpensNone dialog
     → ((a : A) → OpensNone (go_on a)) → OpensNone (dialog >>= go_on)
-opens_none_bind (Done a) go_on opens more = more a
-opens_none_bind (Emit (Opens opening) dialog) go_on opens more = absurd opens
-opens_none_bind (Emit event dialog) go_on opens more = opens_none_bind dialog go_on opens more
-opens_none_bind (Ask body resume) go_on opens more =
-    λ reading. opens_none_bind (resume reading) go_on (opens reading) more
+bind_none (Done a) go_on opens more = more a
+bind_none (Emit (Opens opening) dialog) go_on opens more = absurd opens
+bind_none (Emit event dialog) go_on opens more = bind_none dialog go_on opens more
+bind_none (Ask body resume) go_on opens more = λ reading. bind_none (resume reading) go_on (opens reading) more
 
 -- nor does a dialog that puts nothing out
-opens_none_lifted : {R : Type 0} (dialog : Dialog ⊥ R) → OpensNone (lifted dialog)
-opens_none_lifted (Done r) = tt
-opens_none_lifted (Emit e dialog) = absurd e
-opens_none_lifted (Ask body resume) = λ reading. opens_none_lifted (resume reading)
+lifted_none : {R : Type 0} (dialog : Dialog ⊥ R) → OpensNone (lifted dialog)
+lifted_none (Done r) = tt
+lifted_none (Emit e dialog) = absurd e
+lifted_none (Ask body resume) = λ reading. lifted_none (resume reading)
 
 -- nor does output before a dialog
-opens_none_emits : {R : Type 0} (output_events : List OutputEvent) (dialog : Dialog OutputEvent R)
+emits_none : {R : Type 0} (output_events : List OutputEvent) (dialog : Dialog OutputEvent R)
     → openings_in output_events ≡ [] → OpensNone dialog → OpensNone (emits output_events dialog)
-opens_none_emits [] dialog opens more = more
-opens_none_emits (Opens opening ∷ output_events) dialog opens more = absurd (cc opens)
-opens_none_emits (event ∷ output_events) dialog opens more = opens_none_emits output_events dialog opens more
+emits_none [] dialog opens more = more
+emits_none (Opens opening ∷ output_events) dialog opens more = absurd (cc opens)
+emits_none (event ∷ output_events) dialog opens more = emits_none output_events dialog opens more
 
 -- so a run of such a dialog opens none
 played_none : {R : Type 0} (dialog : Dialog OutputEvent R) (seq : ℕ) (tape : Tape) → OpensNone dialog
@@ -97,7 +96,7 @@ reported_none : {A : Type 0} (operation : Dialog ⊥ (Result A HostFault))
     (outcome_output : Result A HostFault → List OutputEvent)
     → ((outcome : Result A HostFault) → NoneOpened (outcome_output outcome))
     → OpensNone (reported operation outcome_output)
-reported_none operation outcome_output each = search (rules, opens_none_bind, opens_none_lifted, opens_none_emits)
+reported_none operation outcome_output each = search (rules, bind_none, lifted_none, emits_none)
 
 -- a dialog that a fault leaves out
 unless_none : (dialog : Dialog OutputEvent Standing) → OpensNone dialog → (before : Standing)
@@ -107,20 +106,19 @@ unless_none dialog opens before = search rules
 module _ (part : Part) (s : Switches) where
   -- each action
   action_none : (action : Action) → OpensNone (action_dialog part s action)
-  action_none action =
-      search (rules, reported_none, opening_none, bytes_none, read_none, opens_none_emits, skipped_none)
+  action_none action = search (rules, reported_none, opening_none, bytes_none, read_none, emits_none, skipped_none)
 
   actions_none : (all : List Action) → OpensNone (actions_dialog part s all)
   actions_none [] = tt
-  actions_none (action ∷ all) = search (rules, opens_none_bind, unless_none, action_none, actions_none all)
+  actions_none (action ∷ all) = search (rules, bind_none, unless_none, action_none, actions_none all)
 
   ending_none : (before : Standing) → OpensNone (ending part s before)
-  ending_none before = search (rules, reported_none, opens_none_bind)
+  ending_none before = search (rules, reported_none, bind_none)
 
 -- a session
 session_none : (plan : Plan) → OpensNone (session plan)
 unfolding session
-session_none plan = search (rules, opens_none_bind, actions_none, ending_none)
+session_none plan = search (rules, bind_none, actions_none, ending_none)
 
 pub session_opens_none : (plan : Plan) (seq : ℕ) (tape : Tape)
     → openings_in (outputs (played (session plan) seq tape).events) ≡ []

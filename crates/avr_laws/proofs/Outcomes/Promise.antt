@@ -26,7 +26,7 @@ use Rattle.avr_laws.specs.OnlyReading.{OnlyReadsAndPrints}
 use Rattle.avr_laws.proofs.Outcomes.Alike.{AreAlike, same_bytes, same_events, same_outcome}
 use Rattle.avr_laws.proofs.Outcomes.ByTasks.{made_by_tasks, tasks_agree}
 use Rattle.avr_laws.proofs.Outcomes.Openings.{run_keeps}
-use Rattle.avr_laws.proofs.Outcomes.Saved.{WritesFiles, writes_append, expected_writes, reading_writes, these_saved, writes_alike}
+use Rattle.avr_laws.proofs.Outcomes.Saved.{WritesFiles, both_write, expected_writes, reading_writes, these_saved, writes_alike}
 use Rattle.avr_laws.proofs.Plans.OnlyReading.{only_reads}
 use Rattle.avr_part.specs.Part.{IsPart}
 use Rattle.stk_host.specs.ReadSteps.{signature_steps}
@@ -117,7 +117,7 @@ module _ (s : Settings) (x y : Devices) (r : IsRun s x y 0) where
           → FilesAreSaved (saved_files other m) x.desk.kept y.desk.kept
       keeps_files m zero emitted =
           these_saved ((planned s r.openings).output_events ++ outputs done) (saved_files other m) x.desk y.desk
-          (writes_append (planned s r.openings).output_events (outputs done) [] (saved_files other m)
+          (both_write (planned s r.openings).output_events (outputs done) [] (saved_files other m)
           (reading_writes (planned s r.openings).output_events only_read)
           (writes_alike done_other done (saved_files other m) (sym (same_events are_alike 1 tape))
           (subst (λ (output_events : List OutputEvent). WritesFiles output_events (saved_files other m)) (sym emitted)

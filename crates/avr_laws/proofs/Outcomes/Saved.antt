@@ -49,9 +49,9 @@ none_written : WritesFiles [] []
 none_written = record { created = λ r. sym (append-nil (all_files r)); output = λ r. sym (append-nil r.output) }
 
 -- what is put out after something else
-pub writes_append : (a b : List OutputEvent) (fs gs : List Writing) → WritesFiles a fs → WritesFiles b gs
+pub both_write : (a b : List OutputEvent) (fs gs : List Writing) → WritesFiles a fs → WritesFiles b gs
     → WritesFiles (a ++ b) (fs ++ gs)
-writes_append a b fs gs first second = record {
+both_write a b fs gs first second = record {
   created = λ r. ap all_files (after_append a b r) ∙ (second.created (after_events a r)
       ∙ (ap (λ (files : List Writing). files ++ named_files gs) (first.created r)
       ∙ (append_assoc (all_files r) (named_files fs) (named_files gs)
@@ -144,9 +144,9 @@ pub reading_writes : (output_events : List OutputEvent) → OnlyReadsAndPrints o
     → WritesFiles output_events []
 reading_writes [] reads = none_written
 reading_writes (Opens opening ∷ output_events) reads =
-    writes_append (Opens opening ∷ []) output_events [] [] (opening_writes opening) (reading_writes output_events reads)
+    both_write (Opens opening ∷ []) output_events [] [] (opening_writes opening) (reading_writes output_events reads)
 reading_writes (PrintsLine bytes ∷ output_events) reads =
-    grind (arith, writes_append, line_writes, reading_writes output_events reads)
+    grind (arith, both_write, line_writes, reading_writes output_events reads)
 reading_writes (event ∷ output_events) reads = absurd reads
 
 -- ---- the actions of the expected run
@@ -161,7 +161,7 @@ warning_writes quiet pieces = if_line _ _
 saved_then : (file text : Bytes) (quiet : ℕ) (pieces : List Bytes)
     → WritesFiles (saving_output file text ++ informs quiet pieces) (record { name = file; bytes = text } ∷ [])
 saved_then file text quiet pieces =
-    writes_append (saving_output file text) (informs quiet pieces) (record { name = file; bytes = text } ∷ []) []
+    both_write (saving_output file text) (informs quiet pieces) (record { name = file; bytes = text } ∷ []) []
     (saved_as (is_dash file) file text refl) (informing_writes quiet pieces)
 
 -- of an outcome without files
@@ -178,7 +178,7 @@ module _ (part : Part) (s : Switches) where
   -- an action writes its file
   action_writes : (action : Action) (m : Memories) → WritesFiles (action_expected part s action m).output_events
       (action_files part s action m)
-  action_writes OpenSession m = search (rules, writes_append, informing_writes, warning_writes, unless_same)
+  action_writes OpenSession m = search (rules, both_write, informing_writes, warning_writes, unless_same)
   action_writes (CompareImage mem image) m = search (rules, fault_or_writes, informing_writes)
   action_writes (SaveMemory mem format file) m = search (rules, saved_then)
   action_writes (SkipAction SkippedErase) m = search (rules, warning_writes)
@@ -195,7 +195,7 @@ module _ (part : Part) (s : Switches) where
       → ((next first.memories).standing ≡ NoFault → WritesFiles (next first.memories).output_events gs)
       → (then_from first standing next).standing ≡ NoFault → WritesFiles (then_from first standing next).output_events
       (fs ++ gs)
-  actions_in_turn first standing next fs gs is one more fine = search (rules, writes_append)
+  actions_in_turn first standing next fs gs is one more fine = search (rules, both_write)
 
   -- so do all actions, if there is no fault
   actions_write : (all : List Action) (m : Memories) → (actions_expected part s all m).standing ≡ NoFault
@@ -222,8 +222,7 @@ expected_writes plan m zero =
     let fine : working.standing ≡ NoFault = fine_by working.standing zero in
     let files = actions_files plan.part plan.switches (actions plan) m in
     subst (λ (files : List Writing). WritesFiles (expected_run plan m).output_events files)
-    (append-nil files ∙ files_by_tasks plan m) (writes_append working.output_events
-    (ending_output plan working.standing)
+    (append-nil files ∙ files_by_tasks plan m) (both_write working.output_events (ending_output plan working.standing)
     files [] (actions_write plan.part plan.switches (actions plan) m fine)
     (subst (λ (standing : Standing). WritesFiles (ending_output plan standing) []) (sym fine)
     (informing_writes plan.switches.quiet (codes "done" ∷ []))))

@@ -13,17 +13,16 @@ use Rattle.avr_session.specs.FileText.{file_text}
 use Rattle.avr_laws.specs.SavedText.{address_width, saved_ihex, saved_srec, saved_text}
 
 -- an image that has each byte
-abbrev all_held : List ℕ → List (Option ℕ)
-all_held = map (λ byte. Some byte)
+abbrev filled : List ℕ → List (Option ℕ)
+filled = map (λ byte. Some byte)
 
 -- it is one run
-one_run : (addr b : ℕ) (bytes : List ℕ) → runs addr (all_held (b ∷ bytes)) ≡ (addr, b ∷ bytes) ∷ []
+one_run : (addr b : ℕ) (bytes : List ℕ) → runs addr (filled (b ∷ bytes)) ≡ (addr, b ∷ bytes) ∷ []
 one_run addr b [] = refl
 one_run addr b (c ∷ bytes) = grind (arith, nat_tests, one_run (addr + 1) c bytes)
 
 -- its last byte is at its end
-last_byte_held : (before addr b : ℕ) (bytes : List ℕ) → last_held before addr (all_held (b ∷ bytes))
-    ≡ addr + length bytes
+last_byte_held : (before addr b : ℕ) (bytes : List ℕ) → last_held before addr (filled (b ∷ bytes)) ≡ addr + length bytes
 last_byte_held before addr b [] = omega arith
 last_byte_held before addr b (c ∷ bytes) = last_byte_held addr (addr + 1) c bytes ∙ omega arith
 

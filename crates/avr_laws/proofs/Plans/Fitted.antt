@@ -112,29 +112,27 @@ module _ (switches : Switches) (part : Part) where
   ]
 
   -- so does each task
-  operation_fits : (u : Update) (o : Op) (openings : List Opening) (task : Task)
+  update_fits : (u : Update) (o : Op) (openings : List Opening) (task : Task)
       → (op_stage switches part u o openings).stage_outcome ≡ Produced task → IsFitted part task
-  operation_fits u op.Write openings task is = write_fits u openings task is
-  operation_fits u op.Verify openings task is = search (rules, image_fits u (Verify u.memory) openings task is)
-  operation_fits u op.Read openings task is = search rules
+  update_fits u op.Write openings task is = write_fits u openings task is
+  update_fits u op.Verify openings task is = search (rules, image_fits u (Verify u.memory) openings task is)
+  update_fits u op.Read openings task is = search rules
 
   -- so do all
-  each_task_fits : (before : List Task) (updates : List Update) (openings : List Opening) (made : List Task)
+  tasks_fit : (before : List Task) (updates : List Update) (openings : List Opening) (made : List Task)
       → All (IsFitted part) before → (tasks_stage switches part before updates openings).stage_outcome ≡ Produced made
       → All (IsFitted part) made
-  each_task_fits before [] openings made fitted is =
-      let same : before ≡ made = cc in subst (All (IsFitted part)) same fitted
-  each_task_fits before (u ∷ updates) openings made fitted is =
+  tasks_fit before [] openings made fitted is = let same : before ≡ made = cc in subst (All (IsFitted part)) same fitted
+  tasks_fit before (u ∷ updates) openings made fitted is =
       let first = earlier (task_stage switches part u) (λ task. tasks_stage switches part (before ++ task ∷ []) updates)
       openings made is in
       search (
         rules,
-        each_task_fits (before ++ first.0 ∷ []) updates
+        tasks_fit (before ++ first.0 ∷ []) updates
             (task_stage switches part u openings).openings_left made (All-append (IsFitted part) before (first.0
-            ∷ []) fitted (all_one (IsFitted part) first.0 (operation_fits u u.op openings first.0 first.1.0)))
-            first.1.1,
+            ∷ []) fitted (all_one (IsFitted part) first.0 (update_fits u u.op openings first.0 first.1.0))) first.1.1,
       )
 
 pub plan_fitted : (s : Settings) (openings : List Opening) (plan : Plan)
     → (planned s openings).stage_outcome ≡ Produced plan → All (IsFitted plan.part) plan.tasks
-plan_fitted s openings plan is = search (rules, each_task_fits, earlier)
+plan_fitted s openings plan is = search (rules, tasks_fit, earlier)

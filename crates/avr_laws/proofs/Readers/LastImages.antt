@@ -64,13 +64,13 @@ module _ (plan : Plan) (Reads : Mem → Type 0) (x : Memories)
   tasks_read (task.Read mem format file ∷ tasks) reads = (reads.0, tasks_read tasks reads.1)
 
   -- a write that is compared, by the switches `-n` and `-V`
-  write_compared : (dry off : Bool) (done : List Action) (mem : Mem) (image : Image) (later : List Action)
+  compared : (dry off : Bool) (done : List Action) (mem : Mem) (image : Image) (later : List Action)
       → work plan ≡ done ++ ((if dry then SkipAction (SkippedWrite mem image) ∷ []
       else WriteImage mem image ∷ (if off then [] else CompareImage mem image ∷ [])) ++ later)
       → dry ≡ false → off ≡ false → Reads mem → Each (ReadsAction Reads) later → Holds mem image
-  write_compared true off done mem image later are wet on reads others = absurd (cc wet)
-  write_compared false true done mem image later are wet on reads others = absurd (cc on)
-  write_compared false false done mem image later are wet on reads others =
+  compared true off done mem image later are wet on reads others = absurd (cc wet)
+  compared false true done mem image later are wet on reads others = absurd (cc on)
+  compared false false done mem image later are wet on reads others =
       there (done ++ (WriteImage mem image ∷ [])) later mem image
       (are ∙ sym (append_assoc done (WriteImage mem image ∷ []) (CompareImage mem image ∷ later))) reads others
 
@@ -80,8 +80,7 @@ module _ (plan : Plan) (Reads : Mem → Type 0) (x : Memories)
   agree_from done [] are = tt
   agree_from done (task.Write mem image ∷ tasks) are = (
     λ wet on reads others.
-        write_compared s.dry s.no_verify done mem image (tasks_actions s tasks) are wet on reads
-        (tasks_read tasks others),
+        compared s.dry s.no_verify done mem image (tasks_actions s tasks) are wet on reads (tasks_read tasks others),
     agree_from (done ++ task_actions s (task.Write mem image)) tasks
         (are ∙ sym (append_assoc done (task_actions s (task.Write mem image)) (tasks_actions s tasks))),
   )
@@ -158,11 +157,11 @@ module _ (s : Settings) (x y : Devices) (r : IsRun s x y 0) (plan : Plan)
       (ap (λ (o : Played OutputEvent ℕ). o.outcome) (played_is s x y r plan made_is silent))).0
 
   -- an image that was compared after the last write is there
-  image_found : (done rest : List Action) (mem : Mem) (image : Image) → work plan
+  seen : (done rest : List Action) (mem : Mem) (image : Image) → work plan
       ≡ done ++ (CompareImage mem image ∷ rest) → Reads mem → Each (ReadsAction Reads) rest
       → HoldsImage image (memory_in plan.part mem
       (view (after_sent_frames m (frames (sent y.link.transcript)) executions p)))
-  image_found done rest mem image are reads others =
+  seen done rest mem image are reads others =
       subst (λ (q : P). HoldsImage image (memory_in plan.part mem (view q))) stands
       (session_agrees plan sound m view IsIn Reads t done (CompareImage mem image ∷ rest) are
       (each_behind (FitsAction plan.part) done (CompareImage mem image ∷ rest)
@@ -172,8 +171,7 @@ module _ (s : Settings) (x y : Devices) (r : IsRun s x y 0) (plan : Plan)
   -- so it is for the tasks
   pub last_there : LastAgree plan.part plan.switches Reads plan.tasks
       (view (after_sent_frames m (frames (sent y.link.transcript)) executions p))
-  last_there =
-      last_agree plan Reads (view (after_sent_frames m (frames (sent y.link.transcript)) executions p)) image_found
+  last_there = last_agree plan Reads (view (after_sent_frames m (frames (sent y.link.transcript)) executions p)) seen
 
 -- ---- whatever a call over a link and a desk came to
 

@@ -25,11 +25,10 @@ ByExchanges (suc k) executions exchanges =
     (later_exchanges exchanges)
 
 -- an exchange leaves the programmer as its execution does
-after_its_execution : {P : Type 0} (one_exchange : Exchange) (executed kept : P) (reset : P → P)
+by_execution : {P : Type 0} (one_exchange : Exchange) (executed kept : P) (reset : P → P)
     → after_exchange one_exchange executed kept reset ≡ after_execution (execution_in one_exchange) executed kept reset
-after_its_execution (ThenRestarts one_exchange) executed kept reset =
-    ap reset (after_its_execution one_exchange executed kept reset)
-after_its_execution z0 executed kept reset = refl
+by_execution (ThenRestarts one_exchange) executed kept reset = ap reset (by_execution one_exchange executed kept reset)
+by_execution z0 executed kept reset = refl
 
 -- the fates of frames give executions and exchanges that fit each other
 pub by_fates : (k : ℕ) (fates : List Fate) → ByExchanges k (executions_of_fates k fates) (exchanges_of_fates fates)
@@ -91,7 +90,7 @@ module _ {P : Type 0} (m : Device P) where
       λ k exchanges. subst (λ r. ReportsTrue m T k (go_on reading) r exchanges) t.1
       (subst (λ x. ReportsTrue m T k (go_on x) (after_exchange (exchange_by execution reading) (m.after bytes p) p
       m.reset) exchanges) t.0 (is_reported (suc k) (exchange_by execution reading ∷ exchanges))) in
-      search (rules, cond-true, frame_is_good, body_of_frame, after_its_execution)
+      search (rules, cond-true, frame_is_good, body_of_frame, by_execution)
 
   -- over an authentic tape each output event was true when it was put out
   pub reported_any : {E R : Type 0} (T : P → E → Type 0) (d : Dialog E R) (n : ℕ) (tape : Tape) (p : P)

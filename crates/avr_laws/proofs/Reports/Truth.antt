@@ -59,10 +59,9 @@ module _ {P : Type 0} (m : Device P) where
 
 module _ {P : Type 0} (Claim : OutputEvent → P → Type 0) where
   -- what is claimed of each of two lists of output events
-  append_true : (xs ys : List OutputEvent) (q : P) → AllTrue Claim xs q → AllTrue Claim ys q
-      → AllTrue Claim (xs ++ ys) q
-  append_true [] ys q f g = g
-  append_true (x ∷ xs) ys q f g = (f.0, append_true xs ys q f.1 g)
+  both_true : (xs ys : List OutputEvent) (q : P) → AllTrue Claim xs q → AllTrue Claim ys q → AllTrue Claim (xs ++ ys) q
+  both_true [] ys q f g = g
+  both_true (x ∷ xs) ys q f g = (f.0, both_true xs ys q f.1 g)
 
   -- an output event that a test leaves out
   unless_true : (b : Bool) (x : OutputEvent) (q : P) → Claim x q → AllTrue Claim (if b then [] else x ∷ []) q
@@ -70,35 +69,34 @@ module _ {P : Type 0} (Claim : OutputEvent → P → Type 0) where
 
 module _ (plan : Plan) (sound : IsPart plan.part) (real : Real plan.part) (m0 : Memories)
     (f0 : FitsPart plan.part m0) where
-  abbrev pub IsTrue : OutputEvent → real.P → Type 0
-  IsTrue event q = IsTrueReport plan m0 (real.memories q) event
+  abbrev pub Holds : OutputEvent → real.P → Type 0
+  Holds event q = IsTrueReport plan m0 (real.memories q) event
 
   -- an informing line
-  informs_hold : (quiet : ℕ) (pieces : List Bytes) (q : real.P) → IsTrue (PrintsLine (information pieces)) q
-      → AllTrue IsTrue (informs quiet pieces) q
-  informs_hold quiet pieces q t = unless_true IsTrue (nat_lt 0 quiet) (PrintsLine (information pieces)) q t
+  informs_hold : (quiet : ℕ) (pieces : List Bytes) (q : real.P) → Holds (PrintsLine (information pieces)) q
+      → AllTrue Holds (informs quiet pieces) q
+  informs_hold quiet pieces q t = unless_true Holds (nat_lt 0 quiet) (PrintsLine (information pieces)) q t
 
   -- the line of a count of bytes
-  counts_hold : (mem : Mem) (count : ℕ) (done_text : Bytes) (q : real.P) → IsTrue (count_line mem count done_text) q
-      → AllTrue IsTrue (bytes_output plan.switches.quiet mem count done_text) q
+  counts_hold : (mem : Mem) (count : ℕ) (done_text : Bytes) (q : real.P) → Holds (count_line mem count done_text) q
+      → AllTrue Holds (bytes_output plan.switches.quiet mem count done_text) q
   counts_hold mem count done_text q t = search (rules, informs_hold)
 
   -- the line of a fault
-  fault_true : (fault : StepFault) (q : real.P)
-      → AllTrue IsTrue (PrintsLine (fault_line plan.part (host_fault fault)) ∷ []) q
-  fault_true fault q = (StepFailed fault refl, tt)
+  fails : (fault : StepFault) (q : real.P) → AllTrue Holds (PrintsLine (fault_line plan.part (host_fault fault)) ∷ []) q
+  fails fault q = (StepFailed fault refl, tt)
 
   -- ---- the opening
 
-  opening_true : (quiet : ℕ) (q : real.P) → AllTrue IsTrue (opening_output quiet plan.part (Ok plan.part.signature)) q
-  opening_true quiet q = search (rules, append_true, informs_hold, bytes_same)
+  opening_true : (quiet : ℕ) (q : real.P) → AllTrue Holds (opening_output quiet plan.part (Ok plan.part.signature)) q
+  opening_true quiet q = search (rules, both_true, informs_hold, bytes_same)
 
   -- ---- the actions after it
 
   -- what a comparison reports
   compared_now : (mem : Mem) (image : Image) (q : real.P) → Contains (actions plan) (CompareImage mem image)
       → (r : Result ⊤ HostFault) → comparison mem image (memory_in plan.part mem (real.memories q)) ≡ r
-      → AllTrue IsTrue (verified_output plan.switches.quiet plan.part mem image r) q
+      → AllTrue Holds (verified_output plan.switches.quiet plan.part mem image r) q
   compared_now mem image q has (Ok a) e = counts_hold mem (byte_count image) (codes " bytes verified") q
       (BytesVerified mem image has refl
       (no_difference 0 image (memory_in plan.part mem (real.memories q))
@@ -110,7 +108,7 @@ module _ (plan : Plan) (sound : IsPart plan.part) (real : Real plan.part) (m0 : 
   saved_now : (b : Bool) (mem : Mem) (format : Format) (file : Bytes) (q : real.P)
       → Contains (actions plan) (SaveMemory mem format file) → (text : Bytes)
       → text ≡ file_text format (saved_bytes plan mem (real.memories q))
-      → AllTrue IsTrue (if b then WritesOutput text ∷ [] else CreatesFile file ∷ WritesFile text ∷ []) q
+      → AllTrue Holds (if b then WritesOutput text ∷ [] else CreatesFile file ∷ WritesFile text ∷ []) q
   saved_now true mem format file q has text e = (BytesSaved mem format file has (inr (inr (ap WritesOutput e))), tt)
   saved_now false mem format file q has text e =
       (BytesSaved mem format file has (inl refl), (BytesSaved mem format file has (inr (inl (ap WritesFile e))), tt))
@@ -119,7 +117,7 @@ module _ (plan : Plan) (sound : IsPart plan.part) (real : Real plan.part) (m0 : 
   written_now : (mem : Mem) (image : Image) (first later : List Item) (q : real.P)
       → items plan ≡ first ++ Write mem image ∷ later
       → real.memories q ≡ effects plan.part (Write mem image ∷ []) (effects plan.part first m0)
-      → AllTrue IsTrue (written_output plan.switches.quiet plan.part mem image (Ok tt)) q
+      → AllTrue Holds (written_output plan.switches.quiet plan.part mem image (Ok tt)) q
   written_now mem image first later q order is = counts_hold mem (byte_count image) (codes " bytes written") q
       (BytesWritten mem image first later refl order
       (is ∙ sym (effects_on plan.part first (Write mem image ∷ []) m0)))
@@ -127,7 +125,7 @@ module _ (plan : Plan) (sound : IsPart plan.part) (real : Real plan.part) (m0 : 
   -- what an action of the plan puts out is true at that moment
   action_true : (action : Action) (done later : List Action) → FitsAction plan.part action
       → actions plan ≡ done ++ action ∷ later
-      → ActionTrue plan.part real plan.switches IsTrue action (effects plan.part (actions_items done) m0)
+      → ActionTrue plan.part real plan.switches Holds action (effects plan.part (actions_items done) m0)
   action_true action done later fits order = by_kind action fits here among
     where
       here : Contains (actions plan) action
@@ -142,15 +140,15 @@ module _ (plan : Plan) (sound : IsPart plan.part) (real : Real plan.part) (m0 : 
 
       by_kind : (a : Action) → FitsAction plan.part a → Contains (actions plan) a
           → items plan ≡ actions_items done ++ (action_items a ++ actions_items later)
-          → ActionTrue plan.part real plan.switches IsTrue a m
+          → ActionTrue plan.part real plan.switches Holds a m
       by_kind OpenSession fits has order = absurd fits
       by_kind EraseChip fits has order = search (rules, informs_hold, erase_first)
       by_kind (WriteImage mem image) fits has order = λ q is.
           written_now mem image (actions_items done) (actions_items later) q order is
       by_kind (CompareImage mem image) fits has order = search (rules, compared_now)
       by_kind (SaveMemory mem format file) fits has order = λ q is.
-          subst (λ z. AllTrue IsTrue (read_output plan.switches mem format file (memory_in plan.part mem z)) q) is
-          (append_true IsTrue (saving_output file (file_text format (saved_bytes plan mem (real.memories q))))
+          subst (λ z. AllTrue Holds (read_output plan.switches mem format file (memory_in plan.part mem z)) q) is
+          (both_true Holds (saving_output file (file_text format (saved_bytes plan mem (real.memories q))))
           (bytes_output plan.switches.quiet mem (length (saved_bytes plan mem (real.memories q)))
           (codes " bytes read")) q
           (saved_now (bytes_eq file (codes "-")) mem format file q has
@@ -158,7 +156,7 @@ module _ (plan : Plan) (sound : IsPart plan.part) (real : Real plan.part) (m0 : 
           (counts_hold mem (length (saved_bytes plan mem (real.memories q))) (codes " bytes read") q
           (BytesRead mem format file has refl)))
       by_kind (SkipAction SkippedErase) fits has order = λ q is.
-          unless_true IsTrue (nat_lt 1 plan.switches.quiet) (PrintsLine (warning (codes "chip not erased because of -n"
+          unless_true Holds (nat_lt 1 plan.switches.quiet) (PrintsLine (warning (codes "chip not erased because of -n"
           ∷ []))) q (EraseLeftOut has refl)
       by_kind (SkipAction (SkippedWrite mem image)) fits has order = λ q is.
           counts_hold mem (byte_count image) (codes " bytes not written") q (WriteLeftOut mem image has refl)
@@ -170,11 +168,11 @@ module _ (plan : Plan) (sound : IsPart plan.part) (real : Real plan.part) (m0 : 
 
   -- so it is for all actions
   actions_true : (later done : List Action) → AllFitActions plan.part later → actions plan ≡ done ++ later
-      → ActionsTrue plan.part real plan.switches IsTrue later (effects plan.part (actions_items done) m0)
+      → ActionsTrue plan.part real plan.switches Holds later (effects plan.part (actions_items done) m0)
   actions_true [] done fit order = tt
   actions_true (action ∷ later) done fit order = (
     action_true action done later fit.0 order,
-    subst (ActionsTrue plan.part real plan.switches IsTrue later) (one_more_action done action)
+    subst (ActionsTrue plan.part real plan.switches Holds later) (one_more_action done action)
         (actions_true later (done ++ action ∷ []) fit.1 (order ∙ sym (append_assoc done (action ∷ []) later))),
   )
 
@@ -185,11 +183,11 @@ module _ (plan : Plan) (sound : IsPart plan.part) (real : Real plan.part) (m0 : 
       → ActionsWork real (work plan) m0 → (k : ℕ) (p : real.P) (exchanges : List Exchange) → HasMemories real m0 p
       → ReportsTrue real.device (λ q event. IsTrueReport plan m0 (real.memories q) event) k (session plan) p exchanges
   session_reports fitted signs works k p exchanges idle =
-      all_true real.device IsTrue (AtMoment plan real m0) (AtEnd plan real m0 ⊤) k (session plan) (p, exchanges)
+      all_true real.device Holds (AtMoment plan real m0) (AtEnd plan real m0 ⊤) k (session plan) (p, exchanges)
       prints.holds
     where
-      prints : Prints real.device IsTrue (AtMoment plan real m0) (AtEnd plan real m0 ⊤) (session plan) (p, exchanges)
-      prints = session_prints plan sound real fitted IsTrue fault_true
+      prints : Prints real.device Holds (AtMoment plan real m0) (AtEnd plan real m0 ⊤) (session plan) (p, exchanges)
+      prints = session_prints plan sound real fitted Holds fails
           (λ q. informs_hold plan.switches.quiet (codes "done" ∷ []) q (SessionDone refl))
           (λ m z. Settled real m z.0) ⊤ (anyhow plan.part sound real plan.switches) m0 f0 works
           (λ q is. opening_true plan.switches.quiet q)

@@ -128,15 +128,14 @@ chip_spared = search (rules, spared_by_any, fits_m328, refused_whole)
 m328_is_part : IsPart m328
 m328_is_part = search rules
 
-another_signature : m328p.signature ≡ m328.signature → ⊥
-another_signature same =
-    let last : 0x0F ≡ 0x14 = ap (λ (bytes : Bytes). slice_index bytes 2) same in omega (arith, last)
+other_signature : m328p.signature ≡ m328.signature → ⊥
+other_signature same = let last : 0x0F ≡ 0x14 = ap (λ (bytes : Bytes). slice_index bytes 2) same in omega (arith, last)
 
 -- a run that wrote the fuse all the same
 pub fuse_not_spared : Spares (of_m328 0xE2) (passed 0x62) → ⊥
 unfolding session opening handshake operation closing play attempts_or_fault attempt exchange answer
 fuse_not_spared spares =
-    let same = spares m328_is_part is_part refl another_signature rows_kept programmer executions is_in chip_fits_part
+    let same = spares m328_is_part is_part refl other_signature rows_kept programmer executions is_in chip_fits_part
     none_forged_by_run in
     search rules
 

@@ -74,21 +74,20 @@ module _ (part : Part) (sound : IsPart part) where
   by_row row other b e done = subst (λ r. Done r b) (sym e) done
 
   -- a refusal isn't a good reply
-  refusal_is_bad : (code : ℕ) (more : List ℕ) → code ∷ 0xC0 ∷ [] ≡ code ∷ 0 ∷ more → ⊥
-  refusal_is_bad code more e = let status = ap (λ (xs : List ℕ). slice_index xs 1) e in omega (arith, status)
+  refusal : (code : ℕ) (more : List ℕ) → code ∷ 0xC0 ∷ [] ≡ code ∷ 0 ∷ more → ⊥
+  refusal code more e = let status = ap (λ (xs : List ℕ). slice_index xs 1) e in omega (arith, status)
 
   -- a reply with a block is true
-  block_is_true : (on : Bool) (code : ℕ) (block read : List ℕ)
+  is_block : (on : Bool) (code : ℕ) (block read : List ℕ)
       → cond on (code ∷ 0 ∷ (block ++ 0 ∷ [])) (code ∷ 0xC0 ∷ []) ≡ code ∷ 0 ∷ (read ++ 0 ∷ []) → read ≡ block
-  block_is_true on code block read e = search (rules, append_cancel_right, refusal_is_bad)
+  is_block on code block read e = search (rules, append_cancel_right, refusal)
 
   -- a block of flash
   reads_block : (start count : ℕ) (b : Bootloader) → FitsBoot part b → start + count ≤ part.flash_size → start % 2 ≡ 0
       → count ≤ 256
       → Done (reading (Some (flash_address part start)) (0x14 ∷ (big_bytes 2 count ++ 0x20 ∷ [])) count
       (λ x. take count (drop start x.flash)) 0x14) b
-  reads_block start count b f inside even few =
-      search (rules, address_fits, flash_address_back, block_is_true, ap₂, refusal_is_bad)
+  reads_block start count b f inside even few = search (rules, address_fits, flash_address_back, is_block, ap₂, refusal)
 
   -- a byte of the signature
   reads_place : (place : ℕ) (b : Bootloader) → FitsBoot part b
@@ -98,22 +97,21 @@ module _ (part : Part) (sound : IsPart part) where
     loaded = record { memories = refl; is = f };
     either = λ loaded. inl (record { memories = refl; is = f });
     good = λ loaded read long e. (
-      block_is_true b.programming 0x1B (take 1 (drop place part.signature)) read e,
+      is_block b.programming 0x1B (take 1 (drop place part.signature)) read e,
       record { memories = refl; is = f },
     );
     restarted = λ address is. absurd (cc is);
   }
 
   -- so the rows that it may read are done
-  row_done : (row : Row) (b : Bootloader) (is : IsRow part row) → ReadsOneOf IsRead part row is b.memories
+  of_row : (row : Row) (b : Bootloader) (is : IsRow part row) → ReadsOneOf IsRead part row is b.memories
       → FitsPart part b.memories → FitsBoot part b → Done row b
-  row_done row b (ReadsFlash start count some few inside even evens is) reads fits f =
-      search (rules, by_row, reads_block)
-  row_done row b (ReadsSignature place few is) reads fits f = by_row row _ b is (reads_place place b f)
-  row_done row b (ReadsFuse Low is) reads fits f = absurd reads
-  row_done row b (ReadsFuse High is) reads fits f = absurd reads
-  row_done row b (ReadsFuse Extended is) reads fits f = absurd reads
-  row_done row b is reads fits f = absurd reads
+  of_row row b (ReadsFlash start count some few inside even evens is) reads fits f = search (rules, by_row, reads_block)
+  of_row row b (ReadsSignature place few is) reads fits f = by_row row _ b is (reads_place place b f)
+  of_row row b (ReadsFuse Low is) reads fits f = absurd reads
+  of_row row b (ReadsFuse High is) reads fits f = absurd reads
+  of_row row b (ReadsFuse Extended is) reads fits f = absurd reads
+  of_row row b is reads fits f = absurd reads
 
   -- so it is a reader
   pub boot_reads : IsReader part (bootloader part) (λ b. b.memories) (FitsBoot part) IsRead
@@ -127,7 +125,7 @@ module _ (part : Part) (sound : IsPart part) where
       ready_in = λ b f. f;
       entered_again = λ b f. f;
       restarted = λ b f. f;
-      rows = row_done;
+      rows = of_row;
     };
     stays = stays_sound;
     sizes = λ b f. f;

@@ -65,8 +65,8 @@ task = file_image_stage no_switches file Ihex 32768 >>= λ image. result_stage (
 abbrev tasks : Stage (List Task)
 tasks = task >>= λ first. result_stage (Ok (first ∷ []))
 
-begins_with_file : Begins file (planned wanted)
-begins_with_file =
+opening : Begins file (planned wanted)
+opening =
     begins_then file tasks (λ all. result_stage (Ok (record { part = m328p; tasks = all; switches = no_switches })))
     (begins_then file task (λ first. result_stage (Ok (first ∷ []))) (search (rules, begins_then, begins_file)))
 
@@ -126,8 +126,7 @@ module _ (r : Record) (k l m n status : ℕ) where
   ReportedAs notice = ReportsFailureAs (not_opened_line file) notice (showing r k m) (showing (after_err notice r) l n)
 
   notice_by : (notice : Bytes) → Ends notice → ReportedAs notice
-  notice_by notice ends =
-      of_file_alone (unopened (AtAllocatingUpdate wanted) file notice (planned wanted) begins_with_file r k l
+  notice_by notice ends = of_file_alone (unopened (AtAllocatingUpdate wanted) file notice (planned wanted) opening r k l
       m n status ends)
     where
       of_file_alone : ReportedAs notice ⊎ (ReportsLineAs memory_line notice (showing r k m)

@@ -99,9 +99,9 @@ module _ (part : Part) where
   action_between action z o m t hz ho = search (rules, alike_holds)
 
   -- if all actions erase nothing, the later ones don't
-  rest_writes : (action : Action) (more : List Action) → has_erase (actions_items (action ∷ more)) ≡ false
+  no_erase : (action : Action) (more : List Action) → has_erase (actions_items (action ∷ more)) ≡ false
       → has_erase (actions_items more) ≡ false
-  rest_writes action more none = search (rules, true≢false)
+  no_erase action more none = search (rules, true≢false)
 
   -- so it is for all comparisons
   actions_between : (actions : List Action) (z o m : Memories) → has_erase (actions_items actions) ≡ false
@@ -113,10 +113,9 @@ module _ (part : Part) where
       search (
         rules,
         action_between,
-        rest_writes,
+        no_erase,
         actions_between actions (effects part (action_items action) z)
-            (effects part (action_items action) o) (effects part (action_items action) m)
-            (rest_writes action actions none)
+            (effects part (action_items action) o) (effects part (action_items action) m) (no_erase action actions none)
             next hz.1 ho.1,
       )
 

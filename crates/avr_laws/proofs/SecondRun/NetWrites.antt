@@ -62,23 +62,22 @@ laid_joined false (p ∷ a) (q ∷ b) (x ∷ xs) = ap₂ (λ y ys. y ∷ ys) (se
 -- ---- a lock that is set stays set
 
 -- a byte over the lock
-lock_stays : (o : Option ℕ) (lock : ℕ) → (bit_at lock 0 == 0) ≡ true → (bit_at (and_with o lock) 0 == 0) ≡ true
-lock_stays None lock e = e
-lock_stays (Some b) lock e = search (rules, bit_at_and lock b 0)
+stays : (o : Option ℕ) (lock : ℕ) → (bit_at lock 0 == 0) ≡ true → (bit_at (and_with o lock) 0 == 0) ≡ true
+stays None lock e = e
+stays (Some b) lock e = search (rules, bit_at_and lock b 0)
 
 module _ (part : Part) where
   -- a chip that is locked stays so while nothing erases
   ends_locked : (items : List Item) (m : Memories) → has_erase items ≡ false → are_locked m ≡ true
       → are_locked (effects part items m) ≡ true
-  ends_locked [] m writes e = e
-  ends_locked (Erase ∷ items) m writes e = absurd (true≢false writes)
-  ends_locked (Write mem image ∷ items) m writes e =
-      ends_locked items (write_effect mem image m) writes (search (rules, lock_stays))
+  ends_locked [] m w e = e
+  ends_locked (Erase ∷ items) m w e = absurd (true≢false w)
+  ends_locked (Write mem image ∷ items) m w e = ends_locked items (write_effect mem image m) w (search (rules, stays))
 
   -- so one that isn't locked at the end never was
   begins_open : (items : List Item) (m : Memories) → has_erase items ≡ false
       → are_locked (effects part items m) ≡ false → are_locked m ≡ false
-  begins_open items m writes e = search (rules, ends_locked)
+  begins_open items m w e = search (rules, ends_locked)
 
   -- ---- writes alone, in one memory
 
@@ -94,11 +93,11 @@ module _ (part : Part) where
     -- the writes of a memory come to one
     net_is : (items : List Item) (m : Memories) → has_erase items ≡ false
         → memory_in part mem (effects part items m) ≡ laid (keeps_zeros mem) (net items m) (memory_in part mem m)
-    net_is [] m writes = sym (laid_nothing (keeps_zeros mem) (memory_in part mem m))
-    net_is (Erase ∷ items) m writes = absurd (true≢false writes)
-    net_is (Write other image ∷ items) m writes =
+    net_is [] m w = sym (laid_nothing (keeps_zeros mem) (memory_in part mem m))
+    net_is (Erase ∷ items) m w = absurd (true≢false w)
+    net_is (Write other image ∷ items) m w =
         let after = write_effect other image m in
-        net_is items after writes
+        net_is items after w
         ∙ (ap (laid (keeps_zeros mem) (net items after)) (write_is part other mem image m)
         ∙ unless (leaves_memory other mem (are_locked m)) (net items after) (memory_in part mem m))
       where
@@ -123,22 +122,22 @@ module _ (part : Part) where
 
     -- chips with the same lock bar them alike
     by_lock : (items : List Item) (m n : Memories) → has_erase items ≡ false → m.lock ≡ n.lock → Alike items m n
-    by_lock [] m n writes e = tt
-    by_lock (Erase ∷ items) m n writes e = absurd (true≢false writes)
-    by_lock (Write other image ∷ items) m n writes e = (
+    by_lock [] m n w e = tt
+    by_lock (Erase ∷ items) m n w e = absurd (true≢false w)
+    by_lock (Write other image ∷ items) m n w e = (
       ap (λ (k : ℕ). is_barred mem (bit_at k 0 == 0)) e,
-      by_lock items (write_effect other image m) (write_effect other image n) writes (search rules),
+      by_lock items (write_effect other image m) (write_effect other image n) w (search rules),
     )
 
     -- so do chips that are never locked
     open_alike : (items : List Item) (m n : Memories) → has_erase items ≡ false
         → are_locked (effects part items m) ≡ false → are_locked (effects part items n) ≡ false → Alike items m n
-    open_alike [] m n writes e f = tt
-    open_alike (Erase ∷ items) m n writes e f = absurd (true≢false writes)
-    open_alike (Write other image ∷ items) m n writes e f = (
-      ap (is_barred mem) (begins_open (Write other image ∷ items) m writes e
-          ∙ sym (begins_open (Write other image ∷ items) n writes f)),
-      open_alike items (write_effect other image m) (write_effect other image n) writes e f,
+    open_alike [] m n w e f = tt
+    open_alike (Erase ∷ items) m n w e f = absurd (true≢false w)
+    open_alike (Write other image ∷ items) m n w e f = (
+      ap (is_barred mem) (begins_open (Write other image ∷ items) m w e
+          ∙ sym (begins_open (Write other image ∷ items) n w f)),
+      open_alike items (write_effect other image m) (write_effect other image n) w e f,
     )
 
     -- so do all chips, in a memory that no lock bars
@@ -150,35 +149,34 @@ module _ (part : Part) where
     -- under a lock nothing changes
     locked_keeps : (items : List Item) (m : Memories) → is_barred mem true ≡ true → has_erase items ≡ false
         → are_locked m ≡ true → memory_in part mem (effects part items m) ≡ memory_in part mem m
-    locked_keeps [] m barred writes e = refl
-    locked_keeps (Erase ∷ items) m barred writes e = absurd (true≢false writes)
-    locked_keeps (Write other image ∷ items) m barred writes e =
-        search (rules, locked_keeps items (write_effect other image m) barred writes (search (rules, lock_stays)))
+    locked_keeps [] m barred w e = refl
+    locked_keeps (Erase ∷ items) m barred w e = absurd (true≢false w)
+    locked_keeps (Write other image ∷ items) m barred w e =
+        search (rules, locked_keeps items (write_effect other image m) barred w (search (rules, stays)))
 
     -- if what they leave bars them alike, writing twice is writing once
     net_again : (items : List Item) (m : Memories) → has_erase items ≡ false → Alike items (effects part items m) m
         → memory_in part mem (effects part items (effects part items m)) ≡ memory_in part mem (effects part items m)
-    net_again items m writes alike = search (rules, net_is, same_net, and_in_twice, laid_twice)
+    net_again items m w alike = search (rules, net_is, same_net, and_in_twice, laid_twice)
 
   -- the lock
   lock_again : (items : List Item) (m : Memories) → has_erase items ≡ false
       → memory_in part Lock (effects part items (effects part items m)) ≡ memory_in part Lock (effects part items m)
-  lock_again items m writes =
-      net_again Lock items m writes (never_barred Lock items (effects part items m) m (λ b c. refl))
+  lock_again items m w = net_again Lock items m w (never_barred Lock items (effects part items m) m (λ b c. refl))
 
   -- each memory
   each_again : (items : List Item) (m : Memories) → has_erase items ≡ false → (mem : Mem)
       → memory_in part mem (effects part items (effects part items m)) ≡ memory_in part mem (effects part items m)
-  each_again items m writes mem = search (rules, lock_again, locked_keeps, net_again, open_alike)
+  each_again items m w mem = search (rules, lock_again, locked_keeps, net_again, open_alike)
 
   -- so writing twice is writing once
   pub written_again : (items : List Item) (m : Memories) → has_erase items ≡ false
       → effects part items (effects part items m) ≡ effects part items m
-  written_again items m writes = same_memories part _ _ (each_again items m writes)
+  written_again items m w = same_memories part _ _ (each_again items m w)
 
   -- ---- after an erase
 
-  module _ (items : List Item) (m : Memories) (writes : has_erase items ≡ false)
+  module _ (items : List Item) (m : Memories) (w : has_erase items ≡ false)
       (kept : erase_keeps_eeprom part m ≡ true → erase_keeps_eeprom part (effects part (Erase ∷ items) m) ≡ true) where
     abbrev blanked : Memories
     blanked = effect part Erase m
@@ -190,12 +188,11 @@ module _ (part : Part) where
     back : (mem : Mem) → laid (keeps_zeros mem) (net mem items blanked) (memory_in part mem (effect part Erase left))
         ≡ laid (keeps_zeros mem) (net mem items blanked) (memory_in part mem blanked)
     back Flash = ap (λ (k : ℕ). and_in (net Flash items blanked) (replicate k 255))
-        (ap (λ (xs : List ℕ). length xs) (net_is Flash items blanked writes)
+        (ap (λ (xs : List ℕ). length xs) (net_is Flash items blanked w)
         ∙ ((search (rules, length-and_in)) ∙ length-replicate {A = ℕ} (length m.flash) 255))
-    back Eeprom =
-        search (rules, net_is Eeprom items blanked writes, laid_twice, true≢false, length-laid, length-replicate)
+    back Eeprom = search (rules, net_is Eeprom items blanked w, laid_twice, true≢false, length-laid, length-replicate)
     back Lock = refl
-    back mem = search (rules, net_is mem items blanked writes)
+    back mem = search (rules, net_is mem items blanked w)
 
     -- an erase and writes, twice
     pub erased_again : effects part (Erase ∷ items) left ≡ left
@@ -205,29 +202,28 @@ module _ (part : Part) where
 
   -- the first items of writes are writes
   writes_of : (k : ℕ) (items : List Item) → has_erase items ≡ false → has_erase (take k items) ≡ false
-  writes_of zero items writes = refl
-  writes_of (suc k) [] writes = writes
-  writes_of (suc k) (Erase ∷ items) writes = absurd (true≢false writes)
-  writes_of (suc k) (Write mem image ∷ items) writes = writes_of k items writes
+  writes_of zero items w = refl
+  writes_of (suc k) [] w = w
+  writes_of (suc k) (Erase ∷ items) w = absurd (true≢false w)
+  writes_of (suc k) (Write mem image ∷ items) w = writes_of k items w
 
   -- the first items, and then the others
-  first_and_rest : (k : ℕ) (items : List Item) (m : Memories)
+  split_first : (k : ℕ) (items : List Item) (m : Memories)
       → effects part items m ≡ effects part (drop k items) (effects part (take k items) m)
-  first_and_rest zero items m = refl
-  first_and_rest (suc k) [] m = refl
-  first_and_rest (suc k) (item ∷ items) m = first_and_rest k items (effect part item m)
+  split_first zero items m = refl
+  split_first (suc k) [] m = refl
+  split_first (suc k) (item ∷ items) m = split_first k items (effect part item m)
 
   -- some of the writes, and then all
   pub first_writes_again : (k : ℕ) (items : List Item) (m : Memories) → has_erase items ≡ false
       → effects part items (effects part (take k items) m) ≡ effects part items m
-  first_writes_again k items m writes = first_and_rest k items (effects part (take k items) m)
-      ∙ (search (rules, written_again, writes_of, first_and_rest))
+  first_writes_again k items m w = split_first k items (effects part (take k items) m)
+      ∙ (search (rules, written_again, writes_of, split_first))
 
   -- some of an erase and writes, and then all
   pub first_again : (k : ℕ) (items : List Item) (m : Memories) → has_erase items ≡ false
       → (erase_keeps_eeprom part m ≡ true → erase_keeps_eeprom part (effects part (take k (Erase ∷ items)) m) ≡ true)
       → effects part (Erase ∷ items) (effects part (take k (Erase ∷ items)) m) ≡ effects part (Erase ∷ items) m
-  first_again zero items m writes kept = refl
-  first_again (suc k) items m writes kept =
-      first_and_rest k items (effect part Erase (effects part (Erase ∷ take k items) m))
-      ∙ (search (rules, erased_again, writes_of, first_and_rest))
+  first_again zero items m w kept = refl
+  first_again (suc k) items m w kept = split_first k items (effect part Erase (effects part (Erase ∷ take k items) m))
+      ∙ (search (rules, erased_again, writes_of, split_first))

@@ -112,8 +112,8 @@ module _ (becomes : Mem → ℕ → ℕ) (part : Part) where
     };
   }
 
-  abbrev AnyLock : ℕ → Type 0
-  AnyLock lock = Unit {0}
+  abbrev Any : ℕ → Type 0
+  Any lock = Unit {0}
 
   -- one command that is no write of a fuse or lock, and no read of the calibration
   by_code : (c : Command) (n : ℕ) → code c ≡ n → (n ≡ 0x17 → ⊥) → (n ≡ 0x19 → ⊥) → (n ≡ 0x1C → ⊥) → (x : Memories)
@@ -129,7 +129,7 @@ module _ (becomes : Mem → ℕ → ℕ) (part : Part) where
   -- a write of a fuse
   calm_fuse : (f : Fuse) (v : ℕ) → becomes (fuse_memory f) v ≡ v
       → ((x : Memories) → (memories_after_step part (program_fuse f v ∷ []) x).lock ≡ x.lock)
-      → Calm AnyLock (program_fuse f v ∷ [])
+      → Calm Any (program_fuse f v ∷ [])
   calm_fuse f v stays kept = record {
     kept = kept;
     vouched = λ x such. record {
@@ -211,39 +211,37 @@ module _ (becomes : Mem → ℕ → ℕ) (part : Part) where
       calm_steps Such (read_steps part mem) (each_of (Calm Such) (read_step part mem) 0 (read_count part mem) each) x
 
   -- one command with a code between these
-  calm_by_code : (n : ℕ) → 0x17 < n → n < 0x1C → (n ≡ 0x19 → ⊥) → (c : Command) → code c ≡ n
-      → ((x : Memories) → (memories_after_step part (c ∷ []) x).lock ≡ x.lock) → Calm AnyLock (c ∷ [])
-  calm_by_code n more less other c is kept = record {
+  calmly : (n : ℕ) → 0x17 < n → n < 0x1C → (n ≡ 0x19 → ⊥) → (c : Command) → code c ≡ n
+      → ((x : Memories) → (memories_after_step part (c ∷ []) x).lock ≡ x.lock) → Calm Any (c ∷ [])
+  calmly n more less other c is kept = record {
     kept = kept;
     vouched = λ x such. by_code c n is (λ e. omega (arith, e, more)) other (λ e. omega (arith, e, less)) x;
   }
 
-  fuse_read : (f : Fuse) → Calm AnyLock (read_fuse f ∷ [])
-  fuse_read f = calm_by_code 0x18 (omega arith) (omega arith) (λ e. omega (arith, e)) (read_fuse f) refl (λ y. refl)
+  fuse_read : (f : Fuse) → Calm Any (read_fuse f ∷ [])
+  fuse_read f = calmly 0x18 (omega arith) (omega arith) (λ e. omega (arith, e)) (read_fuse f) refl (λ y. refl)
 
-  signature_read : (i : ℕ) → Calm AnyLock (read_signature i ∷ [])
-  signature_read i =
-      calm_by_code 0x1B (omega arith) (omega arith) (λ e. omega (arith, e)) (read_signature i) refl (λ y. refl)
+  signature_read : (i : ℕ) → Calm Any (read_signature i ∷ [])
+  signature_read i = calmly 0x1B (omega arith) (omega arith) (λ e. omega (arith, e)) (read_signature i) refl (λ y. refl)
 
   -- a read that suits the sheet works
   read_works : (mem : Mem) (x : Memories) → SuitsReading mem x → Works (read_steps part mem) x
   read_works Flash x suits = reads_calmly IsShown Flash (λ i. (calm_two _ _ (λ y. refl), tt)) x suits
   read_works Eeprom x suits = reads_calmly IsShown Eeprom (λ i. (calm_two _ _ (λ y. refl), tt)) x suits
-  read_works Lfuse x suits = reads_calmly AnyLock Lfuse (λ i. (fuse_read Low, tt)) x tt
-  read_works Hfuse x suits = reads_calmly AnyLock Hfuse (λ i. (fuse_read High, tt)) x tt
-  read_works Efuse x suits = reads_calmly AnyLock Efuse (λ i. (fuse_read Extended, tt)) x tt
-  read_works Lock x suits = reads_calmly AnyLock Lock (λ i. (
-    calm_by_code 0x1A (omega arith) (omega arith)
+  read_works Lfuse x suits = reads_calmly Any Lfuse (λ i. (fuse_read Low, tt)) x tt
+  read_works Hfuse x suits = reads_calmly Any Hfuse (λ i. (fuse_read High, tt)) x tt
+  read_works Efuse x suits = reads_calmly Any Efuse (λ i. (fuse_read Extended, tt)) x tt
+  read_works Lock x suits = reads_calmly Any Lock (λ i. (
+    calmly 0x1A (omega arith) (omega arith)
         (λ e. omega (arith, e)) _ refl (λ y. refl),
     tt,
   )) x tt
-  read_works Signature x suits = reads_calmly AnyLock Signature (λ i. (signature_read i, tt)) x tt
+  read_works Signature x suits = reads_calmly Any Signature (λ i. (signature_read i, tt)) x tt
   read_works Calibration x suits = absurd suits
 
   -- so do reads of the signature
   pub signature_works : (x : Memories) → Works signature_steps x
-  signature_works x =
-      calm_steps AnyLock signature_steps (signature_read 0, (signature_read 1, (signature_read 2, tt))) x tt
+  signature_works x = calm_steps Any signature_steps (signature_read 0, (signature_read 1, (signature_read 2, tt))) x tt
 
   -- so does an erase
   erase_works : (x : Memories) → Works ((erase ∷ []) ∷ []) x

@@ -28,8 +28,8 @@ has_memories part p i = record {
   eeprom_buffer = i.eeprom_buffer;
 }
 
-is_settled : (part : Part) (p : Programmer) → HasEmptyBuffers part p → Settled part (memories_of p.chip) p
-is_settled part p s = record {
+settled : (part : Part) (p : Programmer) → HasEmptyBuffers part p → Settled part (memories_of p.chip) p
+settled part p s = record {
   memories = refl;
   part_is = s.part_is;
   flash_buffer = s.flash_buffer;
@@ -77,9 +77,9 @@ module _ (part : Part) (sound : IsPart part) where
   reply_joined address c commands bytes p few is e = search (rules, joined_reply, on_data, load_reply)
 
   -- the commands before the last have their replies
-  all_replied : (address : Option ℕ) (c : Command) (commands : List Command) (p : Programmer) → Fits32 address
+  replies : (address : Option ℕ) (c : Command) (commands : List Command) (p : Programmer) → Fits32 address
       → IsSent address c commands → AreReplied device (length commands) commands p
-  all_replied address c commands p few is = search (rules, load_reply)
+  replies address c commands p few is = search (rules, load_reply)
 
   module _ (commands : List Command) (step : IsStep part commands) (r : RowFor part commands) (p : Programmer)
       (sizes : FitsPart part (memories_of p.chip)) (ready : HasEmptyBuffers part p) where
@@ -139,14 +139,13 @@ module _ (part : Part) (sound : IsPart part) where
         let unbroken : Unbroken device (λ q. Settled part x q ⊎ Settled part x q) (LoadAddress a ∷ r.command ∷ []) =
         subst (Unbroken device (λ q. Settled part x q ⊎ Settled part x q)) sent (step_ends part sound commands x x step)
         in
-        search (rules, is_settled, refuses_row, restart_is_settled)
+        search (rules, settled, refuses_row, restart_is_settled)
 
     -- so the row is done, or not at all
     pub does : IsDoneOrNot device chip_memories (HasEmptyBuffers part) part r.row p
     does = record {
       loaded = load_keeps r.row.address p r.few ready;
-      either =
-          λ loaded. elim (fits.prefix p (length commands) (is_settled part p ready) (all_replied r.row.address r.command
+      either = λ loaded. elim (fits.prefix p (length commands) (settled part p ready) (replies r.row.address r.command
           commands p r.few r.is_sent)) [
             | inl kept ↦ inl (ready_from x end (subst (Settled part x) ends_there kept))
             | inr changed ↦ inr (done_from (subst (Settled part after) ends_there changed))
@@ -154,9 +153,9 @@ module _ (part : Part) (sound : IsPart part) where
       good = λ loaded read long e.
           let has = good_reply read long e in (
             gives_given part sound commands x read step sizes
-                (record { from = p; stood = inl (is_settled part p ready); is = has })
+                (record { from = p; stood = inl (settled part p ready); is = has })
                 ∙ sym (r.reads x),
-            done_from (subst (Settled part after) ends_there (fits.whole p read has (is_settled part p ready))),
+            done_from (subst (Settled part after) ends_there (fits.whole p read has (settled part p ready))),
           );
       restarted = kept_or_refused;
     }
@@ -181,9 +180,8 @@ module _ (part : Part) (sound : IsPart part) where
   entered_settled : (p : Programmer) → HasPart part p → HasEmptyBuffers part (device.after enter_body p)
   entered_settled p i = search (rules, ready_from, ready_settled, enter_does, has_memories)
 
-  has_part_if_ready : (p : Programmer) → HasEmptyBuffers part p → HasPart part p
-  has_part_if_ready p s =
-      (in_from (memories_of p.chip) p (settled_idle part (memories_of p.chip) p (is_settled part p s))).is
+  ready_has_part : (p : Programmer) → HasEmptyBuffers part p → HasPart part p
+  ready_has_part p s = (in_from (memories_of p.chip) p (settled_idle part (memories_of p.chip) p (settled part p s))).is
 
   -- so it keeps the whole table
   pub emulated_meets : (Vouched : (row : Row) → IsRow part row → Memories → Type 0)
@@ -198,9 +196,9 @@ module _ (part : Part) (sound : IsPart part) where
     restarts = λ p i. in_from (memories_of p.chip) (device.reset p)
         (restart_keeps_memories part (memories_of p.chip) p (has_memories part p i));
     entered = λ p i e. entered_settled p i;
-    ready_in = has_part_if_ready;
-    entered_again = λ p s. entered_settled p (has_part_if_ready p s);
+    ready_in = ready_has_part;
+    entered_again = λ p s. entered_settled p (ready_has_part p s);
     restarted = λ p s. (ready_from (memories_of p.chip) (device.reset p)
-        (restart_is_settled part (memories_of p.chip) p (is_settled part p s))).is;
+        (restart_is_settled part (memories_of p.chip) p (settled part p s))).is;
     rows = λ row p is v f s. row_is_done row p is f s;
   }

@@ -92,14 +92,14 @@ module _ (part : Part) (sound : IsPart part) where
   of_same written commands e r = subst (RowFor part) (sym e) r
 
   -- in the order of the fields
-  row_of : {commands : List Command} (command : Command) (row : Row) → IsRow part row → body command ≡ row.command
+  built : {commands : List Command} (command : Command) (row : Row) → IsRow part row → body command ≡ row.command
       → IsSent row.address command commands → Fits32 row.address → map body commands ≡ bodies row
       → ((x : Memories) → effects part row.writes x ≡ memories_after_step part commands x)
       → ((x : Memories) → row.reads x ≡ data_of_step part commands x)
       → ((x : Memories) → effects part row.writes (effects part row.writes x) ≡ effects part row.writes x)
       → ((reply d : List ℕ) → judge command reply ≡ Ok d → (reply ≡ row.reply d) × (length d ≡ row.count))
       → ((d : List ℕ) → length d ≡ row.count → judge command (row.reply d) ≡ Ok d) → RowFor part commands
-  row_of command row is_row body_is is_sent few sent_as writes reads twice good back = record {
+  built command row is_row body_is is_sent few sent_as writes reads twice good back = record {
     command = command;
     row = row;
     is_row = is_row;
@@ -121,7 +121,7 @@ module _ (part : Part) (sound : IsPart part) where
   fuse_writes Extended v x = refl
 
   for_erase : RowFor part (erase ∷ [])
-  for_erase = row_of erase _ (ErasesChip refl) refl refl tt refl (λ x. refl) (λ x. refl) (effect_twice part Erase)
+  for_erase = built erase _ (ErasesChip refl) refl refl tt refl (λ x. refl) (λ x. refl) (effect_twice part Erase)
       (bare_reply erase refl) no_data
 
   for_page : (page : ℕ) (bytes : List ℕ) → IsPage part page bytes
@@ -131,7 +131,7 @@ module _ (part : Part) (sound : IsPart part) where
       let inside = is_page.inside in
       let few : page * part.flash_page < 4294967296 = omega (arith, most, inside) in
       let there = flash_address_back part (page * part.flash_page) few (page_even part sound page) in
-      row_of (program_page bytes) _ (WritesFlashPage page bytes is_page.whole is_page.inside refl) refl refl
+      built (program_page bytes) _ (WritesFlashPage page bytes is_page.whole is_page.inside refl) refl refl
       (address_fits part sound (page * part.flash_page) few) refl
       (λ x. ap (λ (at : ℕ). effects part (Write Flash (image_at at bytes) ∷ []) x) (sym there)) (λ x. refl)
       (effect_twice part (Write Flash (image_at (page * part.flash_page) bytes))) (bare_reply (program_page bytes) refl)
@@ -142,16 +142,16 @@ module _ (part : Part) (sound : IsPart part) where
   for_run start bytes is_run =
       let most = sound.eeprom_most in
       let inside = is_run.inside in
-      row_of (program_eeprom_block bytes) _ (WritesEepromRun start bytes is_run.some is_run.within is_run.inside refl)
+      built (program_eeprom_block bytes) _ (WritesEepromRun start bytes is_run.some is_run.within is_run.inside refl)
       refl refl (omega (arith, most, inside)) refl (λ x. refl) (λ x. refl)
       (effect_twice part (Write Eeprom (image_at start bytes))) (bare_reply (program_eeprom_block bytes) refl) no_data
 
   for_fuse : (f : Fuse) (v : ℕ) → RowFor part (program_fuse f v ∷ [])
-  for_fuse f v = row_of (program_fuse f v) _ (WritesFuse f v refl) refl refl tt refl (fuse_writes f v) (λ x. refl)
+  for_fuse f v = built (program_fuse f v) _ (WritesFuse f v refl) refl refl tt refl (fuse_writes f v) (λ x. refl)
       (effect_twice part (Write (fuse_memory f) (Some v ∷ []))) (closed_empty (program_fuse f v) refl) no_data
 
   for_lock : (v : ℕ) → RowFor part (program_lock v ∷ [])
-  for_lock v = row_of (program_lock v) _ (WritesLock v refl) refl refl tt refl (λ x. refl) (λ x. refl)
+  for_lock v = built (program_lock v) _ (WritesLock v refl) refl refl tt refl (λ x. refl) (λ x. refl)
       (effect_twice part (Write Lock (Some v ∷ []))) (closed_empty (program_lock v) refl) no_data
 
   for_flash_read : (start count : ℕ) → IsBlock part Flash start count → AreWords start count
@@ -161,7 +161,7 @@ module _ (part : Part) (sound : IsPart part) where
       let inside = is_block.inside in
       let few : start < 4294967296 = omega (arith, most, inside) in
       let there = flash_address_back part start few words.start_even in
-      row_of (read_flash_block count) _
+      built (read_flash_block count) _
       (ReadsFlash start count is_block.some is_block.few is_block.inside words.start_even words.count_even refl) refl
       refl (address_fits part sound start few) refl (λ x. refl)
       (λ x. ap (λ (at : ℕ). take count (drop at x.flash)) (sym there)) (λ x. refl)
@@ -172,25 +172,24 @@ module _ (part : Part) (sound : IsPart part) where
   for_eeprom_read start count is_block =
       let most = sound.eeprom_most in
       let inside = is_block.inside in
-      row_of (read_eeprom_block count) _ (ReadsEeprom start count is_block.some is_block.few is_block.inside refl) refl
+      built (read_eeprom_block count) _ (ReadsEeprom start count is_block.some is_block.few is_block.inside refl) refl
       refl (omega (arith, most, inside)) refl (λ x. refl) (λ x. refl) (λ x. refl)
       (closed_reply (read_eeprom_block count) count refl) (closed_from count)
 
   for_fuse_read : (f : Fuse) → RowFor part (read_fuse f ∷ [])
-  for_fuse_read f = row_of (read_fuse f) _ (ReadsFuse f refl) refl refl tt refl (λ x. refl) (λ x. (search rules))
+  for_fuse_read f = built (read_fuse f) _ (ReadsFuse f refl) refl refl tt refl (λ x. refl) (λ x. (search rules))
       (λ x. refl) (closed_reply (read_fuse f) 1 refl) (closed_from 1)
 
   for_lock_read : RowFor part (read_lock ∷ [])
-  for_lock_read = row_of read_lock _ (ReadsLock refl) refl refl tt refl (λ x. refl) (λ x. refl) (λ x. refl)
+  for_lock_read = built read_lock _ (ReadsLock refl) refl refl tt refl (λ x. refl) (λ x. refl) (λ x. refl)
       (closed_reply read_lock 1 refl) (closed_from 1)
 
   for_signature : (place : ℕ) → place < 3 → RowFor part (read_signature place ∷ [])
-  for_signature place few =
-      row_of (read_signature place) _ (ReadsSignature place few refl) refl refl tt refl (λ x. refl)
+  for_signature place few = built (read_signature place) _ (ReadsSignature place few refl) refl refl tt refl (λ x. refl)
       (λ x. refl) (λ x. refl) (closed_reply (read_signature place) 1 refl) (closed_from 1)
 
   for_calibration : RowFor part (read_calibration ∷ [])
-  for_calibration = row_of read_calibration _ (ReadsCalibration refl) refl refl tt refl (λ x. refl) (λ x. refl)
+  for_calibration = built read_calibration _ (ReadsCalibration refl) refl refl tt refl (λ x. refl) (λ x. refl)
       (λ x. refl) (closed_reply read_calibration 1 refl) (closed_from 1)
 
   -- the row of each step
@@ -219,7 +218,7 @@ module _ (part : Part) (sound : IsPart part) where
   -- the step of each row
   pub step_for : (row : Row) → IsRow part row → StepFor part row
   unfolding for_erase for_page for_run for_fuse for_lock for_flash_read for_eeprom_read for_fuse_read for_lock_read
-      for_signature for_calibration row_of
+      for_signature for_calibration built
   step_for row (ErasesChip e) = (_, Erases refl, for_erase part sound, e)
   step_for row (WritesFlashPage page bytes whole inside e) =
       let is_page : IsPage part page bytes = record { whole = whole; inside = inside } in
