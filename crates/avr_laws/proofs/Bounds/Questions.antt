@@ -27,12 +27,12 @@ steps_weigh (commands ∷ steps) = search (rules, commands_weigh, weighed_append
 
 -- a dialog whose bodies weigh at most `n` asks at most `n` commands
 asks_weighed : {E R : Type 0} (n : ℕ) (d : Dialog E R) → WeighsAtMost one n d → AsksAtMost n d
-asks_weighed n (Done r) f = tt
-asks_weighed n (Emit e d) f = asks_weighed n d f.1
-asks_weighed zero (Ask asked resume) f = let first = f.0 in absurd (omega (arith, first))
-asks_weighed (suc n) (Ask asked resume) f = λ reading.
+asks_weighed n (Done r) weighs = tt
+asks_weighed n (Emit e d) weighs = asks_weighed n d weighs.1
+asks_weighed zero (Ask asked resume) weighs = let first = weighs.0 in absurd (omega (arith, first))
+asks_weighed (suc n) (Ask asked resume) weighs = λ reading.
     let rest : suc n - 1 ≡ n = omega arith in
-    asks_weighed n (resume reading) (subst (λ k. WeighsAtMost one k (resume reading)) rest (f.1 reading))
+    asks_weighed n (resume reading) (subst (λ k. WeighsAtMost one k (resume reading)) rest (weighs.1 reading))
 
 pub session_most : (plan : Plan) → AsksAtMost (4 * commands_in (run_steps plan)) (session plan)
 session_most plan = search (rules, asks_weighed, steps_weigh, session_weighs)

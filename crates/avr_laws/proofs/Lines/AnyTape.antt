@@ -29,15 +29,15 @@ by_reply : {P : Type 0} (m : Device P) (bytes : List ℕ) (p : P) (execution : E
     → IsExchangeOf m bytes p execution (Replied came) (exchange_with_reply execution came)
 by_reply m bytes p NotExecuted came (inl own) = absurd own.0
 by_reply m bytes p NotExecuted came (inr is) = (ap Replied (sym is), refl)
-by_reply m bytes p Executed came h = search (rules, bytes_eq-Decides)
-by_reply m bytes p (ThenRestarted execution) came h =
-    let inner = by_reply m bytes p execution came h in (inner.0, ap m.reset inner.1)
+by_reply m bytes p Executed came authentic = search (rules, bytes_eq-Decides)
+by_reply m bytes p (ThenRestarted execution) came authentic =
+    let inner = by_reply m bytes p execution came authentic in (inner.0, ap m.reset inner.1)
 
 pub authentic_exchange : {P : Type 0} (m : Device P) (bytes : List ℕ) (p : P) (execution : Execution)
     (reading : Reading) → IsAuthentic m bytes p execution reading → IsExchangeOf m bytes p execution reading
     (exchange_by execution reading)
-authentic_exchange m bytes p execution (Replied came) h = by_reply m bytes p execution came h
-authentic_exchange m bytes p execution reading h = (refl, refl)
+authentic_exchange m bytes p execution (Replied came) authentic = by_reply m bytes p execution came authentic
+authentic_exchange m bytes p execution reading authentic = (refl, refl)
 
 -- without a further command the programmer stays as it is
 none_further : {E R P : Type 0} (m : Device P) (d : Dialog E R) (p : P) (exchanges : List Exchange)
@@ -109,17 +109,17 @@ module _ {P : Type 0} (m : Device P) where
   read_as : {E R : Type 0} (d : Dialog E R) (n : ℕ) (tape : Tape) (p : P) (executions : List Execution)
       → SendsValidBodies d → RepliesAreAuthentic m d n tape p executions
       → ReadAs m d n tape p executions (exchanges_on_tape d n tape executions)
-  read_as (Done r) n tape p executions asks h =
+  read_as (Done r) n tape p executions asks authentic =
       record { reply_count = 0; left = tape; play = refl; all = λ q seq rest o. refl; programmer = none_sent }
     where
       none_sent : (k : ℕ) → k ≤ 0 → p ≡ after_sent_frames m (take k []) executions p
       none_sent zero le = refl
       none_sent (suc k) le = absurd (omega (arith, le))
-  read_as (Emit e d) n tape p executions asks h = search (rules, read_as d n tape p executions asks h)
-  read_as (Ask bytes go_on) n tape p executions asks h =
+  read_as (Emit e d) n tape p executions asks authentic = search (rules, read_as d n tape p executions asks authentic)
+  read_as (Ask bytes go_on) n tape p executions asks authentic =
       command_read_as bytes go_on n tape p executions asks.0 (answer n tape) refl
       (λ reading left inner. read_as (go_on reading) (next n) left _ (later_executions executions) (asks.1 reading)
-      inner) h
+      inner) authentic
 
   -- THE LAW
   pub goes_as : {E R : Type 0} (d : Dialog E R) (n : ℕ) (tape : Tape) (p : P) (executions : List Execution)
@@ -169,10 +169,10 @@ module _ {P : Type 0} (m : Device P) where
   after_got got (first ∷ later) p = after_got first later (m.reset (after_frames m got p))
 
   -- one more frame that the programmer got
-  got_one_more : (piece : List ℕ) (got : List (List ℕ)) (later : List (List (List ℕ))) (p : P)
-      → after_got (piece ∷ got) later p ≡ after_got got later (after_frame m piece p)
-  got_one_more piece got [] p = refl
-  got_one_more piece got (first ∷ later) p = refl
+  got_one_more : (piece : List ℕ) (before : List (List ℕ)) (later : List (List (List ℕ))) (p : P)
+      → after_got (piece ∷ before) later p ≡ after_got before later (after_frame m piece p)
+  got_one_more piece before [] p = refl
+  got_one_more piece before (first ∷ later) p = refl
 
   -- by whether the programmer executed this frame, and restarted then
   getting_after : (execution : Execution) (piece : List ℕ) (got : FramesByRestart) (p : P)

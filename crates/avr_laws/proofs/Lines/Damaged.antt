@@ -42,18 +42,18 @@ fold_cancel (x ∷ xs) a b e = xor_cancel a b x (fold_cancel xs (bit_xor a x) (b
 
 -- bytes that differ in one place have another XOR
 xor_differs : (xs ys : List ℕ) (z : ℕ) → DifferInOne xs ys → fold bit_xor z xs ≡ fold bit_xor z ys → ⊥
-xor_differs [] ys z d e = d
-xor_differs (x ∷ xs) [] z d e = d
-xor_differs (x ∷ xs) (y ∷ ys) z (inl (other, same)) e = grind (arith, xor_cancel_left, fold_cancel)
-xor_differs (x ∷ xs) (y ∷ ys) z (inr (same, d)) e =
-    xor_differs xs ys (bit_xor z y) d (ap (λ w. fold bit_xor (bit_xor z w) xs) (sym same) ∙ e)
+xor_differs [] ys z differ same_xor = differ
+xor_differs (x ∷ xs) [] z differ same_xor = differ
+xor_differs (x ∷ xs) (y ∷ ys) z (inl (other, same)) same_xor = grind (arith, xor_cancel_left, fold_cancel)
+xor_differs (x ∷ xs) (y ∷ ys) z (inr (same, differ)) same_xor =
+    xor_differs xs ys (bit_xor z y) differ (ap (λ w. fold bit_xor (bit_xor z w) xs) (sym same) ∙ same_xor)
 
 -- bytes that differ in one place are as many
 same_length : (xs ys : List ℕ) → DifferInOne xs ys → length xs ≡ length ys
-same_length [] ys d = absurd d
-same_length (x ∷ xs) [] d = absurd d
+same_length [] ys differ = absurd differ
+same_length (x ∷ xs) [] differ = absurd differ
 same_length (x ∷ xs) (y ∷ ys) (inl (other, same)) = ap (λ zs. suc (length zs)) same
-same_length (x ∷ xs) (y ∷ ys) (inr (same, d)) = ap suc (same_length xs ys d)
+same_length (x ∷ xs) (y ∷ ys) (inr (same, differ)) = ap suc (same_length xs ys differ)
 
 -- a frame whose number or later bytes differ in one place does so as a whole
 header_same : (start seq other hi lo tok : ℕ) (more rest : List ℕ) → DifferInOne (seq ∷ more) (other ∷ rest)
@@ -70,19 +70,19 @@ zero_xor piece good = eqb-true (xor_all piece) 0 (and_parts (is_frame piece) (xo
 
 -- a damaged frame is as long, and bad
 bad_piece : (piece came : List ℕ) → IsPiece piece → is_good piece ≡ true → IsDamaged piece came → BadPiece came
-bad_piece [] came whole good d = absurd d
-bad_piece (start ∷ []) came whole good d = absurd d
-bad_piece (start ∷ seq ∷ []) came whole good d = absurd d
-bad_piece (start ∷ seq ∷ hi ∷ []) came whole good d = absurd d
-bad_piece (start ∷ seq ∷ hi ∷ lo ∷ []) came whole good d = absurd d
-bad_piece (start ∷ seq ∷ hi ∷ lo ∷ tok ∷ more) came whole good (other, rest, e, d) = subst BadPiece (sym e) (
+bad_piece [] came whole good damaged = absurd damaged
+bad_piece (start ∷ []) came whole good damaged = absurd damaged
+bad_piece (start ∷ seq ∷ []) came whole good damaged = absurd damaged
+bad_piece (start ∷ seq ∷ hi ∷ []) came whole good damaged = absurd damaged
+bad_piece (start ∷ seq ∷ hi ∷ lo ∷ []) came whole good damaged = absurd damaged
+bad_piece (start ∷ seq ∷ hi ∷ lo ∷ tok ∷ more) came whole good (other, rest, e, damaged) = subst BadPiece (sym e) (
   whole ∙ same_length (start ∷ seq ∷ hi ∷ lo ∷ tok ∷ more) (start ∷ other ∷ hi ∷ lo ∷ tok ∷ rest) differ,
   λ fine. xor_differs (start ∷ seq ∷ hi ∷ lo ∷ tok ∷ more) (start ∷ other ∷ hi ∷ lo ∷ tok ∷ rest) 0 differ
       (zero_xor (start ∷ seq ∷ hi ∷ lo ∷ tok ∷ more) good ∙ sym (zero_xor (start ∷ other ∷ hi ∷ lo ∷ tok ∷ rest) fine)),
 )
   where
     differ : DifferInOne (start ∷ seq ∷ hi ∷ lo ∷ tok ∷ more) (start ∷ other ∷ hi ∷ lo ∷ tok ∷ rest)
-    differ = header_same start seq other hi lo tok more rest d
+    differ = header_same start seq other hi lo tok more rest damaged
 
 -- ---- what the programmer gets
 
@@ -154,11 +154,11 @@ abbrev Sound : (List ℕ → Type 0) → List ℕ → Type 0
 Sound Claim piece = (piece ≡ []) ⊎ (IsPiece piece × (is_good piece ≡ true → Claim piece))
 
 -- a frame is a whole piece
-frame_is_piece_whole : (n : ℕ) (body : List ℕ) → IsFrameBody body → IsPiece (frame n body)
-frame_is_piece_whole n body b = frame_is_piece n body b.some b.few
+is_whole_piece : (n : ℕ) (body : List ℕ) → IsFrameBody body → IsPiece (frame n body)
+is_whole_piece n body b = frame_is_piece n body b.some b.few
 
 damaged_frame : (n : ℕ) (body came : List ℕ) → IsFrameBody body → IsDamaged (frame n body) came → BadPiece came
-damaged_frame n body came b d = bad_piece (frame n body) came (frame_is_piece_whole n body b) (frame_is_good n body b.some) d
+damaged_frame n body came b d = bad_piece (frame n body) came (is_whole_piece n body b) (frame_is_good n body b.some) d
 
 -- a reply to one of these commands, or such a reply damaged
 reply_sound : (k : ℕ) (sent : List (List ℕ)) (piece : List ℕ) → AllReplies sent → IsReplyOfFirst k sent piece
@@ -167,7 +167,7 @@ reply_sound zero sent piece all is = absurd is
 reply_sound (suc k) [] piece all is = absurd is
 reply_sound (suc k) (first ∷ sent) piece (inl none, all) (inl same) = inl (same ∙ none)
 reply_sound (suc k) (first ∷ sent) piece (inr (n, body, b, e), all) (inl same) =
-    inr (subst IsPiece (sym (same ∙ e)) (frame_is_piece_whole n body b), λ good. inl same)
+    inr (subst IsPiece (sym (same ∙ e)) (is_whole_piece n body b), λ good. inl same)
 reply_sound (suc k) (first ∷ sent) piece (inl none, all) (inr (inl d)) = absurd (subst (λ f. IsDamaged f piece) none d)
 reply_sound (suc k) (first ∷ sent) piece (inr (n, body, b, e), all) (inr (inl d)) =
     let bad = damaged_frame n body piece b (subst (λ f. IsDamaged f piece) e d) in
@@ -183,11 +183,11 @@ refused_body = record { some = omega arith; few = omega arith }
 -- a refusal, or a refusal damaged
 refusal_sound : (piece : List ℕ) → IsSomeRefusal piece → Sound (λ p. body_of p ≡ refusal) piece
 refusal_sound piece (n, inl same) = inr (
-  subst IsPiece (sym same) (frame_is_piece_whole n refusal refused_body),
+  subst IsPiece (sym same) (is_whole_piece n refusal refused_body),
   λ good. ap body_of same ∙ body_of_frame n refusal,
 )
-refusal_sound piece (n, inr d) =
-    let bad = damaged_frame n refusal piece refused_body d in inr (bad.0, λ good. absurd (bad.1 good))
+refusal_sound piece (n, inr damaged) =
+    let bad = damaged_frame n refusal piece refused_body damaged in inr (bad.0, λ good. absurd (bad.1 good))
 
 -- what arrives is nothing, or a whole piece that isn't forged
 unforged : (sent : List (List ℕ)) (piece : List ℕ) → AllReplies sent → IsReplyOfFirst 256 sent piece
@@ -350,10 +350,10 @@ on_the_tape (Some (reading, come)) = Some (reading, tape_of_arrivals come)
 lost_reads : (n : ℕ) (bytes : List ℕ) (left : List Arrival) → frames_before_pause left ≡ [] → first_reply n (cut bytes)
     ≡ None → length bytes < reply_byte_limit → answer n (on_tape bytes ++ tape_of_arrivals left)
     ≡ on_the_tape (first_reading n left)
-lost_reads n bytes [] none first lt = ap (answer n) (append-nil (on_tape bytes)) ∙ reading_waits n bytes first lt
-lost_reads n bytes (PauseArrives ∷ left) none first lt = reading_silent n bytes (tape_of_arrivals left) first lt
-lost_reads n bytes (EndArrives ∷ left) none first lt = reading_ended n bytes (tape_of_arrivals left) first lt
-lost_reads n bytes (FrameArrives piece ∷ left) none first lt = cc
+lost_reads n bytes [] none first few = ap (answer n) (append-nil (on_tape bytes)) ∙ reading_waits n bytes first few
+lost_reads n bytes (PauseArrives ∷ left) none first few = reading_silent n bytes (tape_of_arrivals left) first few
+lost_reads n bytes (EndArrives ∷ left) none first few = reading_ended n bytes (tape_of_arrivals left) first few
+lost_reads n bytes (FrameArrives piece ∷ left) none first few = cc
 
 -- what is read of the tape is what arrives
 is_read : (n : ℕ) (come : List Arrival) (bytes : List ℕ) → Comes n come bytes ⊎ Lost n come bytes

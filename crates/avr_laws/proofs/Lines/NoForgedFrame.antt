@@ -27,7 +27,7 @@ further_back n k [] past = tt
 further_back n k (reply ∷ before) past = search (rules, further_back n (suc k) before past.1)
 
 nothing_is_not_good : (piece : List ℕ) → piece ≡ [] → is_good piece ≡ true → ⊥
-nothing_is_not_good piece e good = search rules
+nothing_is_not_good piece is good = search rules
 
 -- none of the last 255 has this number
 not_past : (c n k : ℕ) (before : List (List ℕ)) (piece : List ℕ) → 1 ≤ k → k + c ≤ 256 → Past n k before
@@ -55,8 +55,8 @@ body_read other = []
 -- what is found behind a skipped piece is found
 further_body : (count : ℕ) (o : Option (List ℕ × ℕ)) (body : List ℕ) (used : ℕ) → past_skipped count o
     ≡ Some (body, used) → (u : ℕ) × (o ≡ Some (body, u))
-further_body count None body used e = cc
-further_body count (Some (b, u)) body used e = (u, ap (λ x. Some (x, u)) (ap body_in e))
+further_body count None body used is = cc
+further_body count (Some (b, u)) body used is = (u, ap (λ x. Some (x, u)) (ap body_in is))
 
 -- the first reply among pieces that aren't forged
 taken_piece : (n : ℕ) (sent : List (List ℕ)) (pieces : List (List ℕ)) (body : List ℕ) (used : ℕ)

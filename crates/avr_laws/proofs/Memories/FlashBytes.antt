@@ -20,20 +20,20 @@ written_later item xs addr (b ∷ bytes) are = (inr are.0, written_later item xs
 write_anded : (image : Image) (xs : List Item) (addr before byte mid after : ℕ) → byte_at image addr ≡ Some byte
     → mid ≡ bit_and before byte
     → IsMadeByImages xs addr mid after → IsMadeByImages (Write Flash image ∷ xs) addr before after
-write_anded image xs addr before byte mid after at e m = elim m.first_is [
+write_anded image xs addr before byte mid after at is_anded made = elim made.first_is [
   | inl is ↦ record {
     first = before;
-    bytes = byte ∷ m.bytes;
+    bytes = byte ∷ made.bytes;
     first_is = inl refl;
-    are_there = (inl at, written_later (Write Flash image) xs addr m.bytes m.are_there);
-    is = m.is ∙ ap (λ (first : ℕ). and_all first m.bytes) (is ∙ e);
+    are_there = (inl at, written_later (Write Flash image) xs addr made.bytes made.are_there);
+    is = made.is ∙ ap (λ (first : ℕ). and_all first made.bytes) (is ∙ is_anded);
   }
   | inr is ↦ record {
-    first = m.first;
-    bytes = m.bytes;
+    first = made.first;
+    bytes = made.bytes;
     first_is = inr is;
-    are_there = written_later (Write Flash image) xs addr m.bytes m.are_there;
-    is = m.is;
+    are_there = written_later (Write Flash image) xs addr made.bytes made.are_there;
+    is = made.is;
   }
 ]
 
@@ -45,12 +45,12 @@ Writes image addr before mid = (mid ≡ before)
 -- an address inside flash is inside it after a write
 still_inside : (image : Image) (xs : List ℕ) (addr : ℕ) (lock : Bool) → addr < length xs
     → addr < length (if lock then xs else and_in image xs)
-still_inside image xs addr lock l = search (rules, length-and_in)
+still_inside image xs addr lock inside = search (rules, length-and_in)
 
 -- a write before other items
 write_joined : (image : Image) (xs : List Item) (addr before mid after : ℕ) → Writes image addr before mid
     → IsMadeByImages xs addr mid after → IsMadeByImages (Write Flash image ∷ xs) addr before after
-write_joined image xs addr before mid after g' m = search (rules, written_later, write_anded)
+write_joined image xs addr before mid after writes made = search (rules, written_later, write_anded)
 
 module _ (part : Part) (addr : ℕ) where
   abbrev byte : Memories → ℕ

@@ -101,10 +101,10 @@ module _ (plan : Plan) where
   sends_valid (Ask body go_on) valid = (valid.0, λ reading. sends_valid (go_on reading) (valid.1 reading))
 
   -- the first frames of the session are those of its handshake
-  pub first_frames : (d : Dialog ⊥ StepOutcome) (n : ℕ) (tape : Tape) → SendsValidBodies d
-      → IsFirstPart (played d n tape) (played (from_handshake d) n tape)
+  pub first_frames : (dialog : Dialog ⊥ StepOutcome) (n : ℕ) (tape : Tape) → SendsValidBodies dialog
+      → IsFirstPart (played dialog n tape) (played (from_handshake dialog) n tape)
   first_frames (Done outcome) n tape valid = (_, refl)
-  first_frames (Emit e d) n tape valid = absurd e
+  first_frames (Emit e dialog) n tape valid = absurd e
   first_frames (Ask body go_on) n tape valid =
       let rest = first_part_on (λ reading. played (go_on reading) (next n))
       (λ reading. played (from_handshake (go_on reading)) (next n)) (answer n tape)
@@ -124,7 +124,7 @@ module _ (plan : Plan) where
   never_fine (Ask body go_on) n tape seq left is =
       succeeds_by 0 seq left ⊥ (λ reading. played (reported (go_on reading) (λ outcome. []) >>= (λ closed. Done Over)
       >>= λ standing. Done (status_of standing)) (next n)) (answer n tape)
-      (λ reading rest e so. never_fine (go_on reading) (next n) rest seq left so) is
+      (λ reading rest is_read so. never_fine (go_on reading) (next n) rest seq left so) is
 
   -- so one that does had no fault when it was opened
   no_fault : (outputs : List OutputEvent) (standing : Standing) (n : ℕ) (tape : Tape) (seq : ℕ) (left : Tape)
@@ -145,15 +145,15 @@ module _ (plan : Plan) where
   -- a signature that was accepted is the part's, or `-F` was given
   pub accepted : (outcome : StepOutcome)
       → standing (checked_by (signature_checked plan.part.signature s.force) outcome) ≡ NoFault → HasAccepted outcome
-  accepted (Ok found) is = (
+  accepted (Ok found) fine = (
     found,
     refl,
     λ unforced. elim (cases_Bool (bytes_eq found plan.part.signature)) [
       | inl same ↦ search (rules, bytes_eq-Decides)
-      | inr differs ↦ absurd (cc (rw (unforced, differs) at is))
+      | inr differs ↦ absurd (cc (rw (unforced, differs) at fine))
     ],
   )
-  accepted (Err fault) is = absurd (no_host_fault fault is)
+  accepted (Err fault) fine = absurd (no_host_fault fault fine)
 
   -- ---- over a link that forges no frame it is the chip's
 

@@ -43,7 +43,7 @@ use Rattle.avr_tool.proofs.Memories.VerifiedRuns.{run_written}
 use Rattle.avr_laws.proofs.Lines.AnyTape.{goes_as}
 use Rattle.avr_laws.proofs.Lines.NoForgedFrame.{no_forged_frame_authentic}
 
-module _ (s : Settings) (x y : Devices) (r : IsRun s x y 0) where
+module _ (s : Settings) (old new : Devices) (r : IsRun s old new 0) where
   abbrev pub tape : Tape
   tape = heard r.during
 
@@ -62,10 +62,10 @@ module _ (s : Settings) (x y : Devices) (r : IsRun s x y 0) where
   pub made : (plan : Plan) × ((planned s r.openings).stage_outcome ≡ Produced plan)
   made = search (rules, over)
 
-  module _ (plan : Plan) (made_is : (planned s r.openings).stage_outcome ≡ Produced plan) (silent : x.link.transcript
+  module _ (plan : Plan) (made_is : (planned s r.openings).stage_outcome ≡ Produced plan) (silent : old.link.transcript
       ≡ []) where
     -- all that passed, passed during the run
-    pub same : y.link.transcript ≡ r.during
+    pub same : new.link.transcript ≡ r.during
     same = r.grows ∙ ap (λ (t : Transcript). t ++ r.during) silent
 
     abbrev pub done : List (Event OutputEvent)
@@ -93,7 +93,7 @@ module _ (s : Settings) (x y : Devices) (r : IsRun s x y 0) where
         (events_with_refusal (planned s r.openings).output_events stage_outcome)) made_is (only_reads s r.openings)
 
     -- so the plan is the one that the settings and the files that were opened ask for
-    pub keeps_plan : (IsSo : Plan → Type 0) → IsSo plan → KeepsPlan s x.desk.kept y.desk.kept [] IsSo
+    pub keeps_plan : (IsSo : Plan → Type 0) → IsSo plan → KeepsPlan s old.desk.kept new.desk.kept [] IsSo
     keeps_plan IsSo so = search (rules, run_keeps, outputs_are)
 
     -- A plan whose session differs from this one in printed lines alone was kept: this plan on a chip of another
@@ -114,15 +114,15 @@ module _ (s : Settings) (x y : Devices) (r : IsRun s x y 0) where
       -- and saves the same files
       keeps_files : (m : Memories) → (expected_run other m).status ≡ 0
           → outputs done_other ≡ (expected_run other m).output_events
-          → FilesAreSaved (saved_files other m) x.desk.kept y.desk.kept
+          → FilesAreSaved (saved_files other m) old.desk.kept new.desk.kept
       keeps_files m zero emitted =
-          these_saved ((planned s r.openings).output_events ++ outputs done) (saved_files other m) x.desk y.desk
+          these_saved ((planned s r.openings).output_events ++ outputs done) (saved_files other m) old.desk new.desk
           (both_write (planned s r.openings).output_events (outputs done) [] (saved_files other m)
           (reading_writes (planned s r.openings).output_events only_read)
           (writes_alike done_other done (saved_files other m) (sym (same_events are_alike 1 tape))
           (subst (λ (output_events : List OutputEvent). WritesFiles output_events (saved_files other m)) (sym emitted)
           (expected_writes other m zero))))
-          (subst (λ (output_events : List OutputEvent). ChangesRecord (after_events output_events) x.desk y.desk)
+          (subst (λ (output_events : List OutputEvent). ChangesRecord (after_events output_events) old.desk new.desk)
           outputs_are r.kept)
 
       module _ (fitted : All (IsFitted other.part) other.tasks) (real : Real other.part) (sound : IsPart other.part)
@@ -173,7 +173,7 @@ module _ (s : Settings) (x y : Devices) (r : IsRun s x y 0) where
             (outputs_after real.device count (session other) p exchanges) 0
         expected_there = search (rules, session_succeeds, ended.0)
 
-        pub promise_for : Keeps other m0 (real.memories q) x.desk.kept y.desk.kept
+        pub promise_for : Keeps other m0 (real.memories q) old.desk.kept new.desk.kept
         promise_for = record {
           made = made_by_tasks other m0 (real.memories q) done_there;
           agrees = tasks_agree other m0 done_there.agrees;

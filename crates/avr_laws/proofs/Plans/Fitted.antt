@@ -41,12 +41,12 @@ Earlier {A} stage go_on openings b =
 
 earlier : {A B : Type 0} (stage : Stage A) (go_on : A → Stage B) (openings : List Opening) (b : B)
     → ((stage >>= go_on) openings).stage_outcome ≡ Produced b → Earlier stage go_on openings b
-earlier stage go_on openings b is = search rules
+earlier stage go_on openings b made = search rules
 
 -- a stage that produced a value had this result
-pub produced_ok : {A : Type 0} (r : Result A Bytes) (openings : List Opening) (a : A)
-    → (result_stage r openings).stage_outcome ≡ Produced a → r ≡ Ok a
-produced_ok r openings b is = search rules
+pub produced_ok : {A : Type 0} (result : Result A Bytes) (openings : List Opening) (a : A)
+    → (result_stage result openings).stage_outcome ≡ Produced a → result ≡ Ok a
+produced_ok result openings b made = search rules
 
 -- ---- the image of a file
 

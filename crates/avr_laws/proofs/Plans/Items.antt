@@ -19,14 +19,14 @@ erases_behind (Write mem image ∷ xs) ys has = erases_behind xs ys has
 -- an erase that is due comes first
 nothing_before : (due : Bool) (xs first later : List Item) → has_erase xs ≡ false
     → erase_if due ++ xs ≡ first ++ Erase ∷ later → first ≡ []
-nothing_before due xs [] later none e = refl
-nothing_before due xs (x ∷ first) later none e = search (rules, erases_behind)
+nothing_before due xs [] later none is = refl
+nothing_before due xs (x ∷ first) later none is = search (rules, erases_behind)
 
 -- nothing comes before an erase
 pub erase_first : (plan : Plan) (first later : List Item) → items plan ≡ first ++ Erase ∷ later → first ≡ []
-erase_first plan first later e =
+erase_first plan first later is =
     nothing_before (has_erase (items plan)) (writes plan) first later (tasks_write plan.switches plan.tasks)
-    (sym (items_are plan) ∙ e)
+    (sym (items_are plan) ∙ is)
 
 -- comparisons that agree after the erase agree
 pub plan_agrees : (plan : Plan) (m : Memories) → EachComparisonAgrees plan.part (tasks_actions plan.switches plan.tasks)

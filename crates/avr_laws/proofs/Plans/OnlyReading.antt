@@ -16,10 +16,10 @@ Reads stage = (openings : List Opening) → OnlyReadsAndPrints (stage openings).
 
 -- one output after the other
 all_read : (xs ys : List OutputEvent) → OnlyReadsAndPrints xs → OnlyReadsAndPrints ys → OnlyReadsAndPrints (xs ++ ys)
-all_read [] ys f g = g
-all_read (Opens opening ∷ xs) ys f g = all_read xs ys f g
-all_read (PrintsLine bytes ∷ xs) ys f g = all_read xs ys f g
-all_read (event ∷ xs) ys f g = absurd f
+all_read [] ys first second = second
+all_read (Opens opening ∷ xs) ys first second = all_read xs ys first second
+all_read (PrintsLine bytes ∷ xs) ys first second = all_read xs ys first second
+all_read (event ∷ xs) ys first second = absurd first
 
 -- a stage that goes on after another
 reads_onward : {A B : Type 0} (output_events : List OutputEvent) (openings_left : List Opening) (go_on : A
@@ -42,8 +42,8 @@ reads_plan = whole_plan (λ A stage names. Reads {A = A} stage) (λ A result. (s
 -- so is the line of a refusal
 refused_so : {A : Type 0} (output_events : List OutputEvent) (stage_outcome : StageOutcome A)
     → OnlyReadsAndPrints output_events → OnlyReadsAndPrints (events_with_refusal output_events stage_outcome)
-refused_so output_events (Refused line) f = all_read output_events (PrintsLine line ∷ []) f tt
-refused_so output_events stage_outcome f = f
+refused_so output_events (Refused line) reads = all_read output_events (PrintsLine line ∷ []) reads tt
+refused_so output_events stage_outcome reads = reads
 
 pub only_reads : (s : Settings) (openings : List Opening) → OnlyReadsAndPrints (all_events_of (planned s openings))
 only_reads s openings = search (rules, refused_so, reads_plan)

@@ -81,8 +81,8 @@ module _ {P : Type 0} (m : Device P) where
       → ByExchanges (suc (length (frames_in (continue_with_reading (λ reading. played (go_on reading) (next n))
       o).events))) executions exchanges → EmittedTrue m T (Frame (frame n bytes)
       ∷ (continue_with_reading (λ reading. played (go_on reading) (next n)) o).events) exchanges p
-  asked_true T bytes go_on n tape p executions exchanges None e b is_reported each h same = tt
-  asked_true T bytes go_on n tape p executions exchanges (Some (reading, left)) e b is_reported each h same =
+  asked_true T bytes go_on n tape p executions exchanges None is_read b is_reported each h same = tt
+  asked_true T bytes go_on n tape p executions exchanges (Some (reading, left)) is_read b is_reported each h same =
       let execution = first_execution executions in
       let q = after_execution execution (m.after bytes p) p m.reset in
       let t = authentic_exchange m bytes p execution reading h.0 in

@@ -32,22 +32,22 @@ use Rattle.avr_laws.proofs.Rows.Loss.{is_part}
 -- ---- it keeps the sizes
 
 -- an erase of some bytes keeps the length
-erased_length : (start count : ℕ) (xs : List ℕ) → length (erased start count xs) ≡ length xs
+erased_length : (start count : ℕ) (more : List ℕ) → length (erased start count more) ≡ length more
 erased_length start count [] = refl
-erased_length (suc start) count (x ∷ xs) = ap suc (erased_length start count xs)
-erased_length zero (suc count) (x ∷ xs) = ap suc (erased_length zero count xs)
-erased_length zero zero (x ∷ xs) = refl
+erased_length (suc start) count (byte ∷ more) = ap suc (erased_length start count more)
+erased_length zero (suc count) (byte ∷ more) = ap suc (erased_length zero count more)
+erased_length zero zero (byte ∷ more) = refl
 
 -- what it leaves are bytes
-erased_bytes : (start count : ℕ) (xs : List ℕ) → AreBytes xs → AreBytes (erased start count xs)
+erased_bytes : (start count : ℕ) (more : List ℕ) → AreBytes more → AreBytes (erased start count more)
 erased_bytes start count [] bytes = bytes
-erased_bytes (suc start) count (x ∷ xs) bytes =
-    All-cons (λ b. b < 256) x (erased start count xs) (All-head (λ b. b < 256) x xs bytes)
-    (erased_bytes start count xs (All-tail (λ b. b < 256) x xs bytes))
-erased_bytes zero (suc count) (x ∷ xs) bytes =
-    All-cons (λ b. b < 256) 255 (erased zero count xs) (omega arith)
-    (erased_bytes zero count xs (All-tail (λ b. b < 256) x xs bytes))
-erased_bytes zero zero (x ∷ xs) bytes = bytes
+erased_bytes (suc start) count (byte ∷ more) bytes =
+    All-cons (λ b. b < 256) byte (erased start count more) (All-head (λ b. b < 256) byte more bytes)
+    (erased_bytes start count more (All-tail (λ b. b < 256) byte more bytes))
+erased_bytes zero (suc count) (byte ∷ more) bytes =
+    All-cons (λ b. b < 256) 255 (erased zero count more) (omega arith)
+    (erased_bytes zero count more (All-tail (λ b. b < 256) byte more bytes))
+erased_bytes zero zero (byte ∷ more) bytes = bytes
 
 -- memories that fit, by a test
 if_fits : (part : Part) (test : Bool) (x y : Memories) → FitsPart part x → FitsPart part y
@@ -57,11 +57,11 @@ if_fits part test x y f g = search rules
 module _ (part : Part) (sound : IsPart part) where
   -- they fit after a page is written
   page_fits : (bytes : List ℕ) (b : Bootloader) → FitsBoot part b → FitsPart part (with_page part bytes b)
-  page_fits bytes b f = search (rules, effect_sizes, erased_length, erased_bytes)
+  page_fits bytes b fits = search (rules, effect_sizes, erased_length, erased_bytes)
 
   -- and after any command
   stays_sound : (body : List ℕ) (b : Bootloader) → FitsBoot part b → FitsBoot part (after_body part body b)
-  stays_sound body b f = search (rules, if_fits, page_fits)
+  stays_sound body b fits = search (rules, if_fits, page_fits)
 
   -- ---- it reads truly
 

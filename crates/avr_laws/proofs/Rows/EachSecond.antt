@@ -96,7 +96,7 @@ module _ {P : Type 0} (m : Device P) (view : P → Memories) (IsIn IsReady : P �
 
     -- a programmer that stands so, with any flag
     stands_with_flag : (x : Memories) (q : P) (flag : Bool) → Stands view IsReady x q → Stands view_of Ready x (q, flag)
-    stands_with_flag x q flag s = record { memories = s.memories; is = s.is }
+    stands_with_flag x q flag stands = record { memories = stands.memories; is = stands.is }
 
     -- by the row's address, and the flag
     row_at : (address : Option ℕ) (flag : Bool) → IsReady p → IsReady (m.reset p)
@@ -150,15 +150,15 @@ module _ {P : Type 0} (m : Device P) (view : P → Memories) (IsIn IsReady : P �
     -- a command that keeps the memories does so with any flag
     kept : (bytes : List ℕ) (p : P) (flag : Bool) → IsIn p → Stands view IsIn (view p) (m.after bytes p)
         → Stands view_of In (view p) (after_of bytes p flag)
-    kept bytes p true i s = record { memories = refl; is = i }
-    kept bytes p false i s = record { memories = s.memories; is = s.is }
+    kept bytes p true is_in stands = record { memories = refl; is = is_in }
+    kept bytes p false is_in stands = record { memories = stands.memories; is = stands.is }
 
     -- entering programming mode
     entered : (p : P) (flag : Bool) → IsIn p → reply_of enter_body p flag ≡ 0x10 ∷ 0 ∷ []
         → Ready (after_of enter_body p flag)
-    entered p true i e = absurd
-        (let no : 0xC0 ≡ 0 = ap (λ (bytes : List ℕ). slice_index bytes 1) e in omega (arith, no))
-    entered p false i e = t.entered p i e
+    entered p true is_in is = absurd
+        (let no : 0xC0 ≡ 0 = ap (λ (bytes : List ℕ). slice_index bytes 1) is in omega (arith, no))
+    entered p false is_in is = t.entered p is_in is
 
     entered_again : (p : P) (flag : Bool) → IsReady p → Ready (after_of enter_body p flag)
     entered_again p true s = s

@@ -180,8 +180,8 @@ module _ (part : Part) (sound : IsPart part) where
 pub not_whole : (part : Part) (byte : ℕ) (p : Programmer) → p.mode ≡ true → HasEmptyBuffers part p
     → FitsPart part (chip_memories p) → (byte ≡ 255 → ⊥)
     → IsProgrammer part (calibrated byte) chip_memories (HasPart part) (HasEmptyBuffers part) (λ row is x. Unit {0}) → ⊥
-not_whole part byte p on s f other t =
-    let d = t.rows _ p (ReadsCalibration refl) tt f s in
+not_whole part byte p in_mode ready sizes other keeps =
+    let d = keeps.rows _ p (ReadsCalibration refl) tt sizes ready in
     let read = d.good tt (byte ∷ []) refl (ap (λ (b : Bool). if b then 0x1C ∷ 0 ∷ byte ∷ 0 ∷ []
-    else 0x1C ∷ 0xC0 ∷ []) on) in
+    else 0x1C ∷ 0xC0 ∷ []) in_mode) in
     other (ap (λ (xs : List ℕ). slice_index xs 0) read.0)

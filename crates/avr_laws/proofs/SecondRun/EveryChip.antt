@@ -20,6 +20,8 @@ use Rattle.avr_tool.specs.Items.{action_items, actions_items, items, has_erase}
 use Rattle.avr_tool.proofs.Plans.Items.{tasks_write}
 use Rattle.avr_laws.proofs.Plans.Items.{plan_agrees}
 
+-- `z` and `zs` are of the chip of 00, `o` and `os` of that of FF, `m` and `ms` of any chip.
+
 -- ---- bytes: if two agree, the third agrees with them
 
 abbrev ThirdAgrees : ℕ → ℕ → ℕ → Type 0
@@ -33,10 +35,10 @@ EachThirdAgrees zs os ms = ⊥
 -- an image laid over all three
 thirds_laid : (image : Image) (zs os ms : List ℕ) → EachThirdAgrees zs os ms
     → EachThirdAgrees (with_image image zs) (with_image image os) (with_image image ms)
-thirds_laid image [] [] [] t = tt
-thirds_laid [] (z ∷ zs) (o ∷ os) (m ∷ ms) t = t
-thirds_laid (b ∷ image) (z ∷ zs) (o ∷ os) (m ∷ ms) t = ((search rules), thirds_laid image zs os ms t.1)
-thirds_laid image zs os ms t = absurd t
+thirds_laid image [] [] [] agree = tt
+thirds_laid [] (z ∷ zs) (o ∷ os) (m ∷ ms) agree = agree
+thirds_laid (b ∷ image) (z ∷ zs) (o ∷ os) (m ∷ ms) agree = ((search rules), thirds_laid image zs os ms agree.1)
+thirds_laid image zs os ms agree = absurd agree
 
 record AgreesAt (zs os ms : List ℕ) (i : ℕ) : Type 0 where
   in_zeros : i < length zs
@@ -45,10 +47,10 @@ record AgreesAt (zs os ms : List ℕ) (i : ℕ) : Type 0 where
 
 -- the bytes of one place
 third_at : (zs os ms : List ℕ) (i : ℕ) → EachThirdAgrees zs os ms → i < length ms → AgreesAt zs os ms i
-third_at (z ∷ zs) (o ∷ os) (m ∷ ms) zero t l = record { in_zeros = omega arith; in_ones = omega arith; is = t.0 }
-third_at (z ∷ zs) (o ∷ os) (m ∷ ms) (suc i) t l = search (rules, third_at zs os ms i t.1 (omega (arith, l)))
-third_at [] [] [] i t l = absurd (omega (arith, l))
-third_at zs os ms i t l = absurd t
+third_at (z ∷ zs) (o ∷ os) (m ∷ ms) zero all l = record { in_zeros = omega arith; in_ones = omega arith; is = all.0 }
+third_at (z ∷ zs) (o ∷ os) (m ∷ ms) (suc i) all l = search (rules, third_at zs os ms i all.1 (omega (arith, l)))
+third_at [] [] [] i all l = absurd (omega (arith, l))
+third_at zs os ms i all l = absurd all
 
 -- ---- memories
 
@@ -60,7 +62,7 @@ Alike false zs os ms = EachThirdAgrees zs os ms
 -- an image that is in both is in the third
 alike_holds : (zeros : Bool) (image : Image) (zs os ms : List ℕ) → Alike zeros zs os ms → HoldsImage image zs
     → HoldsImage image os → HoldsImage image ms
-alike_holds zeros image zs os ms t hz ho = search (rules, third_at)
+alike_holds zeros image zs os ms t in_zeros in_ones = search (rules, third_at)
 
 module _ (part : Part) where
   abbrev Between : Memories → Memories → Memories → Type 0

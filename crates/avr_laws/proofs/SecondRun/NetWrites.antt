@@ -62,9 +62,9 @@ laid_joined false (p ∷ a) (q ∷ b) (x ∷ xs) = ap₂ (λ y ys. y ∷ ys) (se
 -- ---- a lock that is set stays set
 
 -- a byte over the lock
-stays : (o : Option ℕ) (lock : ℕ) → (bit_at lock 0 == 0) ≡ true → (bit_at (and_with o lock) 0 == 0) ≡ true
-stays None lock e = e
-stays (Some b) lock e = search (rules, bit_at_and lock b 0)
+stays : (byte : Option ℕ) (lock : ℕ) → (bit_at lock 0 == 0) ≡ true → (bit_at (and_with byte lock) 0 == 0) ≡ true
+stays None lock locked = locked
+stays (Some b) lock locked = search (rules, bit_at_and lock b 0)
 
 module _ (part : Part) where
   -- a chip that is locked stays so while nothing erases
@@ -77,7 +77,7 @@ module _ (part : Part) where
   -- so one that isn't locked at the end never was
   begins_open : (items : List Item) (m : Memories) → has_erase items ≡ false
       → are_locked (effects part items m) ≡ false → are_locked m ≡ false
-  begins_open items m w e = search (rules, ends_locked)
+  begins_open items m w open = search (rules, ends_locked)
 
   -- ---- writes alone, in one memory
 
@@ -149,9 +149,9 @@ module _ (part : Part) where
     -- under a lock nothing changes
     locked_keeps : (items : List Item) (m : Memories) → is_barred mem true ≡ true → has_erase items ≡ false
         → are_locked m ≡ true → memory_in part mem (effects part items m) ≡ memory_in part mem m
-    locked_keeps [] m barred w e = refl
-    locked_keeps (Erase ∷ items) m barred w e = absurd (true≢false w)
-    locked_keeps (Write other image ∷ items) m barred w e =
+    locked_keeps [] m barred w locked = refl
+    locked_keeps (Erase ∷ items) m barred w locked = absurd (true≢false w)
+    locked_keeps (Write other image ∷ items) m barred w locked =
         search (rules, locked_keeps items (write_effect other image m) barred w (search (rules, stays)))
 
     -- if what they leave bars them alike, writing twice is writing once

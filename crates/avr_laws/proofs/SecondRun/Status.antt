@@ -31,7 +31,7 @@ pub run_repairs : (plan : Plan) (k : ℕ) (m : Memories) → IsPart plan.part �
     → FitsPart plan.part m → has_erase (items plan) ≡ true → AgreesOnTwoChips plan
     → (erase_keeps_eeprom plan.part m ≡ true → ItemsKeepEeprom plan.part (items plan))
     → RunRepairs plan m (effects plan.part (take k (write_operations plan)) m)
-run_repairs plan k m sound fitted f erases both kept =
+run_repairs plan k m sound fitted sizes erases two kept =
     search (rules, agrees_anyway, effects_sizes, expected_status, expected_memories, plan_again)
 
 -- so it is over what a run left
@@ -39,18 +39,18 @@ pub first_writes_repaired : (plan : Plan) (before after : Memories) → IsPart p
     → All (IsFitted plan.part) plan.tasks → FitsPart plan.part before → has_erase (items plan) ≡ true
     → AgreesOnTwoChips plan → (erase_keeps_eeprom plan.part before ≡ true → ItemsKeepEeprom plan.part (items plan))
     → HasFirstOperations plan before after → RunRepairs plan before after
-first_writes_repaired plan before after sound fitted f erases both kept touched =
+first_writes_repaired plan before after sound fitted f erases two kept touched =
     subst (RunRepairs plan before) (sym touched.memories) (run_repairs plan touched.count before sound fitted f erases
-    both kept)
+    two kept)
 
 -- a second run that did everything has the outcome that the first one would have had
 pub done_again : (plan : Plan) (before left after : Memories) → IsPart plan.part → All (IsFitted plan.part) plan.tasks
     → FitsPart plan.part before → (has_erase (items plan) ≡ true → erase_keeps_eeprom plan.part before ≡ true
     → ItemsKeepEeprom plan.part (items plan)) → HasFirstOperations plan before left → IsDone plan left after → after
     ≡ effects plan.part (items plan) before
-done_again plan before left after sound fitted f kept touched all = search (rules, plan_again)
+done_again plan before left after sound fitted sizes kept touched all = search (rules, plan_again)
 
 -- an expected run that succeeds, whatever the chip was
 pub succeeds : (plan : Plan) (before : Memories) (status : ℕ) → FitsPart plan.part before
     → has_erase (items plan) ≡ true → AgreesOnTwoChips plan → status ≡ (expected_run plan before).status → status ≡ 0
-succeeds plan before status f erases both status_is = search (rules, expected_status, agrees_anyway)
+succeeds plan before status sizes erases two status_is = search (rules, expected_status, agrees_anyway)

@@ -44,7 +44,7 @@ byte_in sent = 0
 
 -- fuses with the same address
 same_fuse : (f g : Fuse) → write_address f ≡ write_address g → f ≡ g
-same_fuse f g e = grind arith
+same_fuse f g is = grind arith
 
 module _ (becomes : Mem → ℕ → ℕ) (part : Part) where
   -- the lock takes this byte
@@ -64,7 +64,7 @@ module _ (becomes : Mem → ℕ → ℕ) (part : Part) where
   -- what is asked of these bodies is asked of their row
   vouched_row : (sent : List (List ℕ)) (x : Memories) → IsVouchedSent sent x → (row : Row) (is : IsRow part row)
       → sent ≡ bodies row → IsVouched becomes part row is x
-  vouched_row sent e v row is same = grind (arith, bodies)
+  vouched_row sent vouched v row is same = grind (arith, bodies)
 
   abbrev Works : List (List Command) → Memories → Type 0
   Works steps x = StepsWork part (IsVouched becomes part) steps x
@@ -99,9 +99,9 @@ module _ (becomes : Mem → ℕ → ℕ) (part : Part) where
       )
 
   -- of two commands
-  calm_two : (l c : Command) → ((x : Memories) → (memories_after_step part (l ∷ c ∷ []) x).lock ≡ x.lock)
-      → Calm IsShown (l ∷ c ∷ [])
-  calm_two l c kept = record {
+  calm_two : (l command : Command) → ((x : Memories) → (memories_after_step part (l ∷ command ∷ []) x).lock ≡ x.lock)
+      → Calm IsShown (l ∷ command ∷ [])
+  calm_two l command kept = record {
     kept = kept;
     vouched = λ x such. record {
       flash = λ load count e. such;
@@ -186,7 +186,7 @@ module _ (becomes : Mem → ℕ → ℕ) (part : Part) where
   suits_fuse : (mem : Mem) (byte : Option ℕ) (x : Memories)
       → ((v : ℕ) → SuitsWriting becomes mem (Some v) x → becomes mem v ≡ v) → SuitsWriting becomes mem byte x
       → (v : ℕ) → byte ≡ Some v → becomes mem v ≡ v
-  suits_fuse mem byte x each suits v is = each v (subst (λ b. SuitsWriting becomes mem b x) is suits)
+  suits_fuse mem byte x vouched suits v is = vouched v (subst (λ b. SuitsWriting becomes mem b x) is suits)
 
   -- a write that suits the sheet works
   write_works : (mem : Mem) (image : Image) (x : Memories) → SuitsWriting becomes mem (byte_at image 0) x
@@ -211,11 +211,11 @@ module _ (becomes : Mem → ℕ → ℕ) (part : Part) where
       calm_steps Such (read_steps part mem) (each_of (Calm Such) (read_step part mem) 0 (read_count part mem) each) x
 
   -- one command with a code between these
-  calmly : (n : ℕ) → 0x17 < n → n < 0x1C → (n ≡ 0x19 → ⊥) → (c : Command) → code c ≡ n
-      → ((x : Memories) → (memories_after_step part (c ∷ []) x).lock ≡ x.lock) → Calm Any (c ∷ [])
-  calmly n more less other c is kept = record {
+  calmly : (n : ℕ) → 0x17 < n → n < 0x1C → (n ≡ 0x19 → ⊥) → (command : Command) → code command ≡ n
+      → ((x : Memories) → (memories_after_step part (command ∷ []) x).lock ≡ x.lock) → Calm Any (command ∷ [])
+  calmly n more less other command is kept = record {
     kept = kept;
-    vouched = λ x such. by_code c n is (λ e. omega (arith, e, more)) other (λ e. omega (arith, e, less)) x;
+    vouched = λ x such. by_code command n is (λ e. omega (arith, e, more)) other (λ e. omega (arith, e, less)) x;
   }
 
   fuse_read : (f : Fuse) → Calm Any (read_fuse f ∷ [])

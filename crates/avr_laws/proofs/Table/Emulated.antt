@@ -60,7 +60,7 @@ module _ (part : Part) (sound : IsPart part) where
   -- it changes no memory
   load_keeps : (address : Option ℕ) (p : Programmer) → Fits32 address → HasEmptyBuffers part p
       → Stands chip_memories (HasEmptyBuffers part) (chip_memories p) (addressed device address p)
-  load_keeps address p few s = search (rules, executes_command)
+  load_keeps address p few ready = search (rules, executes_command)
 
   -- ---- the last command of a step
 
@@ -74,7 +74,7 @@ module _ (part : Part) (sound : IsPart part) where
       → Fits32 address → IsSent address c commands
       → judge c (device.reply (body c) (addressed device address p)) ≡ Ok bytes
       → joined_reply device commands [] p ≡ Data bytes
-  reply_joined address c commands bytes p few is e = search (rules, joined_reply, on_data, load_reply)
+  reply_joined address c commands bytes p few is judged = search (rules, joined_reply, on_data, load_reply)
 
   -- the commands before the last have their replies
   replies : (address : Option ℕ) (c : Command) (commands : List Command) (p : Programmer) → Fits32 address
@@ -171,8 +171,8 @@ module _ (part : Part) (sound : IsPart part) where
   -- so each row is done, or not at all
   pub row_is_done : (row : Row) (p : Programmer) → IsRow part row → FitsPart part (memories_of p.chip)
       → HasEmptyBuffers part p → IsDoneOrNot device chip_memories (HasEmptyBuffers part) part row p
-  row_is_done row p is f s =
-      let t = step_for part sound row is in by_row row _ p t.3 (does t.0 t.1 t.2 p f s)
+  row_is_done row p is sizes ready =
+      let t = step_for part sound row is in by_row row _ p t.3 (does t.0 t.1 t.2 p sizes ready)
 
   -- ---- THE EMULATED PROGRAMMER MEETS THE TABLE
 

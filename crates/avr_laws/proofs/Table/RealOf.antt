@@ -27,23 +27,23 @@ use Rattle.avr_laws.proofs.Table.GoodReplies.{Verdict}
 
 -- data come of a good reply alone
 judged : (c : Command) (v : Verdict) (bytes : List ℕ) → reply_from_check c v ≡ Data bytes → v ≡ Ok bytes
-judged c v bytes e = search rules
+judged c v bytes is = search rules
 
 -- data after others
-data_by : (r : Reply) (before bytes : List ℕ) → on_data r (λ b. Data (before ++ b)) ≡ Data bytes
-    → (d : List ℕ) × ((r ≡ Data d) × (before ++ d ≡ bytes))
-data_by r before bytes e = search rules
+data_by : (reply : Reply) (before bytes : List ℕ) → on_data reply (λ b. Data (before ++ b)) ≡ Data bytes
+    → (d : List ℕ) × ((reply ≡ Data d) × (before ++ d ≡ bytes))
+data_by reply before bytes is = search rules
 
 module _ {P : Type 0} (m : Device P) where
   -- LOAD_ADDRESS had the good reply
   pub loaded_by : (a : ℕ) (p : P) (d : List ℕ) → reply_to m (LoadAddress a) p ≡ Data d
       → IsLoaded m (Some a) p × (d ≡ [])
-  loaded_by a p d e = search (rules, bare_reply, judged, no_bytes)
+  loaded_by a p d is = search (rules, bare_reply, judged, no_bytes)
 
   -- a step of one command
-  one_judged : (c : Command) (before bytes : List ℕ) (p : P) → joined_reply m (c ∷ []) before p ≡ Data bytes
-      → (d : List ℕ) × ((judge c (m.reply (body c) p) ≡ Ok d) × (before ++ d ≡ bytes))
-  one_judged c before bytes p e = search (rules, data_by, reply_to, judged)
+  one_judged : (command : Command) (before bytes : List ℕ) (p : P) → joined_reply m (command ∷ []) before p ≡ Data bytes
+      → (d : List ℕ) × ((judge command (m.reply (body command) p) ≡ Ok d) × (before ++ d ≡ bytes))
+  one_judged command before bytes p is = search (rules, data_by, reply_to, judged)
 
   -- of a step's last command
   pub joined_judged : (address : Option ℕ) (c : Command) (commands : List Command) (bytes : List ℕ) (p : P)
@@ -152,17 +152,17 @@ module _ {P : Type 0} (part : Part) (sound : IsPart part) (m : Device P) (view :
   Ready x p = Stands view IsReady x p
 
   over_equal_memories : (Is : P → Type 0) (x y : Memories) (q : P) → x ≡ y → Stands view Is x q → Stands view Is y q
-  over_equal_memories Is x y q same s = record { memories = s.memories ∙ same; is = s.is }
+  over_equal_memories Is x y q same stands = record { memories = stands.memories ∙ same; is = stands.is }
 
   -- a restart keeps the memories
   restart_in : (x : Memories) (p : P) → In x p → In x (m.reset p)
-  restart_in x p s = over_equal_memories IsIn (view p) x (m.reset p) s.memories (t.restarts p s.is)
+  restart_in x p stands = over_equal_memories IsIn (view p) x (m.reset p) stands.memories (t.restarts p stands.is)
 
   -- also in programming mode
   restart_ready : (x : Memories) (p : P) → Ready x p → Ready x (m.reset p)
-  restart_ready x p s = record {
-    memories = (t.restarts p (t.ready_in p s.is)).memories ∙ s.memories;
-    is = t.restarted p s.is;
+  restart_ready x p stands = record {
+    memories = (t.restarts p (t.ready_in p stands.is)).memories ∙ stands.memories;
+    is = t.restarted p stands.is;
   }
 
   -- signing on
@@ -217,7 +217,7 @@ module _ {P : Type 0} (part : Part) (sound : IsPart part) (m : Device P) (view :
     -- the row is done, or not at all
     row_at : (y : Memories) (p : P) → FitsPart part y → IsVouched y → Ready y p
         → IsDoneOrNot m view IsReady part r.row p
-    row_at y p fits v s = search rules
+    row_at y p fits vouched ready = search rules
 
     abbrev done : P → P
     done p = m.after (body r.command) (at p)
@@ -226,7 +226,7 @@ module _ {P : Type 0} (part : Part) (sound : IsPart part) (m : Device P) (view :
     same_done p = ap (λ (bytes : List ℕ). m.after bytes (at p)) (sym r.body_is)
 
     sizes_after : FitsPart part after
-    sizes_after = changed_sizes part commands x sound f
+    sizes_after = changed_sizes part commands x sound sizes
 
     -- LOAD_ADDRESS changes no memory
     loads_at : (y : Memories) → FitsPart part y → IsVouched y → (p : P) → Ready y p → Ready y (at p)
@@ -240,7 +240,7 @@ module _ {P : Type 0} (part : Part) (sound : IsPart part) (m : Device P) (view :
     -- after its last command the step is done, or not at all
     either_at : (y : Memories) → FitsPart part y → IsVouched y → (p : P) → Ready y p → IsLoaded m r.row.address p
         → Ready y (done p) ⊎ Ready (memories_after_step part commands y) (done p)
-    either_at y fits v p s loaded = elim ((row_at y p fits v s).either loaded) [
+    either_at y fits vouched p s loaded = elim ((row_at y p fits vouched s).either loaded) [
       | inl kept ↦ inl (subst (Ready y) (same_done p) (over_equal_memories IsReady (view p) y _ s.memories kept))
       | inr changed ↦ inr (subst (Ready (memories_after_step part commands y)) (same_done p)
           (over_equal_memories IsReady _ (memories_after_step part commands y) _ (row_wrote y p s.memories) changed))
@@ -252,7 +252,7 @@ module _ {P : Type 0} (part : Part) (sound : IsPart part) (m : Device P) (view :
 
     -- so it may be repeated
     again_at : (p : P) → Ready after p → IsLoaded m r.row.address p → Ready after (done p)
-    again_at p s loaded = elim (either_at after sizes_after then p s loaded) [
+    again_at p ready loaded = elim (either_at after sizes_after then p ready loaded) [
       | inl kept ↦ kept
       | inr changed ↦ over_equal_memories IsReady _ after (done p) after_twice changed
     ]

@@ -23,30 +23,30 @@ use Rattle.avr_laws.proofs.Table.GoodReplies.{Verdict, first_two, closed_is, byt
 
 -- a list of no bytes
 pub no_bytes : (d : List ℕ) → length d ≡ 0 → d ≡ []
-no_bytes [] e = refl
-no_bytes (b ∷ d) e = absurd (omega (arith, e))
+no_bytes [] none = refl
+no_bytes (b ∷ d) none = absurd (omega (arith, none))
 
 -- a reply without data
 pub bare_reply : (c : Command) → shape c ≡ Bytes 0 → (reply d : List ℕ) → judge c reply ≡ Ok d
     → (reply ≡ code c ∷ 0 ∷ []) × (length d ≡ 0)
-bare_reply c is reply d e =
-    let t = first_two c reply d e in
+bare_reply c is reply d judged =
+    let t = first_two c reply d judged in
     let b = bytes_is 0 t.0 d (ap (λ s. data_in_shape s t.0) (sym is) ∙ t.1.1) in
     (t.1.0 ∙ ap (λ (more : List ℕ). code c ∷ 0 ∷ more) (b.0 ∙ no_bytes d b.1), b.1)
 
 -- a reply whose data end in a byte 0
 pub closed_reply : (c : Command) (n : ℕ) → shape c ≡ Closed n → (reply d : List ℕ) → judge c reply ≡ Ok d
     → (reply ≡ code c ∷ 0 ∷ (d ++ (0 ∷ []))) × (length d ≡ n)
-closed_reply c n is reply d e =
-    let t = first_two c reply d e in
+closed_reply c n is reply d judged =
+    let t = first_two c reply d judged in
     let b = closed_is n t.0 d (ap (λ s. data_in_shape s t.0) (sym is) ∙ t.1.1) in
     (t.1.0 ∙ ap (λ (more : List ℕ). code c ∷ 0 ∷ more) b.0, b.1)
 
 -- such a reply without data
 closed_empty : (c : Command) → shape c ≡ Closed 0 → (reply d : List ℕ) → judge c reply ≡ Ok d
     → (reply ≡ code c ∷ 0 ∷ 0 ∷ []) × (length d ≡ 0)
-closed_empty c is reply d e =
-    let t = closed_reply c 0 is reply d e in
+closed_empty c is reply d judged =
+    let t = closed_reply c 0 is reply d judged in
     (t.0 ∙ ap (λ (more : List ℕ). code c ∷ 0 ∷ (more ++ (0 ∷ []))) (no_bytes d t.1), t.1)
 
 no_data : (d : List ℕ) → length d ≡ 0 → ◌≡◌ {A = Verdict} (Ok []) (Ok d)
@@ -89,7 +89,7 @@ pub record RowFor (part : Part) (commands : List Command) : Type 0 where
 module _ (part : Part) (sound : IsPart part) where
   -- the row of equal commands
   of_same : (written commands : List Command) → commands ≡ written → RowFor part written → RowFor part commands
-  of_same written commands e r = subst (RowFor part) (sym e) r
+  of_same written commands same row = subst (RowFor part) (sym same) row
 
   -- in the order of the fields
   built : {commands : List Command} (command : Command) (row : Row) → IsRow part row → body command ≡ row.command
