@@ -30,14 +30,17 @@ use Rattle.avr_laws.proofs.Reports.OverTape.{by_tape}
 
 module _ (plan : Plan) (begun : Programmer) (is_sound : IsSoundChip begun.chip) (part_is : begun.chip.part ≡ plan.part)
     (fitted : All (IsFitted plan.part) plan.tasks) where
+  -- the session sends valid bodies
   asks_bodies : SendsValidBodies (session plan)
   asks_bodies = asks plan begun is_sound part_is fitted
 
   module _ (tape : Tape) (executions : List Execution) (is_authentic : RepliesAreAuthentic device (session plan) 1 tape
       begun executions) where
+    -- the exchanges of its tape
     abbrev exchanges : List Exchange
     exchanges = exchanges_on_tape (session plan) 1 tape executions
 
+    -- what it does over the tape
     abbrev events_played : List (Event OutputEvent)
     events_played = (played (session plan) 1 tape).events
 
@@ -50,19 +53,23 @@ module _ (plan : Plan) (begun : Programmer) (is_sound : IsSoundChip begun.chip) 
       abbrev count : ℕ
       count = length (frames bytes)
 
+      -- the bytes hold the first frames that it sends
       more_frames : (others : List (List ℕ)) × (frames_in events_played ≡ frames bytes ++ others)
       more_frames = frames_prefix events_played bytes prefix.0 (sends_whole (session plan) 1 tape asks_bodies) prefix.1
 
+      -- they are at most all frames
       within : count ≤ length (frames_in events_played)
       within = let all = ap length more_frames.1 in omega (arith, all, length-append (frames bytes) more_frames.0)
 
       first_frames : take count (frames_in events_played) ≡ frames bytes
       first_frames = search (rules, more_frames, take-append-le, take_all)
 
+      -- these frames leave the programmer as their exchanges do
       stands : after_sent_frames device (frames bytes) executions begun
           ≡ (state_after device count (session plan) begun exchanges).programmer
       stands = sym (goes.programmer count within ∙ ap (λ fs. after_sent_frames device fs executions begun) first_frames)
 
+      -- so what was reported is true
       pub over_any_end : ReportsOverExchanges plan begun (after_sent_frames device (frames bytes) executions begun)
           exchanges bytes events_played
       over_any_end = search (rules, reports_over_exchanges, stands, by_tape)
@@ -71,18 +78,23 @@ module _ (plan : Plan) (begun : Programmer) (is_sound : IsSoundChip begun.chip) 
     module _ (bytes : List ℕ) (left : Tape) (events : List (Event OutputEvent)) (status next : ℕ)
         (is : played (session plan) 1 tape ≡ record { events = events; outcome = Some (status, next, left) })
         (sent_is : bytes_sent events ≡ bytes) where
+      -- all bytes were sent
       all_sent : IsBytePrefixOf bytes (bytes_sent events_played)
       all_sent = ([], append-nil bytes ∙ (sym sent_is ∙ ap (λ p. bytes_sent p.events) (sym is)))
 
+      -- they hold all frames
       frames_are : frames_in events_played ≡ frames bytes
       frames_are = search (rules, sends_whole, asks_bodies, frames_sent)
 
+      -- after these exchanges the session has ended with this status
       status_there : (state_after device (length (frames bytes)) (session plan) begun exchanges).dialog ≡ Done status
       status_there = search (rules, frames_are, goes)
 
+      -- and with this output
       outputs_there : outputs events ≡ outputs_after device (length (frames bytes)) (session plan) begun exchanges
       outputs_there = search (rules, frames_are, goes)
 
+      -- so its reports and its end are as promised
       pub over_any_line : WholeSessionOverExchanges plan begun (after_sent_frames device (frames bytes) executions
           begun) exchanges bytes events status
       over_any_line = (

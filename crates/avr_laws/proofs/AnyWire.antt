@@ -60,6 +60,7 @@ module _ (plan : Plan) (w v : WiredState) (fresh : IsFresh w) (stays : Preserves
   abbrev exchanges : List Exchange
   exchanges = exchanges_of_fates w.wire.fates
 
+  -- what was reported is true
   reports : Runs → ReportsOverExchanges plan (fresh_programmer w.wire.programmer.chip) v.wire.programmer exchanges
       (sent v.transcript) (events_over plan v)
   reports runs =
@@ -74,6 +75,7 @@ module _ (plan : Plan) (w v : WiredState) (fresh : IsFresh w) (stays : Preserves
       (authentic_received (session plan) 1 p w.wire.fates v asks fresh.lawful follows is_first.0 is_first.1)
       (by_fates all w.wire.fates)
 
+  -- so are the session's end and its status, if it is whole
   pub over_any_wire : Runs → OverAnyWire plan w v old now status
   over_any_wire (inl whole) =
       let c = whole_comes plan w v fresh stays is_sound part_is fitted old now status whole in
@@ -113,6 +115,7 @@ module _ (plan : Plan) (w v : WiredState) (d e : DeskState) (status : ℕ) (sile
   abbrev AreTrue : List (Event OutputEvent) → Type 0
   AreTrue = ReportsWereTrue plan (fresh_programmer w.wire.programmer.chip) (exchanges_of_fates w.wire.fates)
 
+  -- a whole session
   pub played_truly : (whole : RanToStatus (session plan) (devices (wired_link w) d) (devices (wired_link v) e) status)
       → AreTrue whole.1.events
   played_truly whole =
@@ -120,5 +123,6 @@ module _ (plan : Plan) (w v : WiredState) (d e : DeskState) (status : ℕ) (sile
       (search (rules, append-nil)) in
       subst AreTrue (over_tape ∙ ap (λ x. x.events) (whole.1.plays.plays [])) over.along_exchanges.reports_are_true
 
+  -- and one that broke off
   pub stopped_truly : (stopped : SessionStopped plan w v d e) → AreTrue stopped.breaks.prefix.whole
   stopped_truly stopped = search (rules, results_prefix, over)

@@ -43,6 +43,7 @@ module _ (plan : Plan) (begun : Programmer) (is_sound : IsSoundChip begun.chip) 
 
   module _ (exchanges : List Exchange) (q : Programmer) (bytes : List ℕ)
       (stands : q ≡ (state_after device (length (frames bytes)) (session plan) begun exchanges).programmer) where
+    -- what was reported is true
     pub reports_over_exchanges : (tape : Tape) (executions : List Execution)
         → IsBytePrefixOf bytes (bytes_sent (played (session plan) 1 tape).events)
         → RepliesAreAuthentic device (session plan) 1 tape begun executions
@@ -59,10 +60,12 @@ module _ (plan : Plan) (begun : Programmer) (is_sound : IsSoundChip begun.chip) 
         (comes : (state_after device (length (frames bytes)) (session plan) begun exchanges).dialog ≡ Done status)
         (output_events_are : output_events
         ≡ outputs_after device (length (frames bytes)) (session plan) begun exchanges) where
+      -- if few exchanges are bad, it is the expected run
       its_expected : AtMostThreeBadOfSeven exchanges
           → IsExpectedRun plan before (memories_of q.chip) output_events status
       its_expected few = search (rules, has_expected, few_session_ends, sound, sizes, idle)
 
+      -- so its end is as promised
       pub ends_and_reports_over_exchanges : EndsAndReportsOverExchanges plan before (memories_of q.chip) exchanges
           output_events status
       ends_and_reports_over_exchanges = record {

@@ -35,6 +35,7 @@ port_is text port is = search (rules, nat_tests, bytes_eq-Decides, prefix_cut, a
 emulator_read : (file : Bytes) → 0 < length file → port_of (codes "emu:" ++ file) ≡ Ok (Emulated file)
 emulator_read file some = search (rules, nat_tests)
 
+-- a text with a byte isn't empty
 not_nil : (text : Bytes) → 0 < length text → text ≢ []
 not_nil [] some is = absurd (omega (arith, some))
 not_nil (c ∷ cs) some is = absurd (cc is)

@@ -23,6 +23,7 @@ use Rattle.avr_laws.specs.AskedSettings.{AsksFor, AsksToServe, NamesPort}
 
 -- ---- standard streams
 
+-- no stream is used twice
 record StreamsAreFree (port : Port) (updates : List Update) (parts chip : Option Bytes) : Type 0 where
   parts_file : option_map_or is_standard parts false ≡ false
   chip_file : option_map_or is_standard chip false ≡ false
@@ -75,6 +76,7 @@ record EntriesGive (part : Bytes) (e : Entries) (s : Settings) : Type 0 where
   parts_are : s.parts ≡ e.parts
   switches_are : s.switches ≡ e.switches
 
+-- the settings of a run
 abbrev settings_with : Bytes → Entries → Port → List Update → Settings
 settings_with part e port updates =
     record { part = part; port = port; parts = e.parts; updates = updates; switches = e.switches }
@@ -144,6 +146,7 @@ record IsServed (text : Bytes) (e : Entries) (s : Settings) : Type 0 where
   streams : checked_streams (Served text chip) [] e.parts e.chip ≡ Ok tt
   port : s.port ≡ Served text chip
 
+-- the settings of a service
 abbrev served_with : Bytes → Entries → Port → Settings
 served_with part e port = record { part = part; port = port; parts = e.parts; updates = []; switches = switches_of [] }
 
@@ -167,6 +170,7 @@ by_serve : (rows : List Row) (s : Settings) (serve : Option Bytes) → settings_
 by_serve rows s None asked given = inr (settings_are rows s asked given)
 by_serve rows s (Some text) asked given = search (rules, of_service, streams_free, number_is, not_standard)
 
+-- so accepted words ask for a service or for a run
 pub serves_or_asks : (words : List Bytes) (s : Settings) → Ok s ≡ settings_from_arguments words
     → ServesOrAsks (matches_of avrstk words) s
 serves_or_asks words s asked = search (rules, by_serve)

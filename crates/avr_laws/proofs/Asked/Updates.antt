@@ -56,6 +56,7 @@ record IsMade (mem : Mem) (op : Op) (named : Bytes × Option ℕ) (u : Update) :
   format : format_of op named.1 ≡ Some u.format
   some : 0 < length named.0
 
+-- an update that is read is made of these
 is_made : (mem : Mem) (op : Op) (named : Bytes × Option ℕ) (u : Update) → update_by mem op named ≡ Ok u
     → IsMade mem op named u
 is_made mem op named u is = by (length named.0 == 0) (format_of op named.1) refl refl is
@@ -68,6 +69,7 @@ is_made mem op named u is = by (length named.0 == 0) (format_of op named.1) refl
     by false None empty given is = absurd (cc is)
     by false (Some format) empty given is = search rules
 
+-- an operation, a colon and the file
 record IsAfter (mem : Mem) (rest : Bytes) (u : Update) : Type 0 where
   op : Op
   file_part : Bytes
@@ -94,6 +96,7 @@ after_op mem rest u is = by (split_first rest) refl is
         let o = named a b (op_named a) refl is in
         search (rules, first_cut)
 
+-- a memory, a colon, an operation, a colon and the file
 record IsCut (text : Bytes) (u : Update) : Type 0 where
   mem : Mem
   op : Op
@@ -157,6 +160,7 @@ update_read text u e = search (rules, head_read, file_and_letter-append, file_pa
 
 -- ---- all updates
 
+-- one more update
 one_more : (n : ℕ) (text : Bytes) (texts : List Bytes) (first : Result Update UpdateFault)
     (more : Result (List Update) SettingsFault) (us : List Update) → update_of text ≡ first
     → ((us : List Update) → more ≡ Ok us → AskForUpdates texts us)

@@ -21,6 +21,7 @@ commands_weigh : (commands : List Command) → total_weight one (map body comman
 commands_weigh [] = omega arith
 commands_weigh (command ∷ commands) = let more = commands_weigh commands in omega (arith, more)
 
+-- so do the commands of steps
 steps_weigh : (steps : List (List Command)) → total_weight one (bodies_in steps) ≡ commands_in steps
 steps_weigh [] = omega arith
 steps_weigh (commands ∷ steps) = search (rules, commands_weigh, weighed_append, steps_weigh steps)
@@ -34,6 +35,7 @@ asks_weighed (suc n) (Ask asked resume) weighs = λ reading.
     let rest : suc n - 1 ≡ n = omega arith in
     asks_weighed n (resume reading) (subst (λ k. WeighsAtMost one k (resume reading)) rest (weighs.1 reading))
 
+-- a session asks at most four times its commands
 pub session_most : (plan : Plan) → AsksAtMost (4 * commands_in (run_steps plan)) (session plan)
 session_most plan = search (rules, asks_weighed, steps_weigh, session_weighs)
 

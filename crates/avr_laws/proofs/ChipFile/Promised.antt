@@ -65,6 +65,7 @@ module _ (settings : Settings) (file : Bytes) (stock : Stock) (old new : MemDesk
   abbrev files : List Writing
   files = saved_files r.plan (memories_of r.chip)
 
+  -- these files were saved
   files_saved : FilesAreSaved files r.loaded_desk.kept r.played_desk.kept
   files_saved = search (rules, these_saved, expected_writes r.plan (memories_of r.chip) (sym expected.status_is ∙ zero))
 
@@ -84,6 +85,7 @@ module _ (settings : Settings) (file : Bytes) (stock : Stock) (old new : MemDesk
       (chip_file r.after.wire.programmer.chip) r.session_status name differs r.saved
       ∙ (ap (λ (made : List Writing). content_of_name stock made name) created ∙ stood_named stock files name)
 
+  -- so all that is promised holds
   pub promised : Promised settings file (content_of_name stock []) (contents_held stock new.kept)
   promised = record {
     plan = r.plan;

@@ -21,6 +21,7 @@ use Rattle.avr_laws.specs.FewBadFrames.{AtMostThreeBadOfSeven}
 use Rattle.avr_tool.specs.Outcome.{IsExpectedRun}
 
 module _ (plan : Plan) (sound : IsPart plan.part) (fitted : All (IsFitted plan.part) plan.tasks) where
+  -- its memories, output and status are those of the expected run
   pub few_session_ends : (m : Memories) (p : Programmer) (exchanges : List Exchange) → FitsPart plan.part m
       → HasMemories plan.part m p → AtMostThreeBadOfSeven exchanges
       → (k : ℕ) (status : ℕ) → (state_after device k (session plan) p exchanges).dialog ≡ Done status

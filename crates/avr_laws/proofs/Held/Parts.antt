@@ -162,9 +162,11 @@ all_powers : all_below power_if_divides 257 ≡ true
 unfolding lib.Count.ones
 all_powers = refl
 
+-- what divides 256 passes the reader's test
 divides_power : (n : ℕ) → 0 < n → n ≤ 256 → 256 % n ≡ 0 → is_power_of_two n ≡ true
 divides_power n some few divides = search (rules, passes_below power_if_divides 257 n all_powers (omega arith))
 
+-- what divides 256 is at most 256
 divides_below : (n : ℕ) → 256 % n ≡ 0 → n ≤ 256
 divides_below n divides = search (rules, cases_lt, mod-eq_of_lt)
 
@@ -178,9 +180,11 @@ page_read f least n some enough divides = search (
   divides_power n some (divides_below n divides) divides,
 )
 
+-- three bytes in hexadecimal are read
 signature_read : (text bytes : Bytes) → decode_sized text 3 ≡ Ok bytes → signature_field (Some (string text)) ≡ Ok bytes
 signature_read text bytes is = search rules
 
+-- an id is read
 id_read : (id : Bytes) → is_id id ≡ true → ok_or (id_of id) (BadValue field.Id) ≡ Ok id
 id_read id is = search rules
 
@@ -213,5 +217,6 @@ all_read (member key (table fields) tables) (part ∷ parts) are =
     search (rules, part_read key fields part are.0, all_read tables parts are.1)
 all_read tables parts are = absurd are
 
+-- so is a part file
 pub parts_read : (text : Bytes) (parts : List Part) → HoldsParts text parts → parts_of text ≡ Ok parts
 parts_read text parts held = search (rules, all_read)

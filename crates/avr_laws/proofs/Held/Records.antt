@@ -144,6 +144,7 @@ module _ (size : ℕ) (before after : List LineResult) (means : List (Option Mea
   abbrev with_line : LineResult → List LineResult
   with_line r = before ++ r ∷ []
 
+  -- so the later lines place theirs after this one
   next_are : (r : LineResult) → ArePlaced size (with_line r) after means
       → placed_bytes (next_base (base_after before) r) (if is_data_record r then count_by is_data_record before + 1
       else count_by is_data_record before) means ≡ Some (bytes_from (with_line r) after)
@@ -190,6 +191,7 @@ ok_without_fault : {A : Type 0} (fault : Option RecordFault) (given made : A) �
     → (fault ≡ None) × (given ≡ made)
 ok_without_fault fault given made e = search rules
 
+-- an image that is read is the one that the text holds
 pub held_records : (kind : Kind) (text : List ℕ) (size : ℕ) (image : List (Option ℕ)) (ending : Ending)
     → image_in_text kind text size ≡ Ok (image, ending) → HoldsRecords kind text size image
 held_records kind text size image ending is =
@@ -241,6 +243,7 @@ srec_has_digit : (digit : ℕ) (bytes : List ℕ) (m : Meaning) → srec_line di
 srec_has_digit digit [] m is = absurd (cc is)
 srec_has_digit digit (count ∷ more) m is = search (rules, nat_tests, nat_tests)
 
+-- digits that have a meaning are decoded
 undecoded : (digits bytes : List ℕ) → decode_of digits ≡ Ok bytes → bytes_of_digits digits ≡ Ok bytes
 undecoded digits bytes is = search (rules, decoded_digits)
 
@@ -284,6 +287,7 @@ line_read : (kind : Kind) (line : List ℕ) (m : Meaning) → line_meaning kind 
 line_read Ihex line m is = search (rules, if_short, trimmed_read)
 line_read Srec line m is = search (rules, if_short, trimmed_read)
 
+-- if all places are inside, none is found outside
 none_outside : (size : ℕ) (placed : List (ℕ × ℕ))
     → list_all (λ (place : ℕ × ℕ). nat_lt place.0 size) placed ≡ true → first_outside size placed ≡ None
 none_outside size [] all = refl
@@ -370,6 +374,7 @@ made_again : (size : ℕ) (made : List (Option ℕ)) (places placed : List (ℕ 
     (Ok (made, ending))
 made_again size made places placed ending same is = cc (ap (image_of_pairs size) same)
 
+-- so a text that holds an image is read as this image
 pub records_read : (kind : Kind) (text : List ℕ) (size : ℕ) (image : List (Option ℕ))
     → HoldsRecords kind text size image
     → image_in_text kind text size ≡ Ok (image, file_ending (map (line_result kind) (lines text)))

@@ -50,6 +50,7 @@ module _ (Kept : Plan → Transcript → Record → Record → Type 0)
 
   -- ---- the emulator
 
+  -- a run over the emulator keeps its plan for the chip of its file
   over_emulator : (s : Settings) (file : Bytes) (old new : DeskState) → RunsEmulator s file old new 0
       → (found : Option Bytes) × KeepsPlan s old.kept new.kept (read_whole file found ∷ [])
       (λ plan. IsKeptInFile file found plan old.kept new.kept)
@@ -86,6 +87,7 @@ module _ (Kept : Plan → Transcript → Record → Record → Type 0)
 
   -- ---- the whole program
 
+  -- so each accepted command line is kept
   pub words_kept : {C : Type 0} (line : CommandLine C) (peers : Peers) (old new : Devices) (status : ℕ)
       → StartsProgram line peers old new status → status ≡ 0 → old.link.transcript ≡ []
       → KeepsCommandLine Kept line.is_words peers.at_address new.link.transcript old.desk.kept new.desk.kept

@@ -37,6 +37,7 @@ use Rattle.avr_laws.specs.Kept.{FilesAreSaved, named_files, dash_output, saved_f
 use Rattle.avr_laws.specs.KeptByPort.{IsKeptInFile, KeepsPlan}
 use Rattle.avr_laws.specs.OnlyReading.{OnlyReadsAndPrints}
 
+-- status 0 isn't status 1
 pub zero_is_not_one : ◌≡◌ {A = ℕ} 0 1 → ⊥
 zero_is_not_one e = cc
 
@@ -53,6 +54,7 @@ gave_chip part file (Found reading ∷ openings) chip made =
 
 -- ---- reading changes no file
 
+-- what only reads and reports changes no file
 reads_change_no_file : (output_events : List OutputEvent) → OnlyReadsAndPrints output_events → (k : Record)
     → (all_files (after_events output_events k) ≡ all_files k) × ((after_events output_events k).output ≡ k.output)
 reads_change_no_file output_events reads k =
@@ -61,11 +63,13 @@ reads_change_no_file output_events reads k =
 
 -- ---- what was opened
 
+-- replacing a file opens none
 openings_replaced : (name bytes : Bytes) (r : Record) → all_openings (with_replaced name bytes r) ≡ all_openings r
 openings_replaced name bytes r = grind (arith, nat_tests, append-nil, openings_append)
 
 -- ---- with status 0 the chip is saved
 
+-- a session that sent something has its chip saved
 saved_with_zero : (out : List ℕ) (old new : DeskState) (file bytes : Bytes) (ran : ℕ) → (out ≡ [] → ran ≡ 0 → ⊥)
     → IsSavedIfSent out old new file bytes ran 0 → ChangesRecord (with_replaced file bytes) old new
 saved_with_zero [] old new file bytes ran some saved = absurd (some refl (sym saved.1))
@@ -93,6 +97,7 @@ module _ (settings : Settings) (file : Bytes) (old new : DeskState) (r : RunsOve
       × ChangesRecord (after_events emitted) r.loaded_desk r.played_desk
   came = came_to r.plan (new_wire r.chip []) r.after r.loaded_desk r.played_desk r.session_status r.session zero
 
+  -- so it is the expected run
   expected : IsExpectedRun r.plan before (memories_of left) emitted r.session_status
   expected = came.0.success zero
 
@@ -113,9 +118,11 @@ module _ (settings : Settings) (file : Bytes) (old new : DeskState) (r : RunsOve
       (ap (λ (p : StageResult Chip). p.stage_outcome) (r.loaded.loaded.comes [])) in
       (read.0, (read.1.0, in_file r.plan.part read.0 r.chip read.1.1))
 
+  -- loading opened the chip file once
   loaded_by_opening : r.loaded_desk.kept ≡ after_events (Opens opening ∷ []) r.loaded.held_desk.kept
   loaded_by_opening = found_kept r.plan.part file r.loaded.held_desk r.loaded_desk r.chip r.loaded.loaded
 
+  -- the session opened none
   session_opens_no_file : openings_in emitted ≡ []
   session_opens_no_file = session_opens_none r.plan 1 (heard r.after.transcript)
 
@@ -141,6 +148,7 @@ module _ (settings : Settings) (file : Bytes) (old new : DeskState) (r : RunsOve
 
   -- ---- the files that memories were read into
 
+  -- planning only read and reported
   planned_read : OnlyReadsAndPrints r.made.output_events
   planned_read = search (rules, only_reads settings (r.made.passed ++ []))
 
@@ -164,6 +172,7 @@ module _ (settings : Settings) (file : Bytes) (old new : DeskState) (r : RunsOve
 
   -- ---- so the plan was kept
 
+  -- the plan was kept for the chip that was found
   pub file_kept : (found : Option Bytes) × KeepsPlan settings old.kept new.kept (read_whole file found ∷ [])
       (λ plan. IsKeptInFile file found plan old.kept new.kept)
   file_kept = (

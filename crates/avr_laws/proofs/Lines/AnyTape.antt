@@ -61,9 +61,11 @@ record ReadAs {E R P : Type 0} (m : Device P) (d : Dialog E R) (n : ℕ) (tape :
 module _ {P : Type 0} (m : Device P) where
   module _ {E R : Type 0} (bytes : List ℕ) (go_on : Reading → Dialog E R) (n : ℕ) (tape : Tape) (p : P)
       (executions : List Execution) (b : IsFrameBody bytes) where
+    -- what happened to the programmer at this frame
     abbrev execution : Execution
     execution = first_execution executions
 
+    -- the programmer after it
     abbrev on_time : P
     on_time = after_execution execution (m.after bytes p) p m.reset
 
@@ -94,6 +96,7 @@ module _ {P : Type 0} (m : Device P) where
         programmer = search (rules, arrives);
       }
 
+    -- by what is read for the command
     command_read_as : (o : Option (Reading × Tape)) → answer n tape ≡ o
         → ((reading : Reading) (left : Tape) → RepliesAreAuthentic m (go_on reading) (next n) left on_time
         (later_executions executions) → ReadAs m (go_on reading) (next n) left on_time (later_executions executions)
@@ -202,6 +205,7 @@ module _ {P : Type 0} (m : Device P) where
   good_later got (first ∷ later) p =
       search (rules, good_later first later (m.reset (after_frames m (frames got) p)), good_only)
 
+  -- so the bytes that it received leave it as the sent frames do
   pub through_after : (got : List ℕ) (later : List (List ℕ)) (sent : List (List ℕ)) (executions : List Execution)
       (p : P) → ReceivedSentFrames got later sent executions → after_received_bytes m got later p
       ≡ after_sent_frames m sent executions p

@@ -32,6 +32,7 @@ xor_cancel a b x e = back a ∙ (ap (λ n. bit_xor n x) e ∙ sym (back b))
     back : (c : ℕ) → c ≡ bit_xor (bit_xor c x) x
     back c = sym (xor_assoc c x x ∙ (ap (bit_xor c) (xor_self x) ∙ xor_zero_r c))
 
+-- the same on the other side
 xor_cancel_left : (a x y : ℕ) → bit_xor a x ≡ bit_xor a y → x ≡ y
 xor_cancel_left a x y e = xor_cancel x y a (xor_comm x a ∙ (e ∙ xor_comm a y))
 
@@ -136,12 +137,14 @@ good_arrived (piece ∷ sent) (false ∷ through) got whole good (inr (came, mor
     good_arrived sent through more (All-tail IsPiece piece sent whole) (All-tail IsGood piece sent good) later
     ∙ ap without_restart (sym (ap (filter is_good) (came_by came more got bad.0 e) ∙ bad_dropped came (cut more) bad.1))
 
+-- so what arrived are the sent frames, by which of them passed
 pub arrived_came : (sent : List (List ℕ)) (passed : List Bool) (got : List ℕ) → All IsPiece sent → All IsGood sent
     → Arrived sent passed got → ReceivedSentFrames got [] sent (executions_by_arrival passed)
 arrived_came sent passed got whole good came = record { good = good_arrived sent passed got whole good came }
 
 -- ---- what the host receives: whose each piece is
 
+-- a frame, or nothing
 abbrev IsReply : List ℕ → Type 0
 IsReply reply = (reply ≡ []) ⊎ ((n : ℕ) × (body : List ℕ) × IsFrameBody body × (reply ≡ frame n body))
 
@@ -219,6 +222,7 @@ window_rest : (n : ℕ) (piece : List ℕ) (pieces : List (List ℕ)) (most : �
     → Window n (piece ∷ pieces) most → Window n pieces (most - length piece)
 window_rest n piece pieces most other le = grind (arith, length-append, cond-false)
 
+-- the first bytes of a piece and of what follows
 take_front : (piece bytes : List ℕ) (most : ℕ) → length piece ≤ most
     → take most (piece ++ bytes) ≡ piece ++ take (most - length piece) bytes
 take_front piece bytes most le =

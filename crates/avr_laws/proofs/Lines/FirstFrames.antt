@@ -32,18 +32,23 @@ module _ {P : Type 0} (m : Device P) where
   module _ {E R : Type 0} (bytes : List ℕ) (go_on : Reading → Dialog E R) (n : ℕ) (tape : Tape) (p : P)
       (executions : List Execution) (before : List (List ℕ)) (k : ℕ) (valid : IsFrameBody bytes)
       (past : Past n 1 before) where
+    -- what happened to the programmer at this frame
     abbrev execution : Execution
     execution = first_execution executions
 
+    -- the programmer after it
     abbrev on_time : P
     on_time = after_execution execution (m.after bytes p) p m.reset
 
+    -- the replies so far, the last one first
     abbrev replies : List (List ℕ)
     replies = frame_of_reply m n bytes p execution ∷ before
 
+    -- the frames that are sent later
     abbrev rest : Option (Reading × Tape) → List (List ℕ)
     rest o = frames_in (continue_with_reading (λ reading. played (go_on reading) (next n)) o).events
 
+    -- the programmer executes the frame's body
     executed : after_frame m (frame n bytes) p ≡ m.after bytes p
     executed = search (rules, cond-true, frame_is_good, body_of_frame)
 

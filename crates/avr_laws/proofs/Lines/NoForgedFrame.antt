@@ -44,10 +44,12 @@ not_past (suc c) n k (reply ∷ before) piece some few past good is (inr among) 
 abbrev Taken : ℕ → List (List ℕ) → List ℕ → Type 0
 Taken n sent body = (piece : List ℕ) × (is_reply n piece ≡ true) × (body_of piece ≡ body) × IsNotForged sent piece
 
+-- the body that was found
 abbrev body_in : Option (List ℕ × ℕ) → List ℕ
 body_in None = []
 body_in (Some (body, used)) = body
 
+-- the body that was read
 abbrev body_read : Option (Reading × Tape) → List ℕ
 body_read (Some (Replied body, left)) = body
 body_read other = []
@@ -80,6 +82,7 @@ found_by_reading : (o : Option (List ℕ × ℕ)) (bytes : List ℕ) (tape left 
 found_by_reading (Some (b, used)) bytes tape left body e = (used, ap (λ x. Some (x, used)) (ap body_read e))
 found_by_reading None bytes tape left body e = search (rules, cases_Bool, cond-true, never_replied, cond-false)
 
+-- so it is for an answer that was read
 found_in_bytes : (n : ℕ) (tape left : Tape) (body : List ℕ) → answer n tape ≡ Some (Replied body, left)
     → (used : ℕ) × (first_reply n (cut (take reply_byte_limit (leading_bytes tape))) ≡ Some (body, used))
 unfolding answer

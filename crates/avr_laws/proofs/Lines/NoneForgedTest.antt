@@ -73,6 +73,7 @@ not_forged_by_test sent piece is good =
     by_good true e is = is
     by_good false e is = cc
 
+-- up to the awaited reply none is forged
 none_forged_yet : (n : ℕ) (sent pieces : List (List ℕ)) → are_not_forged n sent pieces ≡ true
     → AreNotForged n sent pieces
 none_forged_yet n sent [] is = tt
@@ -91,6 +92,7 @@ on_true : (Test : Reading → Tape → Bool) (Claim : Reading → Tape → Type 
     → on_reading_or_true Test came ≡ true → on_reading Claim came
 on_true Test Claim came each is = search rules
 
+-- so a run whose test is true has no forged frame
 pub by_test : {P : Type 0} (m : Device P) (pieces : List (List ℕ)) (tape : Tape) (p : P) (executions : List Execution)
     (before : List (List ℕ)) → no_frame_forged m pieces tape p executions before ≡ true
     → NoneForged m pieces tape p executions before

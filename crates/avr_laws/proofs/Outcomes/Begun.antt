@@ -62,12 +62,15 @@ module _ (d : Dialog OutputEvent ℕ) (bodies : SendsValidBodies d) (tape : Tape
   abbrev count : ℕ
   count = length (frames bytes)
 
+  -- the bytes hold the first frames that the dialog sends
   more_frames : (others : List (List ℕ)) × (all ≡ frames bytes ++ others)
   more_frames = frames_prefix (played d 1 tape).events bytes prefix.0 (sends_whole d 1 tape bodies) prefix.1
 
+  -- they are at most all frames
   within : count ≤ length all
   within = let whole = ap length more_frames.1 in omega (arith, whole, length-append (frames bytes) more_frames.0)
 
+  -- so they are its first frames
   first_frames : take count all ≡ frames bytes
   first_frames = search (rules, more_frames, take-append-le, take_all)
 
@@ -177,6 +180,7 @@ module _ (Begun : Plan → Transcript → Type 0)
     by_outcome (Refused line) is = inl (none_sent (Refused line) is refl)
     by_outcome NotReadToEnd is = inl (none_sent NotReadToEnd is refl)
 
+    -- so it is for each whole run
     pub run_begun : Claim
     run_begun = by_outcome (planned s r.openings).stage_outcome refl
 
@@ -234,6 +238,7 @@ module _ (Begun : Plan → Transcript → Type 0)
   at_port peers text (Network address) s old new status names silent (runs, same) = search (rules, none, same, over_net)
   at_port peers text (Served port file) s old new status names silent acts = absurd names
 
+  -- a service passes nothing over standard streams
   served : (peers : Peers) (port file : Bytes) (s : Settings) (old new : Devices) (status : ℕ)
       → old.link.transcript ≡ [] → ActsAtPort peers (Served port file) s old new status → new.link.transcript ≡ []
   served peers port file s old new status silent (serves, same) = none old new same silent

@@ -44,9 +44,11 @@ module _ (part : Part) (m : Memories) (later : List Action) where
     write dry off = if dry then SkipAction (SkippedWrite mem image) ∷ []
         else WriteImage mem image ∷ (if off then [] else CompareImage mem image ∷ [])
 
+    -- the memories after a write
     abbrev after_write : Bool → Memories
     after_write dry = if dry then m else effect part (Write mem image) m
 
+    -- unless the write is dry or unverified, the image is there
     abbrev IsThere : Bool → Bool → Type 0
     IsThere dry off = dry ≡ false → off ≡ false → HoldsImage image (memory_in part mem (after_write dry))
 
@@ -70,6 +72,7 @@ module _ (part : Part) (m : Memories) (later : List Action) where
   erase dry asked due =
       if dry then (if asked then SkipAction SkippedErase ∷ [] else []) else if due then EraseChip ∷ [] else []
 
+  -- the memories after an erase
   abbrev after_erase : Bool → Bool → Memories
   after_erase dry due = if not dry && due then effect part Erase m else m
 

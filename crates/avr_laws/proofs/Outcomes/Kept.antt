@@ -132,9 +132,11 @@ module _ (s : Settings) (plan : Plan) (x y : Devices) (r : IsRun s x y 0)
     abbrev its_plan : Plan
     its_plan = on_part part plan
 
+    -- its tasks fit the chip's own part
     its_tasks : All (IsFitted part) plan.tasks
     its_tasks = tasks_fit plan part fits (plan_fitted s r.openings plan made_is)
 
+    -- so its session sends valid bodies
     pub its_bodies : SendsValidBodies (session its_plan)
     its_bodies = session_asks its_plan sound its_tasks
 
@@ -191,6 +193,7 @@ module _ (s : Settings) (plan : Plan) (x y : Devices) (r : IsRun s x y 0)
             ∙ (ap frames (sym (sent_is s x y r plan made_is silent))
             ∙ (ap (λ (d : Dialog OutputEvent ℕ). frames (bytes_sent (run d).events)) (session_is plan) ∙ sent_first.1))
 
+        -- so none of the handshake's frames is forged
         first_forged : ForgesNoFrame real.device handshake 1 tape p executions []
         first_forged = none_of handshake sent_first.0 first_are
 

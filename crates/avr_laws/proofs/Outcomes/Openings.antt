@@ -37,13 +37,16 @@ opening_none : (quiet : ℕ) (part : Part) (outcome : Result Bytes HostFault)
     → NoneOpened (opening_output quiet part outcome)
 opening_none quiet part outcome = search (rules, openings_joined)
 
+-- nor does the line of a count
 bytes_none : (quiet : ℕ) (mem : Mem) (count : ℕ) (done : Bytes) → NoneOpened (bytes_output quiet mem count done)
 bytes_none quiet mem count done = search rules
 
+-- nor does the save of a memory
 read_none : (s : Switches) (mem : Mem) (format : Format) (file bytes : Bytes)
     → NoneOpened (read_output s mem format file bytes)
 read_none s mem format file bytes = search (rules, bytes_none)
 
+-- nor does what a dry run leaves out
 skipped_none : (quiet : ℕ) (what : SkippedByDryRun) → NoneOpened (skipped_output quiet what)
 skipped_none quiet what = search (rules, bytes_none)
 
@@ -108,10 +111,12 @@ module _ (part : Part) (s : Switches) where
   action_none : (action : Action) → OpensNone (action_dialog part s action)
   action_none action = search (rules, reported_none, opening_none, bytes_none, read_none, emits_none, skipped_none)
 
+  -- so do all actions
   actions_none : (all : List Action) → OpensNone (actions_dialog part s all)
   actions_none [] = tt
   actions_none (action ∷ all) = search (rules, bind_none, unless_none, action_none, actions_none all)
 
+  -- so does the end of a session
   ending_none : (before : Standing) → OpensNone (ending part s before)
   ending_none before = search (rules, reported_none, bind_none)
 
@@ -120,6 +125,7 @@ session_none : (plan : Plan) → OpensNone (session plan)
 unfolding session
 session_none plan = search (rules, bind_none, actions_none, ending_none)
 
+-- so a session opens no file
 pub session_opens_none : (plan : Plan) (seq : ℕ) (tape : Tape)
     → openings_in (outputs (played (session plan) seq tape).events) ≡ []
 session_opens_none plan seq tape = played_none (session plan) seq tape (session_none plan)

@@ -35,9 +35,11 @@ kept_on_plan plan part before after old now same kept = search rules
 
 -- ---- output of printed lines alone
 
+-- no output
 none_printed : SameButLines [] []
 none_printed = record { is = refl }
 
+-- a printed line
 line_printed : (bytes : Bytes) → SameButLines (PrintsLine bytes ∷ []) []
 line_printed bytes = record { is = refl }
 
@@ -135,6 +137,7 @@ module _ (part : Part) (id signature : Bytes) where
 -- ---- the whole session, and the tasks, on a part of the same geometry
 
 module _ (plan : Plan) (part : Part) (fits : HasGeometryOf plan.part part) where
+  -- a session on the other part differs in printed lines alone
   pub session_alike : (plan.switches.force ≡ false → part.signature ≡ plan.part.signature)
       → AreAlike (session plan) (session (on_part part plan))
   unfolding session
@@ -147,5 +150,6 @@ module _ (plan : Plan) (part : Part) (fits : HasGeometryOf plan.part part) where
       (ending_alike plan.part part.id part.signature plan.switches accepted))
       (λ standing. alike (Done (status_of standing))))
 
+  -- tasks that fit the plan's part fit this one
   pub tasks_fit : All (IsFitted plan.part) plan.tasks → All (IsFitted part) plan.tasks
   tasks_fit fitted = search (rules, fits_other)

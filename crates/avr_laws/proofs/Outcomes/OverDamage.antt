@@ -64,6 +64,7 @@ sends_good (Ask bytes go_on) n t sound = All-cons IsGood _ _ (frame_is_good n by
 
 -- if a link forges no frame for a session, it forges none for its handshake
 module _ {P : Type 0} (m : Device P) (plan : Plan) where
+  -- by what is read for the first command
   handshake_forges_none : (d : Dialog ⊥ StepOutcome) (n : ℕ) (tape : Tape) (p : P) (executions : List Execution)
       (before : List (List ℕ)) → ForgesNoFrame m (from_handshake plan d) n tape p executions before
       → ForgesNoFrame m d n tape p executions before
@@ -104,6 +105,7 @@ module _ (s : Settings) (plan : Plan) (x y : Devices) (r : IsRun s x y 0)
       (subst (λ (d : Dialog OutputEvent ℕ). ForgesNoFrame device d 1 (tape s x y r) p executions []) (session_is plan)
       forges_none))
 
+  -- it sends valid bodies
   bodies : SendsValidBodies its
   bodies = its_bodies s plan x y r made_is silent p.chip.part sound.part fits
 
@@ -111,6 +113,7 @@ module _ (s : Settings) (plan : Plan) (x y : Devices) (r : IsRun s x y 0)
   these : frames (sent y.link.transcript) ≡ frames_in (played its 1 (tape s x y r)).events
   these = frames_alike s plan x y r made_is silent (on_part p.chip.part plan) are bodies
 
+  -- the plan's own session sends the same frames
   own : frames_in (played (session plan) 1 (tape s x y r)).events ++ [] ≡ frames (sent y.link.transcript)
   own = search (rules, append-nil, tape, same_frames, are, these)
 

@@ -55,6 +55,7 @@ succeeds_by r seq left Claim go_on o each is = search rules
 cut_frame : (f bytes : List ℕ) → IsWhole f → frames (f ++ bytes) ≡ f ∷ frames bytes
 cut_frame f bytes whole = search (rules, cut_first, cond-true)
 
+-- a frame is whole and good
 frame_is_whole : (n : ℕ) (body : List ℕ) → IsFrameBody body → IsWhole (frame n body)
 frame_is_whole n body valid = search (rules, frame_is_piece, and_parts, frame_is_good)
 

@@ -76,6 +76,7 @@ module _ (s : Settings) (old new : Devices) (r : IsRun s old new 0) where
         ≡ record { events = r.events; outcome = Some (0, r.next, left_over) }
     over_plan = search (rules, over)
 
+    -- so the session ended with status 0
     pub played_is : played (session plan) 1 tape ≡ record { events = done; outcome = Some (0, r.next, left_over) }
     played_is = ap (λ (p : Played OutputEvent ℕ). record { events = done; outcome = p.outcome }) over_plan
 
@@ -173,6 +174,7 @@ module _ (s : Settings) (old new : Devices) (r : IsRun s old new 0) where
             (outputs_after real.device count (session other) p exchanges) 0
         expected_there = search (rules, session_succeeds, ended.0)
 
+        -- so the plan is kept
         pub promise_for : Keeps other m0 (real.memories q) old.desk.kept new.desk.kept
         promise_for = record {
           made = made_by_tasks other m0 (real.memories q) done_there;

@@ -23,6 +23,7 @@ use Rattle.avr_laws.proofs.AnyWire.{came_to, untouched}
 use Rattle.avr_tool.specs.Headline.{run, IsRun}
 use Rattle.avr_laws.specs.Worked.{worked_settings, worked_replies, worked_frames, worked_lines}
 
+-- equal options have equal values
 some_is : {A : Type 0} (a b : A) → ◌≡◌ {A = Option A} (Some a) (Some b) → a ≡ b
 some_is a b e = cc
 
@@ -78,14 +79,17 @@ module _ (transcript : Transcript) (a b : ℕ) (d e : DeskState) (status : ℕ) 
       ≡ record { events = x.events; outcome = Some (status, x.next, on_tape x.left ++ []) }) (ap heard passed ∙ all)
       (x.is [] [])
 
+  -- its status is 0
   pub worked_status : status ≡ 0
   worked_status = ap (λ z. z.0) (some_is (status, x.next, on_tape x.left ++ []) (0, 7, [])
       (sym (ap (λ p. p.outcome) played_over) ∙ status_due (x.openings ++ [])))
 
+  -- it sent the worked frames
   pub worked_sent : sent transcript ≡ worked_frames
   worked_sent = ap sent (sym passed) ∙ (sym x.all_sent
       ∙ (sym (ap (λ p. bytes_sent p.events) played_over) ∙ sent_due (x.openings ++ [])))
 
+  -- it printed the worked lines
   worked_emitted : outputs x.events ≡ worked_lines
   worked_emitted = sym (ap (λ p. outputs p.events) played_over) ∙ emitted_due (x.openings ++ [])
 

@@ -66,6 +66,7 @@ both_write a b fs gs first second = record {
 line_writes : (bytes : Bytes) → WritesFiles (PrintsLine bytes ∷ []) []
 line_writes bytes = record { created = λ r. sym (append-nil (all_files r)); output = λ r. sym (append-nil r.output) }
 
+-- a line that a test leaves out
 if_line : (b : Bool) (bytes : Bytes) → WritesFiles (if b then [] else PrintsLine bytes ∷ []) []
 if_line b bytes = search (rules, none_written, line_writes)
 
@@ -151,9 +152,11 @@ reading_writes (event ∷ output_events) reads = absurd reads
 
 -- ---- the actions of the expected run
 
+-- an informing line
 informing_writes : (quiet : ℕ) (pieces : List Bytes) → WritesFiles (informs quiet pieces) []
 informing_writes quiet pieces = if_line _ _
 
+-- a warning
 warning_writes : (quiet : ℕ) (pieces : List Bytes) → WritesFiles (warns quiet pieces) []
 warning_writes quiet pieces = if_line _ _
 

@@ -58,6 +58,7 @@ srec_same : (size : AddressSize) (rs : List (ℕ × List ℕ)) → srec_rows siz
 srec_same size [] = refl
 srec_same size ((addr, bytes) ∷ more) = search rules
 
+-- by two tests of the last address
 width_if : (two three : Bool) → width_of (if two then Two else if three then Three else Four)
     ≡ (if two then 2 else if three then 3 else 4)
 width_if two three = search rules
@@ -66,6 +67,7 @@ width_if two three = search rules
 width_same : (last_address : ℕ) → width_of (address_size last_address) ≡ address_width last_address
 width_same last_address = width_if (nat_lt last_address 65536) (nat_lt last_address 16777216)
 
+-- so the text of a saved file is the defined one
 pub text_is_saved : (kind : Format) (bytes : List ℕ) → file_text kind bytes ≡ saved_text kind bytes
 unfolding file_text saved_text
 text_is_saved kind bytes = search (rules, ihex_of_bytes, ihex_same, srec_of_bytes, srec_same, width_same)

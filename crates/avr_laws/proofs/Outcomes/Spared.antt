@@ -44,6 +44,7 @@ module _ (plan : Plan) (part : Part) (sound : IsPart part) (real : Real part) (u
   abbrev judged : StepOutcome → Result Bytes HostFault
   judged outcome = checked_by (signature_checked plan.part.signature plan.switches.force) outcome
 
+  -- a handshake over this chip gives its signature, which is refused
   taken : (o : StepOutcome) (q : real.P) → AfterBeginning real m o q
       → (standing (judged o) ≡ NoFault → ⊥) × HasMemories real m q
   taken (Ok found) q a = (
@@ -55,6 +56,7 @@ module _ (plan : Plan) (part : Part) (sound : IsPart part) (real : Real part) (u
   )
   taken (Err fault) q i = (no_host_fault plan fault, i)
 
+  -- so opening the session ends in a fault
   began : (q : real.P) → HasMemories real m q → Keeps real.device (HasMemories real m)
       (λ (r : Result Bytes HostFault) q. (standing r ≡ NoFault → ⊥) × HasMemories real m q)
       (handshake >>= λ outcome. Done (judged outcome)) q

@@ -47,6 +47,7 @@ module _ (plan : Plan) (part : Part) (sound : IsPart part) (fits : HasGeometryOf
     (keeping : has_erase (items plan) ≡ true → erase_keeps_eeprom part before ≡ true
     → ItemsKeepEeprom part (items plan)) (old now : Record) (there : KeepsOnPart part plan left after old now)
     (begun : HasFirstOperations (on_part part plan) before left) where
+  -- the second run repaired what the first one left
   as_one : AsOne plan part before after
   as_one = (
     done_again (on_part part plan) before left after sound (tasks_fit plan part fits fitted) sizes keeping begun
@@ -123,6 +124,7 @@ module _ (plan : Plan) (first second : Transcript) (old now : Record) (p q : Pro
         (alike_forges_none device (session plan) (session its_plan) 1 (heard first) p executions [] are_alike none)
         (subst (IsBytePrefixOf (sent first)) (same_bytes are_alike 1 (heard first)) prefix)
 
+    -- so both left what one run leaves
     pub emulated_as_one : AsOne plan p.chip.part (memories_of p.chip) after
     emulated_as_one = as_one plan p.chip.part sound.part fits fitted (memories_of p.chip) (memories_of q.chip) after
         (its_sizes its_plan p sound refl its_tasks) keeping old now there

@@ -34,11 +34,13 @@ Image = List (Option ℕ)
 
 -- ---- what a stage made, an earlier one made on the way
 
+-- the first stage produced a value, and what goes on from it produced this one
 abbrev Earlier : {A B : Type 0} → Stage A → (A → Stage B) → List Opening → B → Type 0
 Earlier {A} stage go_on openings b =
     (a : A) × (((stage openings).stage_outcome ≡ Produced a) × ((go_on a (stage openings).openings_left).stage_outcome
     ≡ Produced b))
 
+-- so it is for a stage that produced a value
 earlier : {A B : Type 0} (stage : Stage A) (go_on : A → Stage B) (openings : List Opening) (b : B)
     → ((stage >>= go_on) openings).stage_outcome ≡ Produced b → Earlier stage go_on openings b
 earlier stage go_on openings b made = search rules
@@ -133,6 +135,7 @@ module _ (switches : Switches) (part : Part) where
             ∷ []) fitted (all_one (IsFitted part) first.0 (update_fits u u.op openings first.0 first.1.0))) first.1.1,
       )
 
+-- so all tasks of a plan fit its part
 pub plan_fitted : (s : Settings) (openings : List Opening) (plan : Plan)
     → (planned s openings).stage_outcome ≡ Produced plan → All (IsFitted plan.part) plan.tasks
 plan_fitted s openings plan is = search (rules, tasks_fit, earlier)

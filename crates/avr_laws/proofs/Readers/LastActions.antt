@@ -90,6 +90,7 @@ module _ {part : Part} (sound : IsPart part) (real : Real part) (IsIn : real.P �
   abbrev Goes : {R : Type 0} → (R → Spot real.P → Type 0) → Dialog OutputEvent R → Spot real.P → Type 0
   Goes After d z = Prints m Anything (λ emitted y. ⊤) (λ r emitted y. After r y) d z
 
+  -- each dialog leaves the programmer in these states
   stays_in : {R : Type 0} (d : Dialog OutputEvent R) (z : Spot real.P) → IsIn z.0
       → PrintsFrom m Anything (λ emitted y. ⊤) (λ r emitted y. IsIn y.0) d z
   stays_in (Done r) z i = i

@@ -114,9 +114,11 @@ module _ (s : Settings) (x y : Devices) (r : IsRun s x y 0) (plan : Plan)
   abbrev count : ℕ
   count = length (frames_in events)
 
+  -- the plan fits its part
   fitted : All (IsFitted plan.part) plan.tasks
   fitted = plan_fitted s r.openings plan made_is
 
+  -- so its session sends valid bodies
   bodies : SendsValidBodies (session plan)
   bodies = session_asks plan sound fitted
 

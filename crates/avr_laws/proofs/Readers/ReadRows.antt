@@ -26,6 +26,7 @@ key_in [] = 0
 key_in (first ∷ []) = key_of first
 key_in (first ∷ second ∷ more) = key_of second
 
+-- the key of each memory
 abbrev key : Mem → ℕ
 key Flash = 0x14
 key Eeprom = 0x16
@@ -36,6 +37,7 @@ key Lock = 0x1A
 key Signature = 0x1B
 key Calibration = 0x1C
 
+-- the memory of a key
 abbrev memory_by : ℕ → Option Mem
 memory_by n = if n == 0x14 then Some Flash else if n == 0x16 then Some Eeprom else if n == 0x005018 then Some Lfuse
     else if n == 0x085818 then Some Hfuse
@@ -65,6 +67,7 @@ module _ (Reads : Mem → Type 0) (part : Part) (x : Memories) (mem : Mem) (read
   reads_it : (m : Mem) → Some mem ≡ Some m → Reads m
   reads_it m is = subst Reads (same_memory mem m is) reads
 
+  -- so this row may be read
   pub is_read : (is : IsRow part row) → ReadsOneOf Reads part row is x
   is_read is = search (rules, reads_it, row_memory, no_memory)
 
@@ -98,6 +101,7 @@ module _ (Reads : Mem → Type 0) (part : Part) where
     all_work mem reads steps others (memories_after_step part commands x),
   )
 
+  -- so the steps that read this memory may be sent
   pub reading_works : (mem : Mem) → Reads mem → (x : Memories)
       → StepsWork part (ReadsOneOf Reads part) (read_steps part mem) x
   reading_works mem reads x = all_work mem reads (read_steps part mem) (step_keys mem) x

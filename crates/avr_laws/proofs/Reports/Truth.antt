@@ -88,6 +88,7 @@ module _ (plan : Plan) (sound : IsPart plan.part) (real : Real plan.part) (m0 : 
 
   -- ---- the opening
 
+  -- what opening a session reports
   opening_true : (quiet : ℕ) (q : real.P) → AllTrue Holds (opening_output quiet plan.part (Ok plan.part.signature)) q
   opening_true quiet q = search (rules, both_true, informs_hold, bytes_same)
 

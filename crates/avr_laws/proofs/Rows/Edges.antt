@@ -75,6 +75,7 @@ pub longest_file : (text : Bytes) → length text ≡ 4194304
     → HasImage (λ name given opened. given ≡ text) (codes "image") Raw 4194304 (from_zero text 4194304) []
 longest_file text is = (text, refl, omega (arith, is), (omega (arith, is), refl))
 
+-- a file of one byte more
 pub longer_file : (text : Bytes) (size : ℕ) (image : List (Option ℕ)) → length text ≡ 4194305
     → HasImage (λ name given opened. given ≡ text) (codes "image") Raw size image [] → ⊥
 longer_file text size image is has = search rules
@@ -84,6 +85,7 @@ longer_file text size image is has = search rules
 abbrev plan : Plan
 plan = record { part = m328p; tasks = []; switches = worked_settings.switches }
 
+-- a file of another part's size
 pub another_part : (name : Bytes) (old new : Record) → IsKeptInFile name (Some old_file) plan old new → ⊥
 another_part name old new kept =
     let found = chip_in_file m328p (Some old_file) kept.before kept.was in
@@ -94,6 +96,7 @@ another_part name old new kept =
 abbrev dry_plan : Plan
 dry_plan = record { part = m328; tasks = []; switches = record worked_settings.switches { dry = true } }
 
+-- so nothing is kept
 pub dry_not_forced : (before after : Memories) (old now : Record)
     → KeepsOnPart m328p dry_plan before after old now → ⊥
 dry_not_forced before after old now kept = search rules

@@ -45,9 +45,11 @@ worked_forges_none = by_test device (frames worked_frames) worked_replies progra
 abbrev pub idle : List Execution
 idle = Executed ∷ Executed ∷ Executed ∷ Executed ∷ ThenRestarted Executed ∷ Executed ∷ []
 
+-- all its frames were received, the last one after the restart
 pub idle_came : ReceivedSentFrames (take 61 worked_frames) (drop 61 worked_frames ∷ []) (frames worked_frames) idle
 idle_came = record { good = refl }
 
+-- each reply is the programmer's own
 pub idle_forges_none : NoneForged device (frames worked_frames) worked_replies programmer idle []
 unfolding answer
 idle_forges_none = by_test device (frames worked_frames) worked_replies programmer idle [] refl

@@ -38,14 +38,17 @@ pub forced_run_succeeds : (played (session (plan true)) 1 worked_replies).outcom
 unfolding session opening handshake operation closing play attempts_or_fault attempt exchange answer
 forced_run_succeeds = refl
 
+-- it sends the frames of the worked run
 pub its_frames : bytes_sent (played (session (plan true)) 1 worked_replies).events ≡ worked_frames
 unfolding session opening handshake operation closing play attempts_or_fault attempt exchange answer
 its_frames = refl
 
+-- without -F
 pub unforced_run_fails : (played (session (plan false)) 1 worked_replies).outcome ≡ Some (1, 7, [])
 unfolding session opening handshake operation closing play attempts_or_fault attempt exchange answer
 unforced_run_fails = refl
 
+-- the chip has the geometry of the plan's part
 pub chip_fits : HasGeometryOf m328 m328p
 chip_fits = refl
 
@@ -78,10 +81,12 @@ abbrev come : List Arrival
 come = FrameArrives damaged ∷ FrameArrives first ∷ FrameArrives second ∷ FrameArrives third ∷ FrameArrives fourth
     ∷ FrameArrives fifth ∷ FrameArrives sixth ∷ []
 
+-- over this link the run ends with status 0
 pub damaged_run_succeeds : (played (session (plan true)) 1 (tape_of_arrivals come)).outcome ≡ Some (0, 7, [])
 unfolding session opening handshake operation closing play attempts_or_fault attempt exchange answer
 damaged_run_succeeds = refl
 
+-- it sends the same frames
 pub damaged_run_sends : bytes_sent (played (session (plan true)) 1 (tape_of_arrivals come)).events ≡ worked_frames
 unfolding session opening handshake operation closing play attempts_or_fault attempt exchange answer
 damaged_run_sends = refl
@@ -106,6 +111,7 @@ damaged_run_arrived =
 none_skipped : {A : Type 0} → true ≡ false → A
 none_skipped skipped = absurd (true≢false skipped)
 
+-- each reply arrives, whole or damaged in one byte
 pub damaged_run_brings_replies : BringsReplies device (session (plan true)) 1 come programmer
     (executions_by_arrival all_whole) []
 unfolding session opening handshake operation closing play attempts_or_fault attempt exchange answer

@@ -33,21 +33,26 @@ use Rattle.avr_desk.proofs.Stages.Breaks.{Begins, begins_then, begins_file, unop
 limits : (LARGEST_IMAGE_FILE ≡ 4194304) × (LARGEST_PART_FILE ≡ 65536)
 limits = (refl, refl)
 
+-- the file of the plan's update
 abbrev file : Bytes
 file = codes "x.hex"
 
 abbrev other : Bytes
 other = codes "y.hex"
 
+-- half of its line
 abbrev half : Bytes
 half = take 30 (not_opened_line file)
 
+-- an update by this file
 abbrev of_file : Update
 of_file = record { memory = Flash; op = op.Write; format = Ihex; file = file }
 
+-- an update by a value
 abbrev of_values : Update
 of_values = record { memory = Eeprom; op = op.Write; format = Immediate; file = codes "1" }
 
+-- the settings
 abbrev wanted : Settings
 wanted = record {
   part = codes "m328p";
@@ -65,6 +70,7 @@ task = file_image_stage no_switches file Ihex 32768 >>= λ image. result_stage (
 abbrev tasks : Stage (List Task)
 tasks = task >>= λ first. result_stage (Ok (first ∷ []))
 
+-- planning begins by opening the file
 opening : Begins file (planned wanted)
 opening =
     begins_then file tasks (λ all. result_stage (Ok (record { part = m328p; tasks = all; switches = no_switches })))
@@ -147,6 +153,7 @@ module _ (r : Record) (k l m n status : ℕ) where
   second_line : Ends (not_opened_line file ++ memory_line) → ⊥
   second_line ends = search (rules, notice_by)
 
+  -- half a line, though the desk took all
   half_a_line : l ≡ k + 1 → l < 2 ^ 64 - 1 → Ends half → ⊥
   half_a_line one few ends = search (rules, notice_by)
 
@@ -155,6 +162,7 @@ module _ (r : Record) (k l m n status : ℕ) where
       → ReportedAs []
   reported_silence ends = search (rules, notice_by)
 
+  -- no message, though no failure was counted
   silence : NoFailureCounted k l → RunsStage (AtAllocatingUpdate wanted) (planned wanted) (showing r k m)
       (showing r l n) (Err status) → ⊥
   silence sound ends = search (rules, reported_silence)
@@ -196,6 +204,7 @@ module _ (r : Record) (k l m n status : ℕ) where
       m n → ⊥
   refused_twice x0 = search rules
 
+  -- so two faults are never reported
   two_faults : RunsStage (AtAllocatingUpdate lacking) (planned lacking) (showing r k m)
       (showing (after_err (refusal ++ memory_line) r) l n) (Err status) → ⊥
   two_faults ends = refused_twice (search (rules, refused_once))

@@ -77,7 +77,7 @@ module _ (part : Part) where
   -- so one that isn't locked at the end never was
   begins_open : (items : List Item) (m : Memories) → has_erase items ≡ false
       → are_locked (effects part items m) ≡ false → are_locked m ≡ false
-  begins_open items m w open = search (rules, ends_locked)
+  begins_open items m w unlocked = search (rules, ends_locked)
 
   -- ---- writes alone, in one memory
 

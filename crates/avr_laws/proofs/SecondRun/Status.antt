@@ -18,13 +18,13 @@ use Rattle.avr_tool.proofs.Memories.ExpectedAgrees.{expected_status, expected_me
 use Rattle.avr_tool.proofs.OverFaultyLink.FirstSteps.{effects_sizes}
 
 -- a chip filled with one byte fits its part
-chip_fits : (part : Part) (byte : ℕ) → byte < 256 → FitsPart part (chip_filled_with part byte)
-chip_fits part byte l = grind (arith, common_steps, length-replicate)
+filled_fits : (part : Part) (byte : ℕ) → byte < 256 → FitsPart part (chip_filled_with part byte)
+filled_fits part byte l = grind (arith, common_steps, length-replicate)
 
 -- a plan that agrees on every chip agrees on the two
 pub two_of_all : (plan : Plan) → ((m : Memories) → FitsPart plan.part m → ComparisonsAgree plan m)
     → AgreesOnTwoChips plan
-two_of_all plan all = search (rules, chip_fits)
+two_of_all plan all = search (rules, filled_fits)
 
 -- a second run over any first write operations has the outcome of one run
 pub run_repairs : (plan : Plan) (k : ℕ) (m : Memories) → IsPart plan.part → All (IsFitted plan.part) plan.tasks

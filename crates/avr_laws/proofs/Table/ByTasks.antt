@@ -218,9 +218,11 @@ module _ (becomes : Mem → ℕ → ℕ) (part : Part) where
     vouched = λ x such. by_code command n is (λ e. omega (arith, e, more)) other (λ e. omega (arith, e, less)) x;
   }
 
+  -- a read of a fuse
   fuse_read : (f : Fuse) → Calm Any (read_fuse f ∷ [])
   fuse_read f = calmly 0x18 (omega arith) (omega arith) (λ e. omega (arith, e)) (read_fuse f) refl (λ y. refl)
 
+  -- a read of a byte of the signature
   signature_read : (i : ℕ) → Calm Any (read_signature i ∷ [])
   signature_read i = calmly 0x1B (omega arith) (omega arith) (λ e. omega (arith, e)) (read_signature i) refl (λ y. refl)
 

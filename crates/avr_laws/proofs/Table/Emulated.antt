@@ -28,6 +28,7 @@ has_memories part p i = record {
   eeprom_buffer = i.eeprom_buffer;
 }
 
+-- a programmer with empty buffers is settled
 settled : (part : Part) (p : Programmer) → HasEmptyBuffers part p → Settled part (memories_of p.chip) p
 settled part p s = record {
   memories = refl;
@@ -38,12 +39,14 @@ settled part p s = record {
 }
 
 module _ (part : Part) (sound : IsPart part) where
+  -- so it has these memories
   in_from : (x : Memories) (p : Programmer) → HasMemories part x p → Stands chip_memories (HasPart part) x p
   in_from x p s = record {
     memories = s.memories;
     is = record { part_is = s.part_is; flash_buffer = s.flash_buffer; eeprom_buffer = s.eeprom_buffer };
   }
 
+  -- and in programming mode
   ready_from : (x : Memories) (p : Programmer) → Settled part x p → Stands chip_memories (HasEmptyBuffers part) x p
   ready_from x p s = record {
     memories = s.memories;
@@ -99,9 +102,11 @@ module _ (part : Part) (sound : IsPart part) where
     fits : IsRepeatable device commands (Settled part x) (Settled part after)
     fits = step_fits part sound commands x step
 
+    -- after all commands the programmer is at the row's end
     ends_there : after_commands device (length commands) commands p ≡ end
     ends_there = search (rules, at_last)
 
+    -- so the row is done
     done_from : Settled part after end → Stands chip_memories (HasEmptyBuffers part) (effects part r.row.writes x) end
     done_from t = ready_from (effects part r.row.writes x) end (subst (λ y. Settled part y end) (sym (r.writes x)) t)
 
@@ -180,6 +185,7 @@ module _ (part : Part) (sound : IsPart part) where
   entered_settled : (p : Programmer) → HasPart part p → HasEmptyBuffers part (device.after enter_body p)
   entered_settled p i = search (rules, ready_from, ready_settled, enter_does, has_memories)
 
+  -- with empty buffers it has its part, too
   ready_has_part : (p : Programmer) → HasEmptyBuffers part p → HasPart part p
   ready_has_part p s = (in_from (memories_of p.chip) p (settled_idle part (memories_of p.chip) p (settled part p s))).is
 

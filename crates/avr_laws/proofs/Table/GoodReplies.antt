@@ -18,9 +18,11 @@ last_byte_apart zero (b ∷ []) is = refl
 last_byte_apart zero (b ∷ c ∷ more) is = absurd (omega (arith, is))
 last_byte_apart (suc n) (b ∷ more) is = ap (λ (xs : List ℕ). b ∷ xs) (last_byte_apart n more (omega (arith, is)))
 
+-- equal verdicts have equal data
 equal_ok : (a b : List ℕ) → ◌≡◌ {A = Verdict} (Ok a) (Ok b) → a ≡ b
 equal_ok a b is = cc
 
+-- a refusal isn't OK
 err_is_not_ok : (f : FrameFault) (d : List ℕ) → ◌≡◌ {A = Verdict} (Err f) (Ok d) → ⊥
 err_is_not_ok f d is = cc
 
@@ -29,11 +31,13 @@ three_tests : (a b c : Bool) (f g h : FrameFault) (x : Verdict) (d : List ℕ)
     → cond a (Err f) (cond b (Err g) (cond c (Err h) x)) ≡ Ok d → (b ≡ false) × ((c ≡ false) × (x ≡ Ok d))
 three_tests a b c f g h x d is = search (rules, err_is_not_ok)
 
+-- a verdict that passed two tests
 two_tests : (a b : Bool) (f g : FrameFault) (x d : List ℕ)
     → ◌≡◌ {A = Verdict} (cond a (cond b (Ok x) (Err f)) (Err g)) (Ok d)
     → (a ≡ true) × ((b ≡ true) × (x ≡ d))
 two_tests a b f g x d is = search (rules, equal_ok, err_is_not_ok)
 
+-- a verdict that passed one test
 one_test : (a : Bool) (g : FrameFault) (x d : List ℕ) → ◌≡◌ {A = Verdict} (cond a (Ok x) (Err g)) (Ok d)
     → (a ≡ true) × (x ≡ d)
 one_test a g x d is = search (rules, equal_ok, err_is_not_ok)

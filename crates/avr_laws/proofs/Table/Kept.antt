@@ -23,6 +23,7 @@ use Rattle.avr_laws.proofs.Outcomes.Promise.{keeps_plan, made}
 
 module _ {P : Type 0} (part : Part) (m : Device P) (view : P → Memories) (IsIn IsReady : P → Type 0)
     (becomes : Mem → ℕ → ℕ) where
+  -- so the plan is kept at any programmer
   pub kept_by_any : (s : Settings) (plan : Plan) (old new : Devices) (r : IsRun s old new 0)
       → (planned s r.openings).stage_outcome ≡ Produced plan → old.link.transcript ≡ []
       → IsKeptByAny part m view IsIn IsReady becomes plan new.link.transcript old.desk.kept new.desk.kept

@@ -72,6 +72,7 @@ module _ {P : Type 0} (m : Device P) where
         agains : (p : P) (i : ℕ) → After p → After (after_commands m i (c ∷ []) p)
         agains p i a = search (rules, executed_none)
 
+        -- a step of one command may be repeated
         pub one_repeats : IsRepeatable m (c ∷ []) Before After
         one_repeats = record {
           prefix = λ p i b replied. prefix p i b;
@@ -100,17 +101,20 @@ module _ {P : Type 0} (m : Device P) where
       abbrev end : P → P
       end p = m.after (body c) (m.after (body (LoadAddress a)) p)
 
+      -- after some of two commands the step isn't done, or is
       two_prefix : (p : P) (i : ℕ) → Before p → AreReplied m i pair p → Before (after_commands m i pair p)
           ⊎ After (after_commands m i pair p)
       two_prefix p zero b replied = inl b
       two_prefix p (suc zero) b replied = inl (load p b)
       two_prefix p (suc (suc i)) b replied = search (rules, executed_none, loaded_by)
 
+      -- after it is done, some of them change nothing
       two_again : (p : P) (i : ℕ) → After p → AreReplied m i pair p → After (after_commands m i pair p)
       two_again p zero x replied = x
       two_again p (suc zero) x replied = load_after p x
       two_again p (suc (suc i)) x replied = search (rules, executed_none, loaded_by)
 
+      -- so a step of two commands may be repeated
       pub two_repeats : IsRepeatable m pair Before After
       two_repeats = record {
         prefix = two_prefix;
@@ -151,6 +155,7 @@ module _ {P : Type 0} (part : Part) (sound : IsPart part) (m : Device P) (view :
   abbrev pub Ready : Memories → P → Type 0
   Ready x p = Stands view IsReady x p
 
+  -- of equal memories
   over_equal_memories : (Is : P → Type 0) (x y : Memories) (q : P) → x ≡ y → Stands view Is x q → Stands view Is y q
   over_equal_memories Is x y q same stands = record { memories = stands.memories ∙ same; is = stands.is }
 
@@ -205,9 +210,11 @@ module _ {P : Type 0} (part : Part) (sound : IsPart part) (m : Device P) (view :
     abbrev pub after : Memories
     after = memories_after_step part commands x
 
+    -- the row is vouched for before the step
     now : IsVouched x
     now = (w r.row r.is_row r.sent_as).0
 
+    -- and after it
     then : IsVouched after
     then = (w r.row r.is_row r.sent_as).1
 
@@ -222,9 +229,11 @@ module _ {P : Type 0} (part : Part) (sound : IsPart part) (m : Device P) (view :
     abbrev done : P → P
     done p = m.after (body r.command) (at p)
 
+    -- the row's command is the step's last one
     same_done : (p : P) → m.after r.row.command (at p) ≡ done p
     same_done p = ap (λ (bytes : List ℕ). m.after bytes (at p)) (sym r.body_is)
 
+    -- the memories after the step fit the part
     sizes_after : FitsPart part after
     sizes_after = changed_sizes part commands x sound sizes
 
@@ -346,6 +355,7 @@ module _ {P : Type 0} (part : Part) (sound : IsPart part) (m : Device P) (view :
         let j = joined_judged m r.row.address r.command commands bytes p r.is_sent has in
         (good_at after sizes_after then p bytes j.0 j.1 s).0 ∙ given_same part sound commands x step
 
+  -- so the programmer does what the proofs use
   unfoldable pub real_of : Real part
   real_of = record {
     P = P;

@@ -49,6 +49,7 @@ closed_empty c is reply d judged =
     let t = closed_reply c 0 is reply d judged in
     (t.0 ∙ ap (λ (more : List ℕ). code c ∷ 0 ∷ (more ++ (0 ∷ []))) (no_bytes d t.1), t.1)
 
+-- a reply without data
 no_data : (d : List ℕ) → length d ≡ 0 → ◌≡◌ {A = Verdict} (Ok []) (Ok d)
 no_data d e = ap Ok (sym (no_bytes d e))
 
@@ -72,6 +73,7 @@ abbrev pub Fits32 : Option ℕ → Type 0
 Fits32 None = Unit {0}
 Fits32 (Some address) = address < 2 ^ 32
 
+-- the row of these commands
 pub record RowFor (part : Part) (commands : List Command) : Type 0 where
   pub command : Command
   pub row : Row
@@ -114,16 +116,19 @@ module _ (part : Part) (sound : IsPart part) where
     back = back;
   }
 
+  -- what a write of a fuse does
   fuse_writes : (f : Fuse) (v : ℕ) (x : Memories)
       → effects part (Write (fuse_memory f) (Some v ∷ []) ∷ []) x ≡ memories_after_step part (program_fuse f v ∷ []) x
   fuse_writes Low v x = refl
   fuse_writes High v x = refl
   fuse_writes Extended v x = refl
 
+  -- an erase
   for_erase : RowFor part (erase ∷ [])
   for_erase = built erase _ (ErasesChip refl) refl refl tt refl (λ x. refl) (λ x. refl) (effect_twice part Erase)
       (bare_reply erase refl) no_data
 
+  -- a page of flash
   for_page : (page : ℕ) (bytes : List ℕ) → IsPage part page bytes
       → RowFor part (load_flash part (page * part.flash_page) ∷ program_page bytes ∷ [])
   for_page page bytes is_page =
@@ -137,6 +142,7 @@ module _ (part : Part) (sound : IsPart part) where
       (effect_twice part (Write Flash (image_at (page * part.flash_page) bytes))) (bare_reply (program_page bytes) refl)
       no_data
 
+  -- a run of EEPROM
   for_run : (start : ℕ) (bytes : List ℕ) → FitsEepromPage part start bytes
       → RowFor part (load_eeprom start ∷ program_eeprom_block bytes ∷ [])
   for_run start bytes is_run =
@@ -146,14 +152,17 @@ module _ (part : Part) (sound : IsPart part) where
       refl refl (omega (arith, most, inside)) refl (λ x. refl) (λ x. refl)
       (effect_twice part (Write Eeprom (image_at start bytes))) (bare_reply (program_eeprom_block bytes) refl) no_data
 
+  -- a fuse
   for_fuse : (f : Fuse) (v : ℕ) → RowFor part (program_fuse f v ∷ [])
   for_fuse f v = built (program_fuse f v) _ (WritesFuse f v refl) refl refl tt refl (fuse_writes f v) (λ x. refl)
       (effect_twice part (Write (fuse_memory f) (Some v ∷ []))) (closed_empty (program_fuse f v) refl) no_data
 
+  -- the lock
   for_lock : (v : ℕ) → RowFor part (program_lock v ∷ [])
   for_lock v = built (program_lock v) _ (WritesLock v refl) refl refl tt refl (λ x. refl) (λ x. refl)
       (effect_twice part (Write Lock (Some v ∷ []))) (closed_empty (program_lock v) refl) no_data
 
+  -- reading flash
   for_flash_read : (start count : ℕ) → IsBlock part Flash start count → AreWords start count
       → RowFor part (load_flash part start ∷ read_flash_block count ∷ [])
   for_flash_read start count is_block words =
@@ -167,6 +176,7 @@ module _ (part : Part) (sound : IsPart part) where
       (λ x. ap (λ (at : ℕ). take count (drop at x.flash)) (sym there)) (λ x. refl)
       (closed_reply (read_flash_block count) count refl) (closed_from count)
 
+  -- reading EEPROM
   for_eeprom_read : (start count : ℕ) → IsBlock part Eeprom start count
       → RowFor part (load_eeprom start ∷ read_eeprom_block count ∷ [])
   for_eeprom_read start count is_block =
@@ -176,18 +186,22 @@ module _ (part : Part) (sound : IsPart part) where
       refl (omega (arith, most, inside)) refl (λ x. refl) (λ x. refl) (λ x. refl)
       (closed_reply (read_eeprom_block count) count refl) (closed_from count)
 
+  -- reading a fuse
   for_fuse_read : (f : Fuse) → RowFor part (read_fuse f ∷ [])
   for_fuse_read f = built (read_fuse f) _ (ReadsFuse f refl) refl refl tt refl (λ x. refl) (λ x. (search rules))
       (λ x. refl) (closed_reply (read_fuse f) 1 refl) (closed_from 1)
 
+  -- reading the lock
   for_lock_read : RowFor part (read_lock ∷ [])
   for_lock_read = built read_lock _ (ReadsLock refl) refl refl tt refl (λ x. refl) (λ x. refl) (λ x. refl)
       (closed_reply read_lock 1 refl) (closed_from 1)
 
+  -- reading a byte of the signature
   for_signature : (place : ℕ) → place < 3 → RowFor part (read_signature place ∷ [])
   for_signature place few = built (read_signature place) _ (ReadsSignature place few refl) refl refl tt refl (λ x. refl)
       (λ x. refl) (λ x. refl) (closed_reply (read_signature place) 1 refl) (closed_from 1)
 
+  -- reading the calibration
   for_calibration : RowFor part (read_calibration ∷ [])
   for_calibration = built read_calibration _ (ReadsCalibration refl) refl refl tt refl (λ x. refl) (λ x. refl)
       (λ x. refl) (closed_reply read_calibration 1 refl) (closed_from 1)
