@@ -25,7 +25,7 @@ use Rattle.avr_laws.proofs.FewBad.Sessions.{few_session_ends}
 use Rattle.avr_laws.proofs.Reports.OverTape.{ByExchanges, reported_any}
 use Rattle.avr_laws.proofs.Reports.Truth.{emulated_reports}
 use Rattle.avr_laws.proofs.Reports.UpToFault.{expected_end, expected_on_tape}
-use Rattle.avr_laws.proofs.SecondRun.Status.{succeeds}
+use Rattle.avr_laws.proofs.SecondRun.Status.{repair_succeeds}
 
 module _ (plan : Plan) (begun : Programmer) (is_sound : IsSoundChip begun.chip) (part_is : begun.chip.part ≡ plan.part)
     (fitted : All (IsFitted plan.part) plan.tasks) where
@@ -74,5 +74,5 @@ module _ (plan : Plan) (begun : Programmer) (is_sound : IsSoundChip begun.chip) 
         emitted = subst (λ x. EndsAsExpected plan before x status) (sym output_events_are)
             (expected_end plan sound fitted before sizes (length (frames bytes)) status begun exchanges idle comes);
         if_few_bad = its_expected;
-        again = λ few erases both. succeeds plan before status sizes erases both (its_expected few).status_is;
+        again = λ few erases both. repair_succeeds plan before status sizes erases both (its_expected few).status_is;
       }

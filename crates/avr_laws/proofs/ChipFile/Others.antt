@@ -11,15 +11,15 @@ use Rattle.avr_tool.specs.Emulated.{IsSavedIfSent}
 use Rattle.avr_laws.specs.Kept.{named_files}
 
 -- a file of another name changes nothing
-other : (name : Bytes) (f : Writing) (older : Option Bytes) → (f.name ≡ name → ⊥) → or_older name older f ≡ older
-other name f older differs = search rules
+another : (name : Bytes) (f : Writing) (older : Option Bytes) → (f.name ≡ name → ⊥) → or_older name older f ≡ older
+another name f older differs = search rules
 
 -- and standard output is no file
 is_no_file : (name : Bytes) (fs : List Writing) (older : Option Bytes) → is_dash name ≡ true
     → newest name older (named_files fs) ≡ older
 is_no_file name [] older dash = refl
 is_no_file name (f ∷ fs) older dash =
-    search (rules, cases_Bool, is_no_file name fs older dash, is_no_file name fs (or_older name older f) dash, other)
+    search (rules, cases_Bool, is_no_file name fs older dash, is_no_file name fs (or_older name older f) dash, another)
 
 -- what a name means is its newest file, or else what it meant before
 stood_newest : (stock : Stock) (made : List Writing) (name : Bytes) → is_dash name ≡ false
@@ -34,7 +34,7 @@ stood_named stock fs name = search (rules, cases_Bool, is_no_file, stood_newest)
 -- a file of another name doesn't change what this name means
 stood_more : (stock : Stock) (made : List Writing) (f : Writing) (name : Bytes) → (f.name ≡ name → ⊥)
     → content_of_name stock (made ++ f ∷ []) name ≡ content_of_name stock made name
-stood_more stock made f name differs = search (rules, cases_Bool, stood_newest, newest_append, other)
+stood_more stock made f name differs = search (rules, cases_Bool, stood_newest, newest_append, another)
 
 -- ---- a save with status 0
 

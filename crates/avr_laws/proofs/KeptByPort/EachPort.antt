@@ -29,10 +29,10 @@ module _ (Kept : Plan → Transcript → Record → Record → Type 0)
   -- ---- a connection
 
   -- a session over a connection keeps its plan
-  over_link : (s : Settings) (old new : DeskState) (link : LinkState)
+  link_kept : (s : Settings) (old new : DeskState) (link : LinkState)
       → WithPlan s old (λ plan desk. RunsSession plan (devices new_link desk) (devices link new) 0)
       → KeepsPlan s old.kept new.kept [] (λ plan. Kept plan link.transcript old.kept new.kept)
-  over_link s old new link with =
+  link_kept s old new link with =
       elim (session_is_run s with.plan (devices new_link old) with.between (devices link new) 0 with.made
       with.then_is).1 [
         | inl ran ↦ promised s (devices new_link old) (devices link new) 0 (inl ran.0) refl refl
@@ -40,28 +40,28 @@ module _ (Kept : Plan → Transcript → Record → Record → Type 0)
       ]
 
   -- so does a run over the network
-  over_net : (peers : Peers) (s : Settings) (address : Bytes) (old new : DeskState)
+  net_kept : (peers : Peers) (s : Settings) (address : Bytes) (old new : DeskState)
       → RunsOverNet peers.unused (peers.at_address address) s address old new 0
       → (link : LinkState) × peers.at_address address (Some link)
       × KeepsPlan s old.kept new.kept [] (λ plan. Kept plan link.transcript old.kept new.kept)
-  over_net peers s address old new (inl (link, over, with)) = (link, over, over_link s old new link with)
-  over_net peers s address old new (inr (inl (over, with, one))) = absurd (zero_is_not_one one)
-  over_net peers s address old new (inr (inr (lacks, unused))) = absurd (zero_is_not_one lacks.goes.0)
+  net_kept peers s address old new (inl (link, over, with)) = (link, over, link_kept s old new link with)
+  net_kept peers s address old new (inr (inl (over, with, one))) = absurd (zero_is_not_one one)
+  net_kept peers s address old new (inr (inr (lacks, unused))) = absurd (zero_is_not_one lacks.goes.0)
 
   -- ---- the emulator
 
   -- a run over the emulator keeps its plan for the chip of its file
-  over_emulator : (s : Settings) (file : Bytes) (old new : DeskState) → RunsEmulator s file old new 0
+  emulator_kept : (s : Settings) (file : Bytes) (old new : DeskState) → RunsEmulator s file old new 0
       → (found : Option Bytes) × KeepsPlan s old.kept new.kept (read_whole file found ∷ [])
       (λ plan. IsKeptInFile file found plan old.kept new.kept)
-  over_emulator s file old new (inl r) = file_kept s file old new r
-  over_emulator s file old new (inr (inl with)) = elim with.then_is [
+  emulator_kept s file old new (inl r) = file_kept s file old new r
+  emulator_kept s file old new (inr (inl with)) = elim with.then_is [
     | inl (own, one, told) ↦ absurd (zero_is_not_one one)
     | inr (apart, inl (inl unheld)) ↦ absurd (zero_is_not_one unheld.0)
     | inr (apart, inl (inr vain)) ↦ absurd (zero_is_not_one vain.refused.0)
     | inr (apart, inr then) ↦ absurd (zero_is_not_one then.refused.0)
   ]
-  over_emulator s file old new (inr (inr lacks)) = absurd (zero_is_not_one lacks.goes.0)
+  emulator_kept s file old new (inr (inr lacks)) = absurd (zero_is_not_one lacks.goes.0)
 
   -- ---- each port
 
@@ -70,15 +70,15 @@ module _ (Kept : Plan → Transcript → Record → Record → Type 0)
   none_passed old new silent same = ap (λ (link : LinkState). link.transcript) same ∙ silent
 
   -- each port but a service's
-  at_port : (peers : Peers) (text : Bytes) (port : Port) (s : Settings) (old new : Devices) → NamesPort text port
+  port_kept : (peers : Peers) (text : Bytes) (port : Port) (s : Settings) (old new : Devices) → NamesPort text port
       → old.link.transcript ≡ [] → ActsAtPort peers port s old new 0
       → KeepsPlanAt Kept peers.at_address port s new.link.transcript old.desk.kept new.desk.kept
-  at_port peers text Stdio s old new names silent acts = promised s old new 0 acts.0 refl silent
-  at_port peers text (Emulated file) s old new names silent acts =
-      (none_passed old new silent acts.1, over_emulator s file old.desk new.desk acts.0)
-  at_port peers text (Network address) s old new names silent acts =
-      (none_passed old new silent acts.1, over_net peers s address old.desk new.desk acts.0)
-  at_port peers text (Served port file) s old new names silent acts = absurd names
+  port_kept peers text Stdio s old new names silent acts = promised s old new 0 acts.0 refl silent
+  port_kept peers text (Emulated file) s old new names silent acts =
+      (none_passed old new silent acts.1, emulator_kept s file old.desk new.desk acts.0)
+  port_kept peers text (Network address) s old new names silent acts =
+      (none_passed old new silent acts.1, net_kept peers s address old.desk new.desk acts.0)
+  port_kept peers text (Served port file) s old new names silent acts = absurd names
 
   -- a service passes nothing over standard streams
   served : (peers : Peers) (port file : Bytes) (s : Settings) (old new : Devices) → old.link.transcript ≡ []
@@ -103,7 +103,7 @@ module _ (Kept : Plan → Transcript → Record → Record → Type 0)
             serves,
             served peers port file s old new silent (subst (λ (p : Port). ActsAtPort peers p s old new 0) is acts),
           )
-          | inr asks ↦ inr (s, asks, at_port peers asks.port.0 s.port s old new asks.port.2 silent acts)
+          | inr asks ↦ inr (s, asks, port_kept peers asks.port.0 s.port s old new asks.port.2 silent acts)
         ],
   )
   words_kept line peers old new status (inl (words, are, inl (inr refuses))) zero silent =

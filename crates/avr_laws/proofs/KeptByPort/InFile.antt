@@ -77,8 +77,8 @@ saved_with_zero (byte ∷ out) old new file bytes ran some (inl saved) = saved.0
 saved_with_zero (byte ∷ out) old new file bytes ran some (inr failed) = absurd (zero_is_not_one failed.2)
 
 module _ (settings : Settings) (file : Bytes) (old new : DeskState) (r : RunsOverEmulator settings file old new 0) where
-  abbrev left : Chip
-  left = r.after.wire.programmer.chip
+  abbrev left_chip : Chip
+  left_chip = r.after.wire.programmer.chip
 
   abbrev before : Memories
   before = memories_of r.chip
@@ -93,17 +93,17 @@ module _ (settings : Settings) (file : Bytes) (old new : DeskState) (r : RunsOve
   zero = search rules
 
   -- the session came to its end
-  came : EndsOverExchanges r.plan before (memories_of left) (exchanges_of_fates []) emitted r.session_status
+  came : EndsOverExchanges r.plan before (memories_of left_chip) (exchanges_of_fates []) emitted r.session_status
       × ChangesRecord (after_events emitted) r.loaded_desk r.played_desk
   came = came_to r.plan (new_wire r.chip []) r.after r.loaded_desk r.played_desk r.session_status r.session zero
 
   -- so it is the expected run
-  expected : IsExpectedRun r.plan before (memories_of left) emitted r.session_status
+  expected : IsExpectedRun r.plan before (memories_of left_chip) emitted r.session_status
   expected = came.0.success zero
 
   -- its chip's file replaced the old one
-  replaced : ChangesRecord (with_replaced file (chip_file left)) r.played_desk new
-  replaced = saved_with_zero (sent r.after.transcript) r.played_desk new file (chip_file left) r.session_status
+  replaced : ChangesRecord (with_replaced file (chip_file left_chip)) r.played_desk new
+  replaced = saved_with_zero (sent r.after.transcript) r.played_desk new file (chip_file left_chip) r.session_status
       (no_silence r.plan r.chip r.after r.loaded_desk r.played_desk r.session_status r.runs) r.saved
 
   -- ---- the opening of the chip file
@@ -133,7 +133,7 @@ module _ (settings : Settings) (file : Bytes) (old new : DeskState) (r : RunsOve
   opened : all_openings new.kept ≡ all_openings old.kept ++ (plan_files ++ read_whole file opening_read.0 ∷ [])
   opened =
       ap all_openings replaced
-      ∙ (openings_replaced file (chip_file left) r.played_desk.kept
+      ∙ (openings_replaced file (chip_file left_chip) r.played_desk.kept
       ∙ (ap all_openings came.1
       ∙ (openings_shown emitted r.loaded_desk.kept
       ∙ (ap (λ (os : List Opening). all_openings r.loaded_desk.kept ++ os) session_opens_no_file
@@ -184,11 +184,11 @@ module _ (settings : Settings) (file : Bytes) (old new : DeskState) (r : RunsOve
       went_asked settings r.plan old r.planned_desk r.made,
       record {
         before = before;
-        after = memories_of left;
+        after = memories_of left_chip;
         ended = r.played_desk.kept;
         was = memories_in_file r.plan.part opening_read.0 r.chip opening_read.1.1;
         keeps = record {
-          made = made_by_tasks r.plan before (memories_of left) (came.0.done zero);
+          made = made_by_tasks r.plan before (memories_of left_chip) (came.0.done zero);
           agrees = tasks_agree r.plan before (came.0.done zero).agrees;
           images = came.0.images zero;
           saved = saved;

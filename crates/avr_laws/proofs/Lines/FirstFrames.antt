@@ -45,8 +45,8 @@ module _ {P : Type 0} (m : Device P) where
     replies = frame_of_reply m n bytes p execution ∷ before
 
     -- the frames that are sent later
-    abbrev rest : Option (Reading × Tape) → List (List ℕ)
-    rest o = frames_in (continue_with_reading (λ reading. played (go_on reading) (next n)) o).events
+    abbrev later_frames : Option (Reading × Tape) → List (List ℕ)
+    later_frames o = frames_in (continue_with_reading (λ reading. played (go_on reading) (next n)) o).events
 
     -- the programmer executes the frame's body
     executed : after_frame m (frame n bytes) p ≡ m.after bytes p
@@ -56,15 +56,15 @@ module _ {P : Type 0} (m : Device P) where
     arrives = ap (λ (q : P). after_execution execution q p m.reset) (sym executed)
 
     -- by what is read for the first command
-    by_answer : (o : Option (Reading × Tape)) → answer n tape ≡ o → k ≤ length (rest o)
+    by_answer : (o : Option (Reading × Tape)) → answer n tape ≡ o → k ≤ length (later_frames o)
         → ((reading : Reading) (left : Tape) → k ≤ length (frames_in (played (go_on reading) (next n) left).events)
         → NoneForged m (take k (frames_in (played (go_on reading) (next n) left).events)) left on_time
         (later_executions executions) replies
         → GoesAlong (go_on reading) k (take k (frames_in (played (go_on reading) (next n) left).events)) on_time
         (later_executions executions))
         → on_reading (λ reading left. AreNotForged n replies (cut (take reply_byte_limit (leading_bytes tape)))
-        × NoneForged m (take k (rest o)) left on_time (later_executions executions) replies) o
-        → GoesAlong (Ask bytes go_on) (suc k) (frame n bytes ∷ take k (rest o)) p executions
+        × NoneForged m (take k (later_frames o)) left on_time (later_executions executions) replies) o
+        → GoesAlong (Ask bytes go_on) (suc k) (frame n bytes ∷ take k (later_frames o)) p executions
     by_answer None is few each forged = none k few
       where
         none : (i : ℕ) → i ≤ 0 → GoesAlong (Ask bytes go_on) (suc i) (frame n bytes ∷ take i []) p executions

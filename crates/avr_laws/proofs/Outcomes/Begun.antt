@@ -200,11 +200,11 @@ module _ (Begun : Plan → Transcript → Type 0)
   -- ---- each port
 
   -- over standard streams
-  over_streams : (s : Settings) (x y : Devices) (status : ℕ) → x.link.transcript ≡ []
+  streams_begun : (s : Settings) (x y : Devices) (status : ℕ) → x.link.transcript ≡ []
       → IsRun s x y status ⊎ IsStopped s x y status → (sent y.link.transcript ≡ [])
       ⊎ KeepsPlan s x.desk.kept y.desk.kept [] (λ plan. Begun plan y.link.transcript)
-  over_streams s x y status silent (inl r) = run_begun s x y status r silent
-  over_streams s x y status silent (inr (inl stopped, one)) =
+  streams_begun s x y status silent (inl r) = run_begun s x y status r silent
+  streams_begun s x y status silent (inr (inl stopped, one)) =
       inr (session_begun s x y 1 silent
       (record {
         plan = stopped.plan;
@@ -212,7 +212,7 @@ module _ (Begun : Plan → Transcript → Type 0)
         made = stopped.made;
         then_is = inr (stopped.then_is, refl);
       }))
-  over_streams s x y status silent (inr (inr stopped, one)) = search rules
+  streams_begun s x y status silent (inr (inr stopped, one)) = search rules
 
   -- over the network
   over_net : (peers : Peers) (s : Settings) (address : Bytes) (old new : DeskState) (status : ℕ)
@@ -233,15 +233,15 @@ module _ (Begun : Plan → Transcript → Type 0)
   at_port : (peers : Peers) (text : Bytes) (port : Port) (s : Settings) (old new : Devices) (status : ℕ)
       → NamesPort text port → old.link.transcript ≡ [] → ActsAtPort peers port s old new status
       → BeginsPlanAt Begun peers.at_address peers.unused port s new.link.transcript old.desk.kept new.desk.kept
-  at_port peers text Stdio s old new status names silent (runs, unused) = search (rules, over_streams)
+  at_port peers text Stdio s old new status names silent (runs, unused) = search (rules, streams_begun)
   at_port peers text (Emulated file) s old new status names silent (runs, same, unused) = search (rules, none, same)
   at_port peers text (Network address) s old new status names silent (runs, same) = search (rules, none, same, over_net)
   at_port peers text (Served port file) s old new status names silent acts = absurd names
 
   -- a service passes nothing over standard streams
-  served : (peers : Peers) (port file : Bytes) (s : Settings) (old new : Devices) (status : ℕ)
+  service_passes : (peers : Peers) (port file : Bytes) (s : Settings) (old new : Devices) (status : ℕ)
       → old.link.transcript ≡ [] → ActsAtPort peers (Served port file) s old new status → new.link.transcript ≡ []
-  served peers port file s old new status silent (serves, same) = none old new same silent
+  service_passes peers port file s old new status silent (serves, same) = none old new same silent
 
   -- so it is with the program
   pub words_begun : {C : Type 0} (line : CommandLine C) (peers : Peers) (old new : Devices) (status : ℕ)
@@ -255,7 +255,7 @@ module _ (Begun : Plan → Transcript → Type 0)
         are,
         elim (serves_or_asks words s took.asked) [
           | inl (serves, (port, file, is)) ↦
-              search (rules, served)
+              search (rules, service_passes)
           | inr asks ↦ inr (s, asks, at_port peers asks.port.0 s.port s old new status asks.port.2 silent took.runs)
         ],
       )

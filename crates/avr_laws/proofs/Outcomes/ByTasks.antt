@@ -40,8 +40,8 @@ actions_files part s (action ∷ actions) m =
 module _ (part : Part) (m : Memories) (later : List Action) where
   module _ (mem : Mem) (image : Image) where
     -- the actions of a write, by the switches `-n` and `-V`
-    abbrev write : Bool → Bool → List Action
-    write dry off = if dry then SkipAction (SkippedWrite mem image) ∷ []
+    abbrev write_actions : Bool → Bool → List Action
+    write_actions dry off = if dry then SkipAction (SkippedWrite mem image) ∷ []
         else WriteImage mem image ∷ (if off then [] else CompareImage mem image ∷ [])
 
     -- the memories after a write
@@ -53,23 +53,23 @@ module _ (part : Part) (m : Memories) (later : List Action) where
     IsThere dry off = dry ≡ false → off ≡ false → HoldsImage image (memory_in part mem (after_write dry))
 
     -- comparisons that agree show that the image is there
-    image_there : (dry off : Bool) → EachComparisonAgrees part (write dry off ++ later) m
+    image_there : (dry off : Bool) → EachComparisonAgrees part (write_actions dry off ++ later) m
         → IsThere dry off × EachComparisonAgrees part later (after_write dry)
     image_there dry off agree = search rules
 
     -- and conversely
     agree_with_write : (dry off : Bool) → IsThere dry off → EachComparisonAgrees part later (after_write dry)
-        → EachComparisonAgrees part (write dry off ++ later) m
+        → EachComparisonAgrees part (write_actions dry off ++ later) m
     agree_with_write dry off is rest = search rules
 
     -- a write saves no file
     none_saved : (s : Switches) (dry off : Bool)
-        → actions_files part s (write dry off ++ later) m ≡ actions_files part s later (after_write dry)
+        → actions_files part s (write_actions dry off ++ later) m ≡ actions_files part s later (after_write dry)
     none_saved s dry off = search rules
 
   -- the actions of an erase, by the switches `-n` and `-e`
-  abbrev erase : Bool → Bool → Bool → List Action
-  erase dry asked due =
+  abbrev erase_list : Bool → Bool → Bool → List Action
+  erase_list dry asked due =
       if dry then (if asked then SkipAction SkippedErase ∷ [] else []) else if due then EraseChip ∷ [] else []
 
   -- the memories after an erase
@@ -77,18 +77,18 @@ module _ (part : Part) (m : Memories) (later : List Action) where
   after_erase dry due = if not dry && due then effect part Erase m else m
 
   -- comparisons after an erase
-  agree_after_erase : (dry asked due : Bool) → EachComparisonAgrees part (erase dry asked due ++ later) m
+  agree_after_erase : (dry asked due : Bool) → EachComparisonAgrees part (erase_list dry asked due ++ later) m
       → EachComparisonAgrees part later (after_erase dry due)
   agree_after_erase dry asked due agree = search rules
 
   -- and conversely
   agree_with_erase : (dry asked due : Bool) → EachComparisonAgrees part later (after_erase dry due)
-      → EachComparisonAgrees part (erase dry asked due ++ later) m
+      → EachComparisonAgrees part (erase_list dry asked due ++ later) m
   agree_with_erase dry asked due agree = search rules
 
   -- an erase saves no file
   no_file : (s : Switches) (dry asked due : Bool)
-      → actions_files part s (erase dry asked due ++ later) m ≡ actions_files part s later (after_erase dry due)
+      → actions_files part s (erase_list dry asked due ++ later) m ≡ actions_files part s later (after_erase dry due)
   no_file s dry asked due = search rules
 
 -- ---- by the tasks

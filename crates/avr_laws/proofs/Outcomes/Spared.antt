@@ -45,22 +45,22 @@ module _ (plan : Plan) (part : Part) (sound : IsPart part) (real : Real part) (u
   judged outcome = checked_by (signature_checked plan.part.signature plan.switches.force) outcome
 
   -- a handshake over this chip gives its signature, which is refused
-  taken : (o : StepOutcome) (q : real.P) → AfterBeginning real m o q
+  refused_there : (o : StepOutcome) (q : real.P) → AfterBeginning real m o q
       → (standing (judged o) ≡ NoFault → ⊥) × HasMemories real m q
-  taken (Ok found) q a = (
+  refused_there (Ok found) q a = (
     λ fine.
         let a' = accepted plan (Ok found) fine in
         let same : found ≡ a'.0 = cc a'.1 in
         other (sym a.1 ∙ (same ∙ a'.2 unforced)),
     settled_idle real m q a.0,
   )
-  taken (Err fault) q i = (no_host_fault plan fault, i)
+  refused_there (Err fault) q i = (no_host_fault plan fault, i)
 
   -- so opening the session ends in a fault
   began : (q : real.P) → HasMemories real m q → Keeps real.device (HasMemories real m)
       (λ (r : Result Bytes HostFault) q. (standing r ≡ NoFault → ⊥) × HasMemories real m q)
       (handshake >>= λ outcome. Done (judged outcome)) q
-  began q idle = outcome_mapped judged (beginning_goes part sound real m q f signs idle) taken
+  began q idle = outcome_mapped judged (beginning_goes part sound real m q f signs idle) refused_there
 
   -- opening the session keeps the memories
   opening_spares : (z : Spot real.P) → HasMemories real m z.0 → Prints real.device Anything Kept Refused

@@ -43,15 +43,15 @@ ReadsAction Reads (SkipAction what) = Unit {0}
 ReadsAction Reads action = ⊥
 
 -- actions that write nothing leave the memories
-only_reads : (Reads : Mem → Type 0) (part : Part) (actions : List Action) (x : Memories)
+reads_leave : (Reads : Mem → Type 0) (part : Part) (actions : List Action) (x : Memories)
     → Each (ReadsAction Reads) actions → effects part (actions_items actions) x ≡ x
-only_reads Reads part [] x each = refl
-only_reads Reads part (CompareImage mem image ∷ actions) x each = only_reads Reads part actions x each.1
-only_reads Reads part (SaveMemory mem format file ∷ actions) x each = only_reads Reads part actions x each.1
-only_reads Reads part (SkipAction what ∷ actions) x each = only_reads Reads part actions x each.1
-only_reads Reads part (OpenSession ∷ actions) x each = absurd each.0
-only_reads Reads part (EraseChip ∷ actions) x each = absurd each.0
-only_reads Reads part (WriteImage mem image ∷ actions) x each = absurd each.0
+reads_leave Reads part [] x each = refl
+reads_leave Reads part (CompareImage mem image ∷ actions) x each = reads_leave Reads part actions x each.1
+reads_leave Reads part (SaveMemory mem format file ∷ actions) x each = reads_leave Reads part actions x each.1
+reads_leave Reads part (SkipAction what ∷ actions) x each = reads_leave Reads part actions x each.1
+reads_leave Reads part (OpenSession ∷ actions) x each = absurd each.0
+reads_leave Reads part (EraseChip ∷ actions) x each = absurd each.0
+reads_leave Reads part (WriteImage mem image ∷ actions) x each = absurd each.0
 
 -- status 0 means no fault
 succeeded : (at : Standing) → status_of at ≡ 0 → at ≡ NoFault
@@ -125,7 +125,7 @@ module _ {part : Part} (sound : IsPart part) (real : Real part) (IsIn : real.P �
             let agreement = agrees_for_actions part s rest x in
             let no_fault = own.stands ∙ fine in
             let has = real.has _ y.0 (real.idle _ y.0 own.left) in
-            subst RestAgrees (sym (has ∙ (agreement.memories no_fault ∙ only_reads Reads part rest x reads)))
+            subst RestAgrees (sym (has ∙ (agreement.memories no_fault ∙ reads_leave Reads part rest x reads)))
             (agreement.if_fine no_fault),
       )
       rest_found x at emitted y (rests, inr broken) = (t.is_in _ y.0 rests.stands, λ fine. absurd (broken.faulty fine))
@@ -159,8 +159,8 @@ module _ {part : Part} (sound : IsPart part) (real : Real part) (IsIn : real.P �
       AtEnd at y = at ≡ NoFault → Claim (real.memories y.0)
 
       -- leaving programming mode keeps the memories
-      ends : (at : Standing) (y : Spot real.P) → Then Claim at y → Goes AtEnd (ending part s at) y
-      ends NoFault y (i, claim) = prints_reported m Anything (closing_output s.quiet part)
+      ending_goes : (at : Standing) (y : Spot real.P) → Then Claim at y → Goes AtEnd (ending part s at) y
+      ending_goes NoFault y (i, claim) = prints_reported m Anything (closing_output s.quiet part)
           (on_link m (closing_goes m (λ q. HasMemories real (real.memories y.0) q) (real.leaves (real.memories y.0)) y.0
           (real.idle (real.memories y.0) y.0 (t.settled y.0 i))))
           (λ z now. tt)
@@ -168,13 +168,13 @@ module _ {part : Part} (sound : IsPart part) (real : Real part) (IsIn : real.P �
             any_outputs (closing_output s.quiet part r) z.0,
             λ fine. subst Claim (sym (real.has (real.memories y.0) z.0 x.0)) (claim refl),
           ))
-      ends Faulty y (i, claim) = prints_then m Anything (λ emitted z now. now)
+      ending_goes Faulty y (i, claim) = prints_then m Anything (λ emitted z now. now)
           (record { holds = stays_in (reported closing (λ r. [])) y i }) over
         where
           over : (closed : Standing) (emitted : List OutputEvent) (z : Spot real.P) → IsIn z.0
               → Goes AtEnd (Done Over) z
           over closed emitted z i = record { holds = λ fine. over_fine fine }
-      ends Over y (i, claim) = record { holds = λ fine. over_fine fine }
+      ending_goes Over y (i, claim) = record { holds = λ fine. over_fine fine }
 
 -- ---- a whole session
 
@@ -197,7 +197,7 @@ module _ (plan : Plan) (sound : IsPart plan.part) (real : Real plan.part) (IsIn 
       (actions_dialog plan.part s (OpenSession ∷ all)) z) (sym are)
       (after_others sound real IsIn Reads t s Agrees (OpenSession ∷ done) rest
       (rest_goes sound real IsIn Reads t s rest fits reads) z i))
-      (λ at emitted y held. ends sound real IsIn Reads t s Agrees at y held)
+      (λ at emitted y held. ending_goes sound real IsIn Reads t s Agrees at y held)
 
   -- and with the session
   session_goes : (z : Spot real.P) → IsIn z.0
@@ -222,11 +222,11 @@ module _ {P : Type 0} (part : Part) (sound : IsPart part) (m : Device P) (view :
   action_works action x reads = grind (arith, reading_works)
 
   -- so it does for all actions
-  all_work : (actions : List Action) (x : Memories) → Each (ReadsAction Reads) actions
+  each_works : (actions : List Action) (x : Memories) → Each (ReadsAction Reads) actions
       → ActionsWorkBy part (ReadsOneOf Reads part) actions x
-  all_work [] x each = tt
-  all_work (action ∷ actions) x (reads, others) =
-      (action_works action x reads, all_work actions (effects part (action_items action) x) others)
+  each_works [] x each = tt
+  each_works (action ∷ actions) x (reads, others) =
+      (action_works action x reads, each_works actions (effects part (action_items action) x) others)
 
 -- so after status 0 the last comparisons agree
 pub session_agrees : {P : Type 0} (plan : Plan) → IsPart plan.part → (m : Device P) (view : P → Memories)
@@ -243,6 +243,6 @@ session_agrees plan sound m view IsIn Reads t done rest are fits reads p i excha
       executed = t.stays;
       restarted = λ q i. (t.keeps.restarts q i).is;
       sizes = t.sizes;
-      works = search (rules, actions_work, all_work);
+      works = search (rules, actions_work, each_works);
     })
     done rest are fits reads p i exchanges k ended

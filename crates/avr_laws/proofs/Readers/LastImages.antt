@@ -53,8 +53,8 @@ module _ (plan : Plan) (Reads : Mem → Type 0) (x : Memories)
   abbrev s : Switches
   s = plan.switches
 
-  abbrev Holds : Mem → Image → Type 0
-  Holds mem image = HoldsImage image (memory_in plan.part mem x)
+  abbrev HoldsThere : Mem → Image → Type 0
+  HoldsThere mem image = HoldsImage image (memory_in plan.part mem x)
 
   -- tasks that only read have actions that only read
   tasks_read : (tasks : List Task) → OnlyRead Reads tasks → Each (ReadsAction Reads) (tasks_actions s tasks)
@@ -67,7 +67,7 @@ module _ (plan : Plan) (Reads : Mem → Type 0) (x : Memories)
   compared : (dry off : Bool) (done : List Action) (mem : Mem) (image : Image) (later : List Action)
       → work plan ≡ done ++ ((if dry then SkipAction (SkippedWrite mem image) ∷ []
       else WriteImage mem image ∷ (if off then [] else CompareImage mem image ∷ [])) ++ later)
-      → dry ≡ false → off ≡ false → Reads mem → Each (ReadsAction Reads) later → Holds mem image
+      → dry ≡ false → off ≡ false → Reads mem → Each (ReadsAction Reads) later → HoldsThere mem image
   compared true off done mem image later are wet on reads others = absurd (cc wet)
   compared false true done mem image later are wet on reads others = absurd (cc on)
   compared false false done mem image later are wet on reads others =

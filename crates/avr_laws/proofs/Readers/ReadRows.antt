@@ -93,15 +93,15 @@ module _ (Reads : Mem → Type 0) (part : Part) where
   step_keys Calibration = search (rules, each_of)
 
   -- they all read it
-  all_work : (mem : Mem) → Reads mem → (steps : List (List Command)) → Each (Has mem) steps → (x : Memories)
+  steps_work_by : (mem : Mem) → Reads mem → (steps : List (List Command)) → Each (Has mem) steps → (x : Memories)
       → StepsWork part (ReadsOneOf Reads part) steps x
-  all_work mem reads [] each x = tt
-  all_work mem reads (commands ∷ steps) (has, others) x = (
+  steps_work_by mem reads [] each x = tt
+  steps_work_by mem reads (commands ∷ steps) (has, others) x = (
     reading_works_by mem commands reads has x,
-    all_work mem reads steps others (memories_after_step part commands x),
+    steps_work_by mem reads steps others (memories_after_step part commands x),
   )
 
   -- so the steps that read this memory may be sent
   pub reading_works : (mem : Mem) → Reads mem → (x : Memories)
       → StepsWork part (ReadsOneOf Reads part) (read_steps part mem) x
-  reading_works mem reads x = all_work mem reads (read_steps part mem) (step_keys mem) x
+  reading_works mem reads x = steps_work_by mem reads (read_steps part mem) (step_keys mem) x

@@ -29,9 +29,9 @@ abbrev zeros : Memories
 zeros = chip_filled_with tiny 0
 
 -- the last bytes of a line, last first
-abbrev ends : OutputEvent → List ℕ
-ends (PrintsLine bytes) = take 10 (reverse bytes)
-ends event = []
+abbrev line_end : OutputEvent → List ℕ
+line_end (PrintsLine bytes) = take 10 (reverse bytes)
+line_end event = []
 
 -- the same lists one after the other, grouped in another way
 regrouped : (m n c d e l : List ℕ) → m ++ ((n ++ (c ++ (d ++ (e ++ [])))) ++ l) ≡ (m ++ (n ++ (c ++ d))) ++ (e ++ l)
@@ -42,7 +42,7 @@ regrouped [] [] [] (x ∷ d) e l = ap (λ t. x ∷ t) (regrouped [] [] [] d e l)
 regrouped [] [] [] [] e l = ap (λ t. t ++ l) (append-nil e)
 
 -- the last bytes of a line that reports written bytes
-written_ends : (mem : Mem) (count : ℕ) → ends (count_line mem count (codes " bytes written"))
+written_ends : (mem : Mem) (count : ℕ) → line_end (count_line mem count (codes " bytes written"))
     ≡ take 10 (reverse (codes " bytes written" ++ 10 ∷ []))
 written_ends mem count = grind (arith, common_steps, reverse-append, take-append-le)
 
@@ -62,9 +62,9 @@ not_begun mem bytes (x ∷ []) later order now = search (rules, second_item, tin
 not_begun mem bytes (x ∷ y ∷ rest) later order now = search (rules, no_third_item)
 
 -- the byte of a line at this place, and whether it is a line
-abbrev byte : ℕ → OutputEvent → ℕ
-byte place (PrintsLine bytes) = slice_index bytes place
-byte place event = 0
+abbrev line_byte : ℕ → OutputEvent → ℕ
+line_byte place (PrintsLine bytes) = slice_index bytes place
+line_byte place event = 0
 
 -- a printed line isn't the save of a file
 not_saved : (line file text : Bytes) → (PrintsLine line ≡ CreatesFile file)

@@ -148,17 +148,17 @@ module _ {P : Type 0} (m : Device P) (view : P → Memories) (IsIn IsReady : P �
   module _ (part : Part) (Vouched : (row : Row) → IsRow part row → Memories → Type 0)
       (t : IsProgrammer part m view IsIn IsReady Vouched) where
     -- a command that keeps the memories does so with any flag
-    kept : (bytes : List ℕ) (p : P) (flag : Bool) → IsIn p → Stands view IsIn (view p) (m.after bytes p)
+    kept_with_flag : (bytes : List ℕ) (p : P) (flag : Bool) → IsIn p → Stands view IsIn (view p) (m.after bytes p)
         → Stands view_of In (view p) (after_of bytes p flag)
-    kept bytes p true is_in stands = record { memories = refl; is = is_in }
-    kept bytes p false is_in stands = record { memories = stands.memories; is = stands.is }
+    kept_with_flag bytes p true is_in stands = record { memories = refl; is = is_in }
+    kept_with_flag bytes p false is_in stands = record { memories = stands.memories; is = stands.is }
 
     -- entering programming mode
-    entered : (p : P) (flag : Bool) → IsIn p → reply_of enter_body p flag ≡ 0x10 ∷ 0 ∷ []
+    entered_with_flag : (p : P) (flag : Bool) → IsIn p → reply_of enter_body p flag ≡ 0x10 ∷ 0 ∷ []
         → Ready (after_of enter_body p flag)
-    entered p true is_in is = absurd
+    entered_with_flag p true is_in is = absurd
         (let no : 0xC0 ≡ 0 = ap (λ (bytes : List ℕ). slice_index bytes 1) is in omega (arith, no))
-    entered p false is_in is = t.entered p is_in is
+    entered_with_flag p false is_in is = t.entered p is_in is
 
     entered_again : (p : P) (flag : Bool) → IsReady p → Ready (after_of enter_body p flag)
     entered_again p true s = s
@@ -167,11 +167,11 @@ module _ {P : Type 0} (m : Device P) (view : P → Memories) (IsIn IsReady : P �
     -- so this programmer keeps the table, too
     pub each_second_keeps : IsProgrammer part each_second view_of In Ready Vouched
     each_second_keeps = record {
-      signs_on = λ z i. kept _ z.0 z.1 i (t.signs_on z.0 i);
-      enters = λ z i. kept _ z.0 z.1 i (t.enters z.0 i);
-      leaves = λ z i. kept _ z.0 z.1 i (t.leaves z.0 i);
+      signs_on = λ z i. kept_with_flag _ z.0 z.1 i (t.signs_on z.0 i);
+      enters = λ z i. kept_with_flag _ z.0 z.1 i (t.enters z.0 i);
+      leaves = λ z i. kept_with_flag _ z.0 z.1 i (t.leaves z.0 i);
       restarts = λ z i. record { memories = (t.restarts z.0 i).memories; is = (t.restarts z.0 i).is };
-      entered = λ z i e. entered z.0 z.1 i e;
+      entered = λ z i e. entered_with_flag z.0 z.1 i e;
       ready_in = λ z s. t.ready_in z.0 s;
       entered_again = λ z s. entered_again z.0 z.1 s;
       restarted = λ z s. t.restarted z.0 s;

@@ -82,11 +82,11 @@ longer_file text size image is has = search rules
 
 -- ---- a chip file of another part
 
-abbrev plan : Plan
-plan = record { part = m328p; tasks = []; switches = worked_settings.switches }
+abbrev empty_plan : Plan
+empty_plan = record { part = m328p; tasks = []; switches = worked_settings.switches }
 
 -- a file of another part's size
-pub another_part : (name : Bytes) (old new : Record) → IsKeptInFile name (Some old_file) plan old new → ⊥
+pub another_part : (name : Bytes) (old new : Record) → IsKeptInFile name (Some old_file) empty_plan old new → ⊥
 another_part name old new kept =
     let found = chip_in_file m328p (Some old_file) kept.before kept.was in
     let size = (from_file m328p (Some old_file) (with_memories m328p kept.before) found).0 in omega (arith, size)

@@ -16,9 +16,9 @@ use Rattle.avr_laws.specs.HeldParts.{IsPartOf}
 pub one_value : HoldsValues (codes "0xE2") 1 (Some 0xE2 ∷ [])
 one_value = (0xE2 ∷ [], refl, refl, omega arith, omega arith, refl)
 
-abbrev first_of : List (Option ℕ) → ℕ
-first_of (Some byte ∷ more) = byte
-first_of image = 0
+abbrev first_held : List (Option ℕ) → ℕ
+first_held (Some byte ∷ more) = byte
+first_held image = 0
 
 -- a value above 255
 pub large_value : (image : List (Option ℕ)) → HoldsValues (codes "256") 1 image → ⊥

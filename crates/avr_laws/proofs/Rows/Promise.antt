@@ -182,9 +182,9 @@ unfolding session opening handshake operation closing play attempts_or_fault att
 its_frames = refl
 
 -- each reply arrived whole
-brings : BringsReplies device (session plan) 1 (arrivals (session plan) 1 programmer) programmer executions []
+brings_each : BringsReplies device (session plan) 1 (arrivals (session plan) 1 programmer) programmer executions []
 unfolding session opening handshake operation closing play attempts_or_fault attempt exchange answer
-brings = search rules
+brings_each = search rules
 
 -- so none is forged
 none_forged : NoneForged device (frames (sent passed)) (heard passed) programmer executions []
@@ -192,7 +192,7 @@ none_forged =
     subst (λ (t : Tape). NoneForged device (frames (sent passed)) t programmer executions []) its_tape
     (subst (λ (fs : List (List ℕ)). NoneForged device fs tape programmer executions []) its_frames
     (its_none_forged device (session plan) 1 tape programmer executions [] (brings_no_frame device reply_fits_frame
-    (session plan) 1 (arrivals (session plan) 1 programmer) programmer executions [] tt brings)))
+    (session plan) 1 (arrivals (session plan) 1 programmer) programmer executions [] tt brings_each)))
 
 -- all at once
 pub premises_hold : IsSoundChip programmer.chip × HasGeometryOf plan.part programmer.chip.part
@@ -206,15 +206,15 @@ abbrev fresh : Memories
 fresh = memories_of (fresh_state m328p)
 
 -- the chip after it
-abbrev left : Chip
-left = (after_sent_frames device (frames (sent passed)) executions programmer).chip
+abbrev left_chip : Chip
+left_chip = (after_sent_frames device (frames (sent passed)) executions programmer).chip
 
 -- its plan was kept on its part
-pub kept_on_part : KeepsOnPart m328p plan fresh (memories_of left) nothing_kept reported.kept
+pub kept_on_part : KeepsOnPart m328p plan fresh (memories_of left_chip) nothing_kept reported.kept
 kept_on_part = run_is_kept programmer executions chip_is_sound refl none_forged
 
 -- so it was kept
-pub plan_kept : Keeps plan fresh (memories_of left) nothing_kept reported.kept
+pub plan_kept : Keeps plan fresh (memories_of left_chip) nothing_kept reported.kept
 plan_kept = kept_on_part.keeps
 
 -- its comparisons agreed
@@ -222,7 +222,7 @@ pub compared : PlanAgrees plan fresh
 compared = plan_kept.agrees
 
 -- its fuse was written
-pub fuse_written : IsWritten m328p (asked_items plan) fresh (memories_of left)
+pub fuse_written : IsWritten m328p (asked_items plan) fresh (memories_of left_chip)
 fuse_written = plan_kept.images refl
 
 -- with another fuse they don't agree
@@ -285,7 +285,7 @@ pub plan_suits : SuitsPlan whole plan fresh
 plan_suits = ((λ written. refl), tt)
 
 -- so it was kept
-pub kept_by_table : KeepsOnPart m328p plan fresh (memories_of left) nothing_kept reported.kept
+pub kept_by_table : KeepsOnPart m328p plan fresh (memories_of left_chip) nothing_kept reported.kept
 kept_by_table =
     run_is_kept_by_any is_part refl rows_kept programmer executions is_in chip_fits_part plan_suits none_forged
 
@@ -356,18 +356,18 @@ short_chip_file m are =
 abbrev file : Bytes
 file = codes "chip"
 
-abbrev loaded : Record
-loaded = with_absent file nothing_kept
+abbrev loaded_desk : Record
+loaded_desk = with_absent file nothing_kept
 
-abbrev saved : Record
-saved = with_replaced file (file_of_memories (memories_of left)) loaded
+abbrev saved_desk : Record
+saved_desk = with_replaced file (file_of_memories (memories_of left_chip)) loaded_desk
 
 -- the chip was saved
-pub chip_saved : IsKeptInFile file None plan nothing_kept saved
+pub chip_saved : IsKeptInFile file None plan nothing_kept saved_desk
 chip_saved = record {
   before = fresh;
-  after = memories_of left;
-  ended = loaded;
+  after = memories_of left_chip;
+  ended = loaded_desk;
   was = no_chip_file;
   keeps = record {
     made = plan_kept.made;
@@ -485,8 +485,8 @@ elsewhere now over =
 
 -- ---- the record of a desk: the chip file was absent, and then made
 
-abbrev system : Ghosts SystemCalls (List ℕ) (List ℕ) (List ℕ)
-system = record {
+abbrev one_file : Ghosts SystemCalls (List ℕ) (List ℕ) (List ℕ)
+one_file = record {
   has_done = λ done now. done ≡ now;
   is_input = λ input. ⊥;
   is_of = λ opened name. ⊥;
@@ -515,11 +515,11 @@ unused = record {
 }
 
 -- it is new
-pub desk_new : IsNewDesk system unused
+pub desk_new : IsNewDesk one_file unused
 desk_new = record { fresh = refl; unheld = λ name found may. may; opened = refl; hold = refl; kept = refl }
 
 -- a desk that holds a file isn't
-pub desk_used : IsNewDesk system (record unused { hold = Some [] }) → ⊥
+pub desk_used : IsNewDesk one_file (record unused { hold = Some [] }) → ⊥
 desk_used desk = let none : ◌≡◌ {A = Option (List ℕ)} (Some []) None = desk.hold in cc
 
 -- the chip file wasn't there
@@ -534,13 +534,13 @@ abbrev uses : Record
 uses = record nothing_kept { uses = absent ∷ made ∷ [] }
 
 -- the record shows each call
-pub record_true : RecordsFiles system reads writes reads
+pub record_true : RecordsFiles one_file reads writes reads
     (record unused { system = calls_of_record uses; kept = uses })
 record_true =
-    search (rules, All-cons (IsTrueUse system reads writes reads), All-nil (IsTrueUse system reads writes reads))
+    search (rules, All-cons (IsTrueUse one_file reads writes reads), All-nil (IsTrueUse one_file reads writes reads))
 
 -- a file that was opened and not recorded
-pub call_unrecorded : RecordsFiles system reads writes reads
+pub call_unrecorded : RecordsFiles one_file reads writes reads
     (record unused { system = record { calls = Opens file ∷ []; holds = 0 } }) → ⊥
 call_unrecorded truly =
     let none : 0 ≡ 1 = ap (λ (done : SystemCalls). length done.calls) truly.has_done in omega (arith, none)
@@ -596,7 +596,7 @@ over_network = (
 )
 
 -- over the emulator
-pub over_emulator : (At : ConnectionState) → KeepsPlanAt Any At (Emulated file) settings [] nothing_kept saved
+pub over_emulator : (At : ConnectionState) → KeepsPlanAt Any At (Emulated file) settings [] nothing_kept saved_desk
 over_emulator At = (refl, (None, (plan, [], refl, plan_asked WasOpened, chip_saved)))
 
 -- a part that nobody knows

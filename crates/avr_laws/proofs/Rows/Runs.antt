@@ -51,46 +51,46 @@ use Rattle.avr_laws.specs.Worked.{worked_settings}
 -- ---- over any link: an erase, and one page of two bytes, 01 02, on a chip of 00
 
 -- a part that a part file can have
-abbrev small : Part
-small = record tiny { id = codes "small" }
+abbrev small_part : Part
+small_part = record tiny { id = codes "small_part" }
 
-is_part : IsPart small
+is_part : IsPart small_part
 is_part = search rules
 
 abbrev flash_plan : Image → Plan
-flash_plan image = record { part = small; tasks = Write Flash image ∷ []; switches = erasing }
+flash_plan image = record { part = small_part; tasks = Write Flash image ∷ []; switches = erasing }
 
 abbrev plan : Plan
 plan = flash_plan (Some 1 ∷ Some 2 ∷ None ∷ None ∷ [])
 
 abbrev old : Memories
-old = chip_filled_with small 0
+old = chip_filled_with small_part 0
 
 -- the memories with these bytes of flash
-abbrev left : List ℕ → Memories
-left flash = record old { flash = flash; lock = 255 }
+abbrev with_flash : List ℕ → Memories
+with_flash flash = record old { flash = flash; lock = 255 }
 
 -- The promise is an equation: with status 0 the chip holds these bytes, and no others.
-pub the_images : effects small (items plan) old ≡ left (1 ∷ 2 ∷ 255 ∷ 255 ∷ [])
+pub the_images : effects small_part (items plan) old ≡ with_flash (1 ∷ 2 ∷ 255 ∷ 255 ∷ [])
 the_images = refl
 
 -- So a run with status 0 leaves them, if its link forges no frame.
 pub only_the_images : (s : Settings) (before now : Devices) (r : IsRun s before now 0)
     → (planned s r.openings).stage_outcome ≡ Produced plan → before.link.transcript ≡ []
     → (p : Programmer) (executions : List Execution) → IsSoundChip p.chip
-    → p.chip.part ≡ small → memories_of p.chip ≡ old
+    → p.chip.part ≡ small_part → memories_of p.chip ≡ old
     → NoneForged device (frames (sent now.link.transcript)) (heard now.link.transcript) p executions []
     → memories_of (after_sent_frames device (frames (sent now.link.transcript)) executions p).chip
-    ≡ left (1 ∷ 2 ∷ 255 ∷ 255 ∷ [])
+    ≡ with_flash (1 ∷ 2 ∷ 255 ∷ 255 ∷ [])
 only_the_images s before now r is silent p executions sound part held none =
     (kept_on_plan plan p.chip.part (memories_of p.chip)
     (memories_of (after_sent_frames device (frames (sent now.link.transcript)) executions p).chip)
     before.desk.kept now.desk.kept part (kept s plan before now r is silent p executions sound
-    (same_geometry small p.chip.part part) none)).made
-    ∙ ap (effects small (asked_items plan)) held
+    (same_geometry small_part p.chip.part part) none)).made
+    ∙ ap (effects small_part (asked_items plan)) held
 
-abbrev Holds : List ℕ → Type 0
-Holds flash = IsWritten small (asked_items plan) old (left flash)
+abbrev Leaves : List ℕ → Type 0
+Leaves flash = IsWritten small_part (asked_items plan) old (with_flash flash)
 
 -- A plan for another size: no settings and files give this plan for four bytes of flash,
 pub another_size : (s : Settings) (openings : List Opening)
@@ -102,21 +102,21 @@ pub another_chip : (chip : Chip) → chip.flash ≡ 1 ∷ 2 ∷ [] → IsSoundCh
 another_chip chip is sound part = search rules
 
 -- The chip from before the erase: old bytes stay where no image has a byte.
-pub before_the_erase : Holds (1 ∷ 2 ∷ 0 ∷ 0 ∷ []) → ⊥
+pub before_the_erase : Leaves (1 ∷ 2 ∷ 0 ∷ 0 ∷ []) → ⊥
 before_the_erase holds = let byte : 0 ≡ 255 = holds.rest_of_flash 2 (omega arith) refl in omega (arith, byte)
 
 -- A programmer that keeps half a page: a part of the page is written, with status 0,
-pub half_a_page : Holds (1 ∷ 255 ∷ 255 ∷ 255 ∷ []) → ⊥
+pub half_a_page : Leaves (1 ∷ 255 ∷ 255 ∷ 255 ∷ []) → ⊥
 half_a_page holds = let byte : 255 ≡ 2 = holds.images Flash 1 2 refl (omega arith) in omega (arith, byte)
 
 -- or what a killed run left in its buffer, here 00, reaches the chip.
 abbrev killed : Programmer
-killed = record (fresh_programmer (record (fresh_state small) { flash_buffer = 0 ∷ 0 ∷ [] })) { mode = true }
+killed = record (fresh_programmer (record (fresh_state small_part) { flash_buffer = 0 ∷ 0 ∷ [] })) { mode = true }
 
 -- the whole page is written, whatever was in the buffer
 pub whole_page : (after_frames device
-    (frames (frame 1 (body (load_flash small 0)) ++ frame 2 (body (program_page (1 ∷ 2 ∷ []))))) killed).chip
-    ≡ record (fresh_state small) { flash = 1 ∷ 2 ∷ 255 ∷ 255 ∷ [] }
+    (frames (frame 1 (body (load_flash small_part 0)) ++ frame 2 (body (program_page (1 ∷ 2 ∷ []))))) killed).chip
+    ≡ record (fresh_state small_part) { flash = 1 ∷ 2 ∷ 255 ∷ 255 ∷ [] }
 whole_page = refl
 
 -- A frame that was sent once and reaches the programmer twice.
@@ -146,11 +146,11 @@ twice executions came =
     search rules
 
 -- Status 0 with a wrong byte, or with a byte missing.
-pub a_wrong_byte : Holds (1 ∷ 3 ∷ 255 ∷ 255 ∷ []) → ⊥
+pub a_wrong_byte : Leaves (1 ∷ 3 ∷ 255 ∷ 255 ∷ []) → ⊥
 a_wrong_byte holds = let byte : 3 ≡ 2 = holds.images Flash 1 2 refl (omega arith) in omega (arith, byte)
 
 -- flash with a byte too few
-pub a_missing_byte : Holds (1 ∷ 2 ∷ 255 ∷ []) → ⊥
+pub a_missing_byte : Leaves (1 ∷ 2 ∷ 255 ∷ []) → ⊥
 a_missing_byte holds = let size : 3 ≡ 4 = holds.flash_size in omega (arith, size)
 
 -- ---- over files: `-p m328p -U lfuse:w:low:r`, with or without -V, and files of one byte each
@@ -198,8 +198,8 @@ pub another_address : HasImage (FileHolds files) (codes "low") Raw 2 (None ∷ S
 another_address has = search rules
 
 -- The promise over files is an equation too: these bytes are in the chip file, and no others.
-abbrev fresh : ℕ → Chip
-fresh byte = record (fresh_state m328p) { lfuse = byte }
+abbrev fresh_with : ℕ → Chip
+fresh_with byte = record (fresh_state m328p) { lfuse = byte }
 
 abbrev file_of : Memories → Bytes
 file_of m = m.flash ++ m.eeprom ++ m.lfuse ∷ m.hfuse ∷ m.efuse ∷ m.lock ∷ []
@@ -220,24 +220,24 @@ module _ (off : Bool) (after : Files) (p : Promised (settings off) (codes "chip"
   tasks_are = search rules
 
   -- so the chip has this fuse, and is fresh otherwise
-  made : memories_of p.left ≡ memories_of (fresh 0xE2)
+  made : memories_of p.left ≡ memories_of (fresh_with 0xE2)
   made = p.made ∙ rw (p.was, sym part_is, tasks_are, p.asked.switches) refl
 
   -- and the chip file holds this chip
-  pub the_chip_file : after (codes "chip") ≡ Some (chip_file (fresh 0xE2))
+  pub the_chip_file : after (codes "chip") ≡ Some (chip_file (fresh_with 0xE2))
   the_chip_file = p.is ∙ ap (λ m. Some (file_of m)) made
 
   -- a chip with another fuse isn't in the file
-  another_byte : (byte : ℕ) → (byte ≡ 0xE2 → ⊥) → after (codes "chip") ≡ Some (chip_file (fresh byte)) → ⊥
+  another_byte : (byte : ℕ) → (byte ≡ 0xE2 → ⊥) → after (codes "chip") ≡ Some (chip_file (fresh_with byte)) → ⊥
   another_byte byte differs is =
-      differs (fuse_in_file (fresh byte).flash (fresh byte).eeprom (255 ∷ 255 ∷ 255 ∷ []) byte 0xE2
+      differs (fuse_in_file (fresh_with byte).flash (fresh_with byte).eeprom (255 ∷ 255 ∷ 255 ∷ []) byte 0xE2
       (ap (λ held. unwrap_or held []) (sym is ∙ the_chip_file)))
 
   -- refused: a wrong byte; no image; another file changed; a file created
-  pub a_wrong_fuse : after (codes "chip") ≡ Some (chip_file (fresh 0x62)) → ⊥
+  pub a_wrong_fuse : after (codes "chip") ≡ Some (chip_file (fresh_with 0x62)) → ⊥
   a_wrong_fuse = another_byte 0x62 (λ e. omega (arith, e))
 
-  pub no_image : after (codes "chip") ≡ Some (chip_file (fresh 0xFF)) → ⊥
+  pub no_image : after (codes "chip") ≡ Some (chip_file (fresh_with 0xFF)) → ⊥
   no_image = another_byte 0xFF (λ e. omega (arith, e))
 
   abbrev first_byte_of : Bytes → ℕ
@@ -267,8 +267,8 @@ module _ (off : Bool) (after : Files) (p : Promised (settings off) (codes "chip"
 
 -- ---- over files, a memory that is read: `-p m328p -U lfuse:r:fuse:r`
 
-abbrev reading : Settings
-reading = record worked_settings {
+abbrev read_settings : Settings
+read_settings = record worked_settings {
   updates = record { memory = Lfuse; op = op.Read; format = Raw; file = codes "fuse" } ∷ [];
 }
 
@@ -287,7 +287,7 @@ saved_there : saved_of m328p worked_settings.switches read_tasks (fresh_state m3
 unfolding saved_text
 saved_there = refl
 
-module _ (after : Files) (p : Promised reading (codes "chip") files after) where
+module _ (after : Files) (p : Promised read_settings (codes "chip") files after) where
   -- the plan is for an m328p
   its_part : m328p ≡ p.plan.part
   its_part = search rules

@@ -55,19 +55,19 @@ third_at zs os ms i all l = absurd all
 -- ---- memories
 
 -- a memory that keeps zeros is the same in all three
-abbrev Alike : Bool → List ℕ → List ℕ → List ℕ → Type 0
-Alike true zs os ms = (os ≡ zs) × (ms ≡ zs)
-Alike false zs os ms = EachThirdAgrees zs os ms
+abbrev AlikeIn : Bool → List ℕ → List ℕ → List ℕ → Type 0
+AlikeIn true zs os ms = (os ≡ zs) × (ms ≡ zs)
+AlikeIn false zs os ms = EachThirdAgrees zs os ms
 
 -- an image that is in both is in the third
-alike_holds : (zeros : Bool) (image : Image) (zs os ms : List ℕ) → Alike zeros zs os ms → HoldsImage image zs
+alike_holds : (zeros : Bool) (image : Image) (zs os ms : List ℕ) → AlikeIn zeros zs os ms → HoldsImage image zs
     → HoldsImage image os → HoldsImage image ms
 alike_holds zeros image zs os ms t in_zeros in_ones = search (rules, third_at)
 
 module _ (part : Part) where
   abbrev Between : Memories → Memories → Memories → Type 0
   Between z o m = (mem : Mem)
-      → Alike (keeps_zeros mem) (memory_in part mem z) (memory_in part mem o) (memory_in part mem m)
+      → AlikeIn (keeps_zeros mem) (memory_in part mem z) (memory_in part mem o) (memory_in part mem m)
 
   -- a write to all three
   write_between : (other : Mem) (image : Image) (z o m : Memories) → Between z o m
@@ -79,12 +79,12 @@ module _ (part : Part) where
       in
       let is : (x : Memories) → x.lock ∷ [] ≡ z.lock ∷ [] → left x ≡ memory_in part mem (write_effect other image x) =
       search (rules, leaves_memory, laid, write_is) in
-      let each : Alike zeros (left z) (left o) (left m) =
+      let each : AlikeIn zeros (left z) (left o) (left m) =
       (search (rules, thirds_laid)) in
-      subst (λ xs. Alike zeros xs (memory_in part mem (write_effect other image o))
+      subst (λ xs. AlikeIn zeros xs (memory_in part mem (write_effect other image o))
       (memory_in part mem (write_effect other image m))) (is z refl)
-      (subst (λ xs. Alike zeros (left z) xs (memory_in part mem (write_effect other image m))) (is o (t Lock).0)
-      (subst (λ xs. Alike zeros (left z) (left o) xs) (is m (t Lock).1) each))
+      (subst (λ xs. AlikeIn zeros (left z) xs (memory_in part mem (write_effect other image m))) (is o (t Lock).0)
+      (subst (λ xs. AlikeIn zeros (left z) (left o) xs) (is m (t Lock).1) each))
 
   -- an action that erases nothing
   items_between : (action : Action) (more : List Action) (z o m : Memories)
@@ -139,7 +139,7 @@ module _ (part : Part) where
 
   -- so it is after an erase of all three
   erased_between : (m : Memories) → FitsPart part m → (mem : Mem)
-      → Alike (keeps_zeros mem) (memory_in part mem (effect part Erase (chip_filled_with part 0)))
+      → AlikeIn (keeps_zeros mem) (memory_in part mem (effect part Erase (chip_filled_with part 0)))
       (memory_in part mem (effect part Erase (chip_filled_with part 255))) (memory_in part mem (effect part Erase m))
   erased_between m f mem = search (rules, length-replicate, bit_at-zero, kept_ones, any_third, kept_size)
 

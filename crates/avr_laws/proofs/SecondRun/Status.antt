@@ -51,6 +51,6 @@ pub done_again : (plan : Plan) (before left after : Memories) → IsPart plan.pa
 done_again plan before left after sound fitted sizes kept touched all = search (rules, plan_again)
 
 -- an expected run that succeeds, whatever the chip was
-pub succeeds : (plan : Plan) (before : Memories) (status : ℕ) → FitsPart plan.part before
+pub repair_succeeds : (plan : Plan) (before : Memories) (status : ℕ) → FitsPart plan.part before
     → has_erase (items plan) ≡ true → AgreesOnTwoChips plan → status ≡ (expected_run plan before).status → status ≡ 0
-succeeds plan before status sizes erases two status_is = search (rules, expected_status, agrees_anyway)
+repair_succeeds plan before status sizes erases two status_is = search (rules, expected_status, agrees_anyway)

@@ -219,31 +219,31 @@ module _ (becomes : Mem → ℕ → ℕ) (part : Part) where
   }
 
   -- a read of a fuse
-  fuse_read : (f : Fuse) → Calm Any (read_fuse f ∷ [])
-  fuse_read f = calmly 0x18 (omega arith) (omega arith) (λ e. omega (arith, e)) (read_fuse f) refl (λ y. refl)
+  calm_fuse_read : (f : Fuse) → Calm Any (read_fuse f ∷ [])
+  calm_fuse_read f = calmly 0x18 (omega arith) (omega arith) (λ e. omega (arith, e)) (read_fuse f) refl (λ y. refl)
 
   -- a read of a byte of the signature
-  signature_read : (i : ℕ) → Calm Any (read_signature i ∷ [])
-  signature_read i = calmly 0x1B (omega arith) (omega arith) (λ e. omega (arith, e)) (read_signature i) refl (λ y. refl)
+  calm_signature : (i : ℕ) → Calm Any (read_signature i ∷ [])
+  calm_signature i = calmly 0x1B (omega arith) (omega arith) (λ e. omega (arith, e)) (read_signature i) refl (λ y. refl)
 
   -- a read that suits the sheet works
   read_works : (mem : Mem) (x : Memories) → SuitsReading mem x → Works (read_steps part mem) x
   read_works Flash x suits = reads_calmly IsShown Flash (λ i. (calm_two _ _ (λ y. refl), tt)) x suits
   read_works Eeprom x suits = reads_calmly IsShown Eeprom (λ i. (calm_two _ _ (λ y. refl), tt)) x suits
-  read_works Lfuse x suits = reads_calmly Any Lfuse (λ i. (fuse_read Low, tt)) x tt
-  read_works Hfuse x suits = reads_calmly Any Hfuse (λ i. (fuse_read High, tt)) x tt
-  read_works Efuse x suits = reads_calmly Any Efuse (λ i. (fuse_read Extended, tt)) x tt
+  read_works Lfuse x suits = reads_calmly Any Lfuse (λ i. (calm_fuse_read Low, tt)) x tt
+  read_works Hfuse x suits = reads_calmly Any Hfuse (λ i. (calm_fuse_read High, tt)) x tt
+  read_works Efuse x suits = reads_calmly Any Efuse (λ i. (calm_fuse_read Extended, tt)) x tt
   read_works Lock x suits = reads_calmly Any Lock (λ i. (
     calmly 0x1A (omega arith) (omega arith)
         (λ e. omega (arith, e)) _ refl (λ y. refl),
     tt,
   )) x tt
-  read_works Signature x suits = reads_calmly Any Signature (λ i. (signature_read i, tt)) x tt
+  read_works Signature x suits = reads_calmly Any Signature (λ i. (calm_signature i, tt)) x tt
   read_works Calibration x suits = absurd suits
 
   -- so do reads of the signature
   pub signature_works : (x : Memories) → Works signature_steps x
-  signature_works x = calm_steps Any signature_steps (signature_read 0, (signature_read 1, (signature_read 2, tt))) x tt
+  signature_works x = calm_steps Any signature_steps (calm_signature 0, (calm_signature 1, (calm_signature 2, tt))) x tt
 
   -- so does an erase
   erase_works : (x : Memories) → Works ((erase ∷ []) ∷ []) x

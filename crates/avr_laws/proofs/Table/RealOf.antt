@@ -98,8 +98,8 @@ module _ {P : Type 0} (m : Device P) where
       abbrev pair : List Command
       pair = LoadAddress a ∷ c ∷ []
 
-      abbrev end : P → P
-      end p = m.after (body c) (m.after (body (LoadAddress a)) p)
+      abbrev after_both : P → P
+      after_both p = m.after (body c) (m.after (body (LoadAddress a)) p)
 
       -- after some of two commands the step isn't done, or is
       two_prefix : (p : P) (i : ℕ) → Before p → AreReplied m i pair p → Before (after_commands m i pair p)
@@ -171,24 +171,24 @@ module _ {P : Type 0} (part : Part) (sound : IsPart part) (m : Device P) (view :
   }
 
   -- signing on
-  pub signs : (x : Memories) → IsRepeatable m (SignOn ∷ []) (In x) (In x)
-  signs x =
+  pub signs_repeat : (x : Memories) → IsRepeatable m (SignOn ∷ []) (In x) (In x)
+  signs_repeat x =
       let keeps : (p : P) → In x p → In x (m.after (body SignOn) p) =
       λ p s. over_equal_memories IsIn (view p) x (m.after (body SignOn) p) s.memories (t.signs_on p s.is) in
       one_repeats m SignOn (In x) (In x) (restart_in x) (restart_in x) (λ p s. inl (keeps p s)) keeps
       (λ p d e s. keeps p s)
 
   -- leaving programming mode
-  pub leaving : (x : Memories) → IsRepeatable m (leave ∷ []) (In x) (In x)
-  leaving x =
+  pub leaves_repeat : (x : Memories) → IsRepeatable m (leave ∷ []) (In x) (In x)
+  leaves_repeat x =
       let keeps : (p : P) → In x p → In x (m.after (body leave) p) =
       λ p s. over_equal_memories IsIn (view p) x (m.after (body leave) p) s.memories (t.leaves p s.is) in
       one_repeats m leave (In x) (In x) (restart_in x) (restart_in x) (λ p s. inl (keeps p s)) keeps
       (λ p d e s. keeps p s)
 
   -- entering it
-  pub entering : (x : Memories) → IsRepeatable m (enter ∷ []) (In x) (Ready x)
-  entering x = one_repeats m enter (In x) (Ready x) (restart_in x) (restart_ready x)
+  pub enters_repeat : (x : Memories) → IsRepeatable m (enter ∷ []) (In x) (Ready x)
+  enters_repeat x = one_repeats m enter (In x) (Ready x) (restart_in x) (restart_ready x)
       (λ p s. inl (over_equal_memories IsIn (view p) x (m.after (body enter) p) s.memories (t.enters p s.is)))
       (λ p s. record {
         memories = (t.enters p (t.ready_in p s.is)).memories ∙ s.memories;
@@ -284,9 +284,9 @@ module _ {P : Type 0} (part : Part) (sound : IsPart part) (m : Device P) (view :
     Either q = Ready x q ⊎ Ready after q
 
     -- a row that is refused fails
-    fails : (y : Memories) (q : P) → view q ≡ y → ((z : P) → Ready y z → Either z)
+    fails_by : (y : Memories) (q : P) → view q ≡ y → ((z : P) → Ready y z → Either z)
         → RefusesRow m view IsReady r.row q → FailsAt m Either r.command q
-    fails y q is among refused = record {
+    fails_by y q is among refused = record {
       none = λ bytes e.
           let reply = m.reply (body r.command) q in
           let g = r.good reply bytes (judged r.command (judge r.command reply) bytes e) in
@@ -301,7 +301,7 @@ module _ {P : Type 0} (part : Part) (sound : IsPart part) (m : Device P) (view :
         → (m.reset p ≡ p) ⊎ RefusesRow m view IsReady r.row (m.reset p)
         → (m.reset p ≡ p) ⊎ FailsAt m Either r.command (m.reset p)
     by_refused y p s among (inl same) = inl same
-    by_refused y p s among (inr refused) = inr (fails y (m.reset p) (restart_ready y p s).memories among refused)
+    by_refused y p s among (inr refused) = inr (fails_by y (m.reset p) (restart_ready y p s).memories among refused)
 
     -- by whether the step was done
     ends_at : (a : ℕ) → Some a ≡ r.row.address → (p : P) → Either p
@@ -366,9 +366,9 @@ module _ {P : Type 0} (part : Part) (sound : IsPart part) (m : Device P) (view :
     Works = WorksBy part Vouched;
     has = λ x p s. s.memories;
     idle = λ x p s. record { memories = s.memories; is = t.ready_in p s.is };
-    sign_on = signs;
-    enters = entering;
-    leaves = leaving;
+    sign_on = signs_repeat;
+    enters = enters_repeat;
+    leaves = leaves_repeat;
     steps = λ commands x step f w. repeats commands x step f w;
     gives = λ commands x p bytes step f w s has. brings commands x step f w p bytes s has;
   }
