@@ -119,22 +119,22 @@ came_by : (piece more got : List ℕ) → IsPiece piece → got ≡ piece ++ mor
 came_by piece more got whole e = ap frames e ∙ ap (filter is_frame) (cut_first piece more whole)
 
 -- the good frames in what arrived are those that passed
-good_arrived : (sent : List (List ℕ)) (through : List Bool) (got : List ℕ) → All IsPiece sent → All IsGood sent
-    → Arrived sent through got → received_frames (executions_by_arrival through) sent ≡ without_restart (good_frames got)
+good_arrived : (sent : List (List ℕ)) (passed : List Bool) (got : List ℕ) → All IsPiece sent → All IsGood sent
+    → Arrived sent passed got → received_frames (executions_by_arrival passed) sent ≡ without_restart (good_frames got)
 good_arrived [] [] got whole good e = ap (λ (g : List ℕ). without_restart (good_frames g)) (sym e)
-good_arrived [] (true ∷ through) got whole good e = ap (λ (g : List ℕ). without_restart (good_frames g)) (sym e)
-good_arrived [] (false ∷ through) got whole good e = ap (λ (g : List ℕ). without_restart (good_frames g)) (sym e)
+good_arrived [] (true ∷ passed) got whole good e = ap (λ (g : List ℕ). without_restart (good_frames g)) (sym e)
+good_arrived [] (false ∷ passed) got whole good e = ap (λ (g : List ℕ). without_restart (good_frames g)) (sym e)
 good_arrived (piece ∷ sent) [] got whole good e = ap (λ (g : List ℕ). without_restart (good_frames g)) (sym e)
-good_arrived (piece ∷ sent) (true ∷ through) got whole good (more, e, later) =
-    ap (adding_received Executed piece) (good_arrived sent through more (All-tail IsPiece piece sent whole)
+good_arrived (piece ∷ sent) (true ∷ passed) got whole good (more, e, later) =
+    ap (adding_received Executed piece) (good_arrived sent passed more (All-tail IsPiece piece sent whole)
     (All-tail IsGood piece sent good) later)
     ∙ ap without_restart (sym (ap (filter is_good) (came_by piece more got (All-head IsPiece piece sent whole) e)
     ∙ good_kept piece (cut more) (All-head IsGood piece sent good)))
-good_arrived (piece ∷ sent) (false ∷ through) got whole good (inl later) =
-    good_arrived sent through got (All-tail IsPiece piece sent whole) (All-tail IsGood piece sent good) later
-good_arrived (piece ∷ sent) (false ∷ through) got whole good (inr (came, more, e, d, later)) =
+good_arrived (piece ∷ sent) (false ∷ passed) got whole good (inl later) =
+    good_arrived sent passed got (All-tail IsPiece piece sent whole) (All-tail IsGood piece sent good) later
+good_arrived (piece ∷ sent) (false ∷ passed) got whole good (inr (came, more, e, d, later)) =
     let bad = bad_piece piece came (All-head IsPiece piece sent whole) (All-head IsGood piece sent good) d in
-    good_arrived sent through more (All-tail IsPiece piece sent whole) (All-tail IsGood piece sent good) later
+    good_arrived sent passed more (All-tail IsPiece piece sent whole) (All-tail IsGood piece sent good) later
     ∙ ap without_restart (sym (ap (filter is_good) (came_by came more got bad.0 e) ∙ bad_dropped came (cut more) bad.1))
 
 -- so what arrived are the sent frames, by which of them passed
