@@ -42,13 +42,13 @@ pub authentic_received : {E R : Type 0} (d : Dialog E R) (n : ℕ) (p : Programm
 authentic_received d n p fates w asks lawful keeps exchanges prefix =
     let events = (played d n (heard w.transcript)).events in
     let executions = executions_of_fates (length (frames_in events)) fates in
-    let some = frames_prefix events (sent w.transcript) prefix.0 (sends_whole d n (heard w.transcript) asks) prefix.1 in
-    let le : length (frames (sent w.transcript)) ≤ length (frames_in events) =
-    let all = ap length some.1 in omega (arith, all, length-append (frames (sent w.transcript)) some.0) in
+    let rest = frames_prefix events (sent w.transcript) prefix.0 (sends_whole d n (heard w.transcript) asks) prefix.1 in
+    let within : length (frames (sent w.transcript)) ≤ length (frames_in events) =
+    let all = ap length rest.1 in omega (arith, all, length-append (frames (sent w.transcript)) rest.0) in
     let brings = keeps.brings (never_idle d n p fates w.transcript asks lawful exchanges) in
     authentic_prefix device d n (heard w.transcript) w.waits p executions
     (subst (λ (t : Tape). RepliesAreAuthentic device d n t p executions) brings
-    ((goes_along d n p fates w asks lawful keeps exchanges prefix).is_authentic (length (frames_in events)) le))
+    ((goes_along d n p fates w asks lawful keeps exchanges prefix).is_authentic (length (frames_in events)) within))
 
 module _ (plan : Plan) (w v : WiredState) (fresh : IsFresh w) (stays : Preserves ComesOf w v)
     (is_sound : IsSoundChip w.wire.programmer.chip)
@@ -60,6 +60,7 @@ module _ (plan : Plan) (w v : WiredState) (fresh : IsFresh w) (stays : Preserves
   abbrev exchanges : List Exchange
   exchanges = exchanges_of_fates w.wire.fates
 
+  -- what was reported is true
   reports : Runs → ReportsOverExchanges plan (fresh_programmer w.wire.programmer.chip) v.wire.programmer exchanges
       (sent v.transcript) (events_over plan v)
   reports runs =
@@ -74,6 +75,7 @@ module _ (plan : Plan) (w v : WiredState) (fresh : IsFresh w) (stays : Preserves
       (authentic_received (session plan) 1 p w.wire.fates v asks fresh.lawful follows is_first.0 is_first.1)
       (by_fates all w.wire.fates)
 
+  -- so are the session's end and its status, if it is whole
   pub over_any_wire : Runs → OverAnyWire plan w v old now status
   over_any_wire (inl whole) =
       let c = whole_comes plan w v fresh stays is_sound part_is fitted old now status whole in
@@ -89,8 +91,8 @@ emulated_wire r =
     over_any_wire r.plan (new_wire r.chip []) r.after (search rules) r.comes r.sound r.part r.fitted r.loaded_desk
     r.played_desk r.session_status r.runs
 
-one_no : ◌≡◌ {A = ℕ} 1 0 → ⊥
-one_no e = cc
+one_is_not_zero : ◌≡◌ {A = ℕ} 1 0 → ⊥
+one_is_not_zero e = cc
 
 -- a session with status 0, and one that sent no frame
 module _ (plan : Plan) (w v : WiredState) (d e : DeskState) (status : ℕ) (over : SessionOverWire plan w v d e status)
@@ -98,10 +100,12 @@ module _ (plan : Plan) (w v : WiredState) (d e : DeskState) (status : ℕ) (over
     abbrev emitted : List OutputEvent
     emitted = outputs (events_over plan v)
 
+    -- with status 0 the session came to its end
     pub came_to : status ≡ 0 → EndsOverExchanges plan (memories w) (memories v) (exchanges_of_fates w.wire.fates)
         emitted status × ChangesRecord (after_events emitted) d e
-    came_to zero = elim over.end [ inl came ↦ came | inr broke ↦ absurd (one_no (sym broke.1 ∙ zero)) ]
+    came_to zero = elim over.end [ inl came ↦ came | inr broke ↦ absurd (one_is_not_zero (sym broke.1 ∙ zero)) ]
 
+    -- a session that sent no frame left the memories
     pub untouched : frames (sent v.transcript) ≡ [] → memories v ≡ memories w
     untouched none = search rules
 
@@ -111,6 +115,7 @@ module _ (plan : Plan) (w v : WiredState) (d e : DeskState) (status : ℕ) (sile
   abbrev AreTrue : List (Event OutputEvent) → Type 0
   AreTrue = ReportsWereTrue plan (fresh_programmer w.wire.programmer.chip) (exchanges_of_fates w.wire.fates)
 
+  -- a whole session
   pub played_truly : (whole : RanToStatus (session plan) (devices (wired_link w) d) (devices (wired_link v) e) status)
       → AreTrue whole.1.events
   played_truly whole =
@@ -118,6 +123,7 @@ module _ (plan : Plan) (w v : WiredState) (d e : DeskState) (status : ℕ) (sile
       (search (rules, append-nil)) in
       subst AreTrue (over_tape ∙ ap (λ x. x.events) (whole.1.plays.plays [])) over.along_exchanges.reports_are_true
 
+  -- and one that broke off
   pub stopped_truly : (stopped : StopsSession plan (wire_and_desk w d) (wire_and_desk v e))
       → AreTrue stopped.breaks.prefix.whole
   stopped_truly stopped = search (rules, results_prefix, over)

@@ -20,6 +20,8 @@ use Rattle.avr_laws.specs.Recorded.{RecordsFiles, RecordsOutput}
 
 -- ---- files
 
+-- the calls of uses
+-- the count of held files
 count_same : (held : Option Bytes) → option_len held ≡ option_map_or (λ (name : Bytes). 1) held 0
 count_same None = refl
 count_same (Some name) = refl
@@ -27,10 +29,12 @@ count_same (Some name) = refl
 abbrev done_by : List FileCall → ℕ → SystemCalls
 done_by calls holds = record { calls = calls; holds = holds }
 
+-- both in a record
 done_same : (r : Record) → calls_of_record r
     ≡ done_by (flat_map calls_of (all_uses r)) (option_map_or (λ (name : Bytes). 1) r.held 0)
 done_same r = ap (done_by (flat_map calls_of (all_uses r))) (count_same r.held)
 
+-- a true record shows each use of a file
 pub files_recorded : {S F I H O E : Type 0} (system : Ghosts S F I H) (reads : Reads F) (writes : Writes F)
     (input : Reads I) (d : Shown S F H I O E)
     → IsTrueRecord system reads writes input d.system d.opened d.hold d.kept → RecordsFiles system reads writes input d
@@ -42,10 +46,12 @@ files_recorded system reads writes input d truly = record {
 
 -- ---- messages and output
 
+-- an open file other than standard output
 apart_from_output : {F I : Type 0} (opened : OpenFile F I) → (opened ≡ Output → ⊥) → is_output opened ≡ false
 apart_from_output Output apart = absurd (apart refl)
 apart_from_output z0 apart = refl
 
+-- a true record shows messages and output
 pub output_recorded : {S F I H O E : Type 0} (system : Ghosts S F I H) (reads : Reads F) (writes : Writes F)
     (input : Reads I) (output_of : Writes O) (messages_of : Writes E) (old new : Shown S F H I O E)
     → IsTrueSince system reads writes input output_of messages_of old new → RecordsOutput output_of messages_of old new

@@ -25,7 +25,7 @@ use Rattle.avr_laws.proofs.FewBad.Sessions.{few_session_ends}
 use Rattle.avr_laws.proofs.Reports.OverTape.{ByExchanges, reported_any}
 use Rattle.avr_laws.proofs.Reports.Truth.{emulated_reports}
 use Rattle.avr_laws.proofs.Reports.UpToFault.{expected_end, expected_on_tape}
-use Rattle.avr_laws.proofs.SecondRun.Status.{succeeds}
+use Rattle.avr_laws.proofs.SecondRun.Status.{repair_succeeds}
 
 module _ (plan : Plan) (begun : Programmer) (is_sound : IsSoundChip begun.chip) (part_is : begun.chip.part ≡ plan.part)
     (fitted : All (IsFitted plan.part) plan.tasks) where
@@ -43,6 +43,7 @@ module _ (plan : Plan) (begun : Programmer) (is_sound : IsSoundChip begun.chip) 
 
   module _ (exchanges : List Exchange) (q : Programmer) (bytes : List ℕ)
       (stands : q ≡ (state_after device (length (frames bytes)) (session plan) begun exchanges).programmer) where
+    -- what was reported is true
     pub reports_over_exchanges : (tape : Tape) (executions : List Execution)
         → IsBytePrefixOf bytes (bytes_sent (played (session plan) 1 tape).events)
         → RepliesAreAuthentic device (session plan) 1 tape begun executions
@@ -59,10 +60,12 @@ module _ (plan : Plan) (begun : Programmer) (is_sound : IsSoundChip begun.chip) 
         (comes : (state_after device (length (frames bytes)) (session plan) begun exchanges).dialog ≡ Done status)
         (output_events_are : output_events
         ≡ outputs_after device (length (frames bytes)) (session plan) begun exchanges) where
+      -- if few exchanges are bad, it is the expected run
       its_expected : AtMostThreeBadOfSeven exchanges
           → IsExpectedRun plan before (memories_of q.chip) output_events status
       its_expected few = search (rules, has_expected, few_session_ends, sound, sizes, idle)
 
+      -- so its end is as promised
       pub ends_and_reports_over_exchanges : EndsAndReportsOverExchanges plan before (memories_of q.chip) exchanges
           output_events status
       ends_and_reports_over_exchanges = record {
@@ -71,5 +74,5 @@ module _ (plan : Plan) (begun : Programmer) (is_sound : IsSoundChip begun.chip) 
         emitted = subst (λ x. EndsAsExpected plan before x status) (sym output_events_are)
             (expected_end plan sound fitted before sizes (length (frames bytes)) status begun exchanges idle comes);
         if_few_bad = its_expected;
-        again = λ few erases both. succeeds plan before status sizes erases both (its_expected few).status_is;
+        again = λ few erases both. repair_succeeds plan before status sizes erases both (its_expected few).status_is;
       }

@@ -16,22 +16,26 @@ use Rattle.avr_tool.proofs.Bounds.Weights.{WeighsAtMost, weighed_append, session
 abbrev one : Weight
 one bytes = 1
 
+-- commands weigh as much as there are
 commands_weigh : (commands : List Command) → total_weight one (map body commands) ≡ length commands
 commands_weigh [] = omega arith
 commands_weigh (command ∷ commands) = let more = commands_weigh commands in omega (arith, more)
 
+-- so do the commands of steps
 steps_weigh : (steps : List (List Command)) → total_weight one (bodies_in steps) ≡ commands_in steps
 steps_weigh [] = omega arith
 steps_weigh (commands ∷ steps) = search (rules, commands_weigh, weighed_append, steps_weigh steps)
 
+-- a dialog whose bodies weigh at most `n` asks at most `n` commands
 asks_weighed : {E R : Type 0} (n : ℕ) (d : Dialog E R) → WeighsAtMost one n d → AsksAtMost n d
-asks_weighed n (Done r) f = tt
-asks_weighed n (Emit e d) f = asks_weighed n d f.1
-asks_weighed zero (Ask asked resume) f = let first = f.0 in absurd (omega (arith, first))
-asks_weighed (suc n) (Ask asked resume) f = λ reading.
+asks_weighed n (Done r) weighs = tt
+asks_weighed n (Emit e d) weighs = asks_weighed n d weighs.1
+asks_weighed zero (Ask asked resume) weighs = let first = weighs.0 in absurd (omega (arith, first))
+asks_weighed (suc n) (Ask asked resume) weighs = λ reading.
     let rest : suc n - 1 ≡ n = omega arith in
-    asks_weighed n (resume reading) (subst (λ k. WeighsAtMost one k (resume reading)) rest (f.1 reading))
+    asks_weighed n (resume reading) (subst (λ k. WeighsAtMost one k (resume reading)) rest (weighs.1 reading))
 
+-- a session asks at most four times its commands
 pub session_most : (plan : Plan) → AsksAtMost (4 * commands_in (run_steps plan)) (session plan)
 session_most plan = search (rules, asks_weighed, steps_weigh, session_weighs)
 

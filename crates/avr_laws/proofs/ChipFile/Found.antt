@@ -32,6 +32,7 @@ module _ (part : Part) (file : Bytes) (old new : DeskState) (chip : Chip)
   abbrev pub found : Opening
   found = next_opening file (went.passed ++ [])
 
+  -- the record has this opening
   pub found_kept : new.kept ≡ after_opening found old.kept
   found_kept = search rules
 
@@ -48,29 +49,32 @@ module _ (settings : Settings) (file : Bytes) (stock : Stock) (old new : MemDesk
     (holds : HoldsTrue stock new)
     (r : RunsOverEmulator settings file (memory_state old) (memory_state new) status) where
   -- the openings before the chip's file
-  before : (openings : List Opening) × (all_uses r.planned_desk.kept ≡ all_uses old.kept ++ opened openings)
-  before = search (
+  earlier_openings : (openings : List Opening) × (all_uses r.planned_desk.kept ≡ all_uses old.kept ++ opened openings)
+  earlier_openings = search (
     rules,
     only_opened r.made.output_events old.kept (search (rules, only_reads settings (r.made.passed ++ []))),
   )
 
   abbrev first_uses : List FileUse
-  first_uses = all_uses old.kept ++ opened before.0
+  first_uses = all_uses old.kept ++ opened earlier_openings.0
 
   abbrev opening : Opening
   opening = found r.plan.part file r.loaded.held_desk r.loaded_desk r.chip r.loaded.loaded
 
+  -- they stay the first uses while the session runs
   played_past : ArePast (first_uses ++ Opened opening ∷ []) r.played_desk.kept
   played_past = run_past (first_uses ++ Opened opening ∷ []) _ _ _ _ _ r.session_status r.runs (search (
     rules,
     opened_past opening r.loaded.held_desk.kept,
   ))
 
-  ended : (more : List FileUse) × (all_uses new.kept ≡ (first_uses ++ Opened opening ∷ []) ++ more)
-  ended = past_shown (first_uses ++ Opened opening ∷ []) new.kept
+  -- and until the run ends
+  later : (more : List FileUse) × (all_uses new.kept ≡ (first_uses ++ Opened opening ∷ []) ++ more)
+  later = past_shown (first_uses ++ Opened opening ∷ []) new.kept
       (saved_past (first_uses ++ Opened opening ∷ []) _ r.played_desk (memory_state new) file _ r.session_status status
       r.saved played_past)
 
+  -- none of the first uses creates a file
   first_files : files_among first_uses ≡ all_files old.kept
   first_files = search (rules, filter_map-append, none_made)
 
@@ -79,19 +83,22 @@ module _ (settings : Settings) (file : Bytes) (stock : Stock) (old new : MemDesk
   loaded_files = ap all_files (found_kept r.plan.part file r.loaded.held_desk r.loaded_desk r.chip r.loaded.loaded)
       ∙ (search (rules, files_absent, files_used, first_files))
 
-  every : OpeningsAreTrue stock [] (first_uses ++ Opened opening ∷ ended.0)
-  every = search (rules, append_assoc, all_true, ended.1)
+  -- all uses were true
+  each_true : OpeningsAreTrue stock [] (first_uses ++ Opened opening ∷ later.0)
+  each_true = search (rules, append_assoc, all_true, later.1)
 
   -- so were all uses when the plan was made
   pub planned_true : OpeningsAreTrue stock [] (all_uses r.planned_desk.kept)
-  planned_true = search (rules, true_front, every)
+  planned_true = search (rules, true_front, each_true)
 
   -- its opening was true by the files before the run
-  gave : IsTrueOpening stock (all_files old.kept) opening
-  gave = search (rules, true_behind stock [] first_uses (Opened opening ∷ ended.0) every, every, first_files)
+  is_true : IsTrueOpening stock (all_files old.kept) opening
+  is_true = search (rules, true_behind stock [] first_uses (Opened opening ∷ later.0) each_true, each_true, first_files)
 
+  -- the chip was read from what the file held before the run
   pub chip_read : IsReadFrom r.plan.part (contents_held stock old.kept file) r.chip
-  chip_read = grind (arith, common_steps, gave)
+  chip_read = grind (arith, common_steps, is_true)
 
+  -- so it is the chip in that file
   pub chip_found : IsChipInFile r.plan.part (contents_held stock old.kept file) r.chip
   chip_found = in_file r.plan.part (contents_held stock old.kept file) r.chip chip_read

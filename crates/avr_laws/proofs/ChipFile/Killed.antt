@@ -20,12 +20,14 @@ checked_tried : (settings : Settings) (file : Bytes) (old new : DeskState) (part
 checked_tried settings file old new part with =
     search (rules, tried_loaded, tried_went, with.then_is.1.then_is, with.then_is.1.loaded)
 
+-- a part or a chip file that is refused
 refused_tried : (settings : Settings) (file : Bytes) (old new : DeskState) (status : ℕ)
     → ChecksPart settings file old new (Err status) → tried_at new ≡ tried_at old
 refused_tried settings file old new status (inl none) = tried_goes _ _ _ _ _ none.refused
 refused_tried settings file old new status (inr with) =
     tried_unloaded _ _ _ _ _ with.then_is ∙ tried_went _ _ _ _ with.found
 
+-- a service tries to put the chip of its client there, and nothing else
 service_tries : (unused : Type 0) (over : Option LinkState → Type 0) (settings : Settings) (port file : Bytes)
     (old new : DeskState) (status : ℕ) → (s : ServesNet unused over settings port file old new status)
     → tried_at old ≡ []
@@ -37,6 +39,7 @@ service_tries unused over settings port file old new status (inl (part, checked,
 service_tries unused over settings port file old new status (inr (refused, left)) none =
     refused_tried settings file old new status refused ∙ none
 
+-- so a crash leaves that chip's file or the old one
 pub service_killed : {S F I H O E : Type 0} (system : Ghosts S F I H) (reads : Reads F) (writes : Writes F)
     (input : Reads I) (old new : Shown S F H I O E) → IsNewDesk system old
     → RecordsAll system reads writes input old new → (unused : Type 0) (over : Option LinkState → Type 0)

@@ -36,6 +36,7 @@ first_frame : (plan : Plan) (tape : Tape)
 unfolding session opening handshake attempts_or_fault attempt exchange
 first_frame plan tape = (_, refl)
 
+-- a session that sent nothing doesn't end with status 0
 pub no_silence : (plan : Plan) (chip : Chip) (after : WiredState) (d e : DeskState) (ran : ℕ)
     → RunsSession plan (devices (wired_link (new_wire chip [])) d) (devices (wired_link after) e) ran
     → sent after.transcript ≡ [] → ran ≡ 0 → ⊥

@@ -35,6 +35,7 @@ use Rattle.avr_laws.specs.Promise.{Promised}
 module _ (settings : Settings) (file : Bytes) (stock : Stock) (old new : MemDeskState) (no_dash : is_dash file ≡ false)
     (unused : old.kept ≡ nothing_kept) (holds : HoldsTrue stock new)
     (r : RunsOverEmulator settings file (memory_state old) (memory_state new) 0) where
+  -- the plan is the one that the settings and files ask for
   asked : IsAsked settings (FileHolds (content_of_name stock [])) [] r.plan
   asked =
       let verdict : ◌≡◌ {A = StageOutcome Plan} (Produced r.plan) NotReadToEnd → ⊥ = λ e. cc in
@@ -45,31 +46,38 @@ module _ (settings : Settings) (file : Bytes) (stock : Stock) (old new : MemDesk
       (subst (λ (p : StageResult Plan). AreTrueOpenings stock p.output_events) (sym (r.made.comes [])) true_openings)
       (ap (λ (p : StageResult Plan). p.stage_outcome) (r.made.comes []))
 
+  -- the session's status is 0, too
   zero : r.session_status ≡ 0
   zero = search rules
 
-  came : EndsOverExchanges r.plan (memories_of r.chip) (memories_of r.after.wire.programmer.chip)
+  -- the session came to its end
+  ended_over_exchanges : EndsOverExchanges r.plan (memories_of r.chip) (memories_of r.after.wire.programmer.chip)
       (exchanges_of_fates []) (outputs (events_over r.plan r.after)) r.session_status
       × ChangesRecord (after_events (outputs (events_over r.plan r.after))) r.loaded_desk r.played_desk
-  came = search rules
+  ended_over_exchanges = search rules
 
+  -- so it is the expected run
   expected : IsExpectedRun r.plan (memories_of r.chip) (memories_of r.after.wire.programmer.chip)
       (outputs (events_over r.plan r.after)) r.session_status
-  expected = came.0.success zero
+  expected = ended_over_exchanges.0.success zero
 
+  -- the files that its memories were read into
   abbrev files : List Writing
   files = saved_files r.plan (memories_of r.chip)
 
-  written : FilesAreSaved files r.loaded_desk.kept r.played_desk.kept
-  written = search (rules, these_saved, expected_writes r.plan (memories_of r.chip) (sym expected.status_is ∙ zero))
+  -- these files were saved
+  files_saved : FilesAreSaved files r.loaded_desk.kept r.played_desk.kept
+  files_saved = search (rules, these_saved, expected_writes r.plan (memories_of r.chip) (sym expected.status_is ∙ zero))
 
+  -- they are all files that were made
   created : all_files r.played_desk.kept ≡ named_files files
   created =
       sym (files_used r.played_desk.kept)
-      ∙ (written.created
+      ∙ (files_saved.created
       ∙ ap (λ (before : List Writing). before ++ named_files files)
       (files_used r.loaded_desk.kept ∙ (loaded_files settings file stock old new 0 holds r ∙ ap all_files unused)))
 
+  -- other names mean these files, or what they meant before
   kept : (name : Bytes) → (name ≡ file → ⊥)
       → contents_held stock new.kept name ≡ newest name (content_of_name stock [] name) (named_files files)
   kept name differs =
@@ -77,6 +85,7 @@ module _ (settings : Settings) (file : Bytes) (stock : Stock) (old new : MemDesk
       (chip_file r.after.wire.programmer.chip) r.session_status name differs r.saved
       ∙ (ap (λ (made : List Writing). content_of_name stock made name) created ∙ stood_named stock files name)
 
+  -- so all that is promised holds
   pub promised : Promised settings file (content_of_name stock []) (contents_held stock new.kept)
   promised = record {
     plan = r.plan;
@@ -87,7 +96,7 @@ module _ (settings : Settings) (file : Bytes) (stock : Stock) (old new : MemDesk
         (chip_found settings file stock old new 0 holds r);
     is = chip_left settings file stock old new 0 no_dash refl r;
     made = search (rules, items_by_tasks);
-    agrees = tasks_agree r.plan (memories_of r.chip) (came.0.done zero).agrees;
-    images = came.0.images zero;
+    agrees = tasks_agree r.plan (memories_of r.chip) (ended_over_exchanges.0.done zero).agrees;
+    images = ended_over_exchanges.0.images zero;
     others = kept;
   }

@@ -25,12 +25,14 @@ use Rattle.avr_tool.proofs.Sure.Exchanges.{IsSure}
 
 -- ---- counting
 
+-- among more exchanges as many are bad, or more
 pub more_bad : (n m : ℕ) (exchanges : List Exchange) → n ≤ m → badness_of_first n exchanges ≤ badness_of_first m
     exchanges
 more_bad zero m exchanges le = omega arith
 more_bad (suc n) zero exchanges le = absurd (omega (arith, le))
 more_bad (suc n) (suc m) exchanges le = search (rules, more_bad n m (later_exchanges exchanges) (omega (arith, le)))
 
+-- of the exchanges after the first, too, at most three of seven are bad
 pub others_few : (exchanges : List Exchange) → AtMostThreeBadOfSeven exchanges
     → AtMostThreeBadOfSeven (later_exchanges exchanges)
 others_few exchanges few = search rules
@@ -50,9 +52,9 @@ module _ {E R : Type 0} where
       done_within n k (go_on _) _ (later_exchanges exchanges) (asks _) (omega (arith, le))
 
 -- the exchanges after the first `n`
-abbrev behind : ℕ → List Exchange → List Exchange
-behind zero exchanges = exchanges
-behind (suc n) exchanges = behind n (later_exchanges exchanges)
+abbrev past : ℕ → List Exchange → List Exchange
+past zero exchanges = exchanges
+past (suc n) exchanges = past n (later_exchanges exchanges)
 
 -- An attempt that brought no data: it ended with the frame at this place, which went wrong.
 record Spent (size : ℕ) (exchanges : List Exchange) (then : Reply) (rest : List Exchange) : Type 0 where
@@ -60,9 +62,10 @@ record Spent (size : ℕ) (exchanges : List Exchange) (then : Reply) (rest : Lis
   again : then ≡ Again fault
   place : ℕ
   near : suc place ≤ size
-  went_wrong : 1 ≤ badness (first_exchange (behind place exchanges))
-  behind_it : rest ≡ later_exchanges (behind place exchanges)
+  went_wrong : 1 ≤ badness (first_exchange (past place exchanges))
+  behind_it : rest ≡ later_exchanges (past place exchanges)
 
+-- the attempt brought its data, or a frame of it went wrong
 abbrev Tried : ℕ → List Exchange → List ℕ → Reply → List Exchange → Type 0
 Tried size exchanges got then rest = (then ≡ Data got) ⊎ Spent size exchanges then rest
 
@@ -73,10 +76,10 @@ same_data : (a b : List ℕ) → Data a ≡ Data b → a ≡ b
 same_data a b e = cc
 
 -- the first frame went well
-well : (size : ℕ) (exchanges : List Exchange) (got : List ℕ) (then : Reply) (rest : List Exchange)
+after_good_frame : (size : ℕ) (exchanges : List Exchange) (got : List ℕ) (then : Reply) (rest : List Exchange)
     → Tried size (later_exchanges exchanges) got then rest → Tried (suc size) exchanges got then rest
-well size exchanges got then rest (inl brings) = inl brings
-well size exchanges got then rest (inr s) = inr (record {
+after_good_frame size exchanges got then rest (inl brings) = inl brings
+after_good_frame size exchanges got then rest (inr s) = inr (record {
   fault = s.fault;
   again = s.again;
   place = suc s.place;
@@ -86,34 +89,37 @@ well size exchanges got then rest (inr s) = inr (record {
 })
 
 -- the frame that went wrong
-wrong : (size : ℕ) (exchanges : List Exchange) (got : List ℕ) (fault : StepFault)
+at_bad_frame : (size : ℕ) (exchanges : List Exchange) (got : List ℕ) (fault : StepFault)
     → 1 ≤ badness (first_exchange exchanges) → Tried (suc size) exchanges got (Again fault) (later_exchanges exchanges)
-wrong size exchanges got fault is = search rules
+at_bad_frame size exchanges got fault is = search rules
 
 -- Enough frames go well for one attempt and `more` others: at most one frame goes well between two that go wrong.
 record Clear (more : ℕ) (exchanges : List Exchange) : Type 0 where
   here : badness_of_first (suc (more + more)) exchanges ≤ more
   next : badness_of_first (suc (more + more)) (later_exchanges exchanges) ≤ more
 
+-- after a bad exchange enough go well for one attempt fewer
 next_clear : (more : ℕ) (exchanges : List Exchange) → 1 ≤ badness (first_exchange exchanges)
     → badness_of_first (suc (suc more + suc more)) exchanges ≤ suc more → Clear more (later_exchanges exchanges)
 next_clear more exchanges is le =
     let rest = later_exchanges exchanges in
     let e : suc more + suc more ≡ suc (suc (more + more)) = omega arith in
     let few : badness_of_first (suc more + suc more) rest ≤ more = omega (arith, is, le) in
-    let few' : badness_of_first (suc (suc (more + more))) rest ≤ more =
+    let few_later : badness_of_first (suc (suc (more + more))) rest ≤ more =
     subst (λ n. badness_of_first n rest ≤ more) e few in
     let less = more_bad (suc (more + more)) (suc (suc (more + more))) rest (omega arith) in search rules
 
+-- so it is after an attempt of at most two frames
 clear_behind : (place more : ℕ) (exchanges rest : List Exchange) → suc place ≤ 2 → rest
-    ≡ later_exchanges (behind place exchanges) → 1 ≤ badness (first_exchange (behind place exchanges))
+    ≡ later_exchanges (past place exchanges) → 1 ≤ badness (first_exchange (past place exchanges))
     → Clear (suc more) exchanges → Clear more rest
-clear_behind zero more exchanges rest le is wrong c = search (rules, next_clear, wrong)
-clear_behind (suc zero) more exchanges rest le is wrong c = search (rules, next_clear)
-clear_behind (suc (suc place)) more exchanges rest le is wrong c = absurd (omega (arith, le))
+clear_behind zero more exchanges rest le is went_bad c = search (rules, next_clear, went_bad)
+clear_behind (suc zero) more exchanges rest le is went_bad c = search (rules, next_clear)
+clear_behind (suc (suc place)) more exchanges rest le is went_bad c = absurd (omega (arith, le))
 
 -- ---- such exchanges are steady
 
+-- an exchange that counts as at most three bad ones doesn't restart the programmer
 not_four : (one_exchange : Exchange) → badness one_exchange ≤ 3 → IsSteady one_exchange
 not_four one_exchange le = search rules
 
@@ -140,9 +146,10 @@ module _ (go_on : List ℕ → Dialog ⊥ Reply) (go : List ℕ → Reply) (size
         later_exchanges exchanges,
       )
   replied q (Data bytes) each has = wider (λ b y x. x) (λ e y x. x)
-      (λ reply y x. (well size exchanges got reply y.1 x.0, x.1)) (each bytes has)
+      (λ reply y x. (after_good_frame size exchanges got reply y.1 x.0, x.1)) (each bytes has)
   replied q reply each has = search rules
 
+  -- by the first exchange
   by_exchange : (one_exchange : Exchange) (command : Command) (p : Programmer) → badness (first_exchange exchanges)
       ≡ badness one_exchange → IsSteady one_exchange → ((bytes : List ℕ) → go bytes ≡ Data got
       → Tries size (later_exchanges exchanges) got (go_on bytes) (
@@ -180,16 +187,18 @@ module _ (Before After : Programmer → Type 0) (commands : List Command) (got :
   Begins (suc more) z = (Before z.0 ⊎ After z.0) × (AtMostThreeBadOfSeven z.1 × Clear more z.1)
 
   again : (more : ℕ) (place : ℕ) (exchanges : List Exchange) (y : Spot Programmer) → suc place ≤ length commands
-      → 1 ≤ badness (first_exchange (behind place exchanges)) → y.1 ≡ later_exchanges (behind place exchanges)
+      → 1 ≤ badness (first_exchange (past place exchanges)) → y.1 ≡ later_exchanges (past place exchanges)
       → Clear more exchanges → Before y.0 ⊎ After y.0 → AtMostThreeBadOfSeven y.1 → Begins more y
-  again more place exchanges y near wrong is clear stood few = search (rules, clear_behind)
+  again more place exchanges y near went_bad is clear stood few = search (rules, clear_behind)
 
+  -- after an attempt the step is done, or enough exchanges go well for the others
   after_try : (more : ℕ) (exchanges : List Exchange) → Clear more exchanges → (reply : Reply) (y : Spot Programmer)
       → OnReply (λ q. Before q ⊎ After q) (AfterStep steady commands Before After fits) reply y.0
       × (Tried (length commands) exchanges got reply y.1 × AtMostThreeBadOfSeven y.1)
       → OnReply (Begins more) Whole reply y
   after_try more exchanges clear reply y f' = search (rules, same_data, again_not, again)
 
+  -- the step gives its data within four attempts
   step_steady : (z : Spot Programmer) → Before z.0 → AtMostThreeBadOfSeven z.1
       → Runs steady (λ y. ⊤) Whole (step commands) z
   step_steady z before few = attempts (this_link steady) (λ bytes y. ⊤) commands Begins Whole

@@ -21,13 +21,14 @@ use Rattle.avr_laws.specs.FewBadFrames.{AtMostThreeBadOfSeven}
 use Rattle.avr_tool.specs.Outcome.{IsExpectedRun}
 
 module _ (plan : Plan) (sound : IsPart plan.part) (fitted : All (IsFitted plan.part) plan.tasks) where
+  -- its memories, output and status are those of the expected run
   pub few_session_ends : (m : Memories) (p : Programmer) (exchanges : List Exchange) → FitsPart plan.part m
       → HasMemories plan.part m p → AtMostThreeBadOfSeven exchanges
       → (k : ℕ) (status : ℕ) → (state_after device k (session plan) p exchanges).dialog ≡ Done status
       → IsExpectedRun plan m (memories_of (state_after device k (session plan) p exchanges).programmer.chip)
       (outputs_after device k (session plan) p exchanges) status
-  few_session_ends m p exchanges sizes idle few k status e =
-      session_ends plan sound fitted AtMostThreeBadOfSeven few_sure m p exchanges sizes idle few k status e
+  few_session_ends m p exchanges sizes idle few k status ended =
+      session_ends plan sound fitted AtMostThreeBadOfSeven few_sure m p exchanges sizes idle few k status ended
 
   -- it is done after at most four times its commands
   pub session_done : (m : Memories) (k : ℕ) (p : Programmer) (exchanges : List Exchange) → FitsPart plan.part m

@@ -12,10 +12,12 @@ abbrev pub IsReadFrom : Part → Option (List ℕ) → Chip → Type 0
 IsReadFrom part None chip = chip ≡ fresh_state part
 IsReadFrom part (Some bytes) chip = (length bytes ≡ chip_file_size part) × (chip ≡ state_from_file part bytes)
 
+-- a chip that is read from a file is the chip in it
 pub in_file : (part : Part) (found : Option (List ℕ)) (chip : Chip) → IsReadFrom part found chip
     → IsChipInFile part found chip
 in_file part found chip read = grind (arith, length-drop, written_again, length-take-le)
 
+-- and conversely
 pub from_file : (part : Part) (found : Option (List ℕ)) (chip : Chip) → IsChipInFile part found chip
     → IsReadFrom part found chip
 from_file part None chip is = is

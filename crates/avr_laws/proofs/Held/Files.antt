@@ -13,16 +13,18 @@ use Rattle.avr_records.specs.declared.kind.Kind.TheVariants as kind
 use Rattle.avr_laws.specs.HeldImage.{HoldsImageAs}
 use Rattle.avr_laws.proofs.Held.Records.{held_records, records_read}
 
-same_good : {A E F : Type 0} (f : E → F) (r : Result A E) (a : A) → result_map_both (λ good. good) f r ≡ Ok a → r ≡ Ok a
-same_good f (Ok good) a is = cc is
-same_good f (Err fault) a is = absurd (cc is)
+-- mapping the errors makes no result OK
+same_ok : {A E F : Type 0} (f : E → F) (r : Result A E) (a : A) → result_map_both (λ good. good) f r ≡ Ok a → r ≡ Ok a
+same_ok f (Ok good) a is = cc is
+same_ok f (Err fault) a is = absurd (cc is)
 
+-- an image that is read is the one that the text holds
 pub held_file : (found : Found) (text : Bytes) (size : ℕ) (image : List (Option ℕ)) (ending : Ending)
     → image_of_file found text size ≡ Ok (image, ending) → HoldsImageAs found text size image
 held_file Ihex text size image ending is =
-    held_records kind.Ihex text size image ending (same_good _ (image_in_text kind.Ihex text size) (image, ending) is)
+    held_records kind.Ihex text size image ending (same_ok _ (image_in_text kind.Ihex text size) (image, ending) is)
 held_file Srec text size image ending is =
-    held_records kind.Srec text size image ending (same_good _ (image_in_text kind.Srec text size) (image, ending) is)
+    held_records kind.Srec text size image ending (same_ok _ (image_in_text kind.Srec text size) (image, ending) is)
 held_file Elf text size image ending is = absurd (cc is)
 held_file Raw text size image ending is = search (rules, nat_tests)
 

@@ -40,33 +40,38 @@ seen_outputs stock (Opens opening ∷ output_events) are = (are.0, seen_outputs 
 seen_outputs stock (event ∷ output_events) are = seen_outputs stock output_events are
 
 -- reading and reporting make no file
-none_made : (output_events : List OutputEvent) (r : Record) → OnlyReadsAndPrints output_events
+reads_make_none : (output_events : List OutputEvent) (r : Record) → OnlyReadsAndPrints output_events
     → all_files (after_events output_events r) ≡ all_files r
-none_made [] r reads = refl
-none_made (Opens opening ∷ output_events) r reads = none_made output_events (after_opening opening r) reads
+reads_make_none [] r reads = refl
+reads_make_none (Opens opening ∷ output_events) r reads = reads_make_none output_events (after_opening opening r) reads
     ∙ search (rules, absent_used, files_used, append-nil, files_opened, files_absent)
-none_made (PrintsLine bytes ∷ output_events) r reads = none_made output_events (after_err bytes r) reads
-none_made (event ∷ output_events) r reads = absurd reads
+reads_make_none (PrintsLine bytes ∷ output_events) r reads = reads_make_none output_events (after_err bytes r) reads
+reads_make_none (event ∷ output_events) r reads = absurd reads
 
 -- ---- planning
 
 module _ (settings : Settings) (stock : Stock) (old m : DeskState) (stage_outcome : StageOutcome Plan)
     (unused : old.kept ≡ nothing_kept) (are : OpeningsAreTrue stock [] (all_uses m.kept))
     (verdict : stage_outcome ≡ NotReadToEnd → ⊥) (went : StageCompleted (planned settings) old m stage_outcome) where
+  -- what planning puts out, with the line of a refusal
   abbrev notice : List OutputEvent
   notice = events_with_refusal went.output_events stage_outcome
 
+  -- planning only reads and reports
   only_read : OnlyReadsAndPrints notice
   only_read = search (rules, only_reads settings (went.passed ++ []))
 
   kept_is : m.kept ≡ after_events notice nothing_kept
   kept_is = went.kept ∙ ap (after_events notice) unused
 
+  -- so it made no file
   no_files : all_files m.kept ≡ []
-  no_files = ap all_files kept_is ∙ none_made notice nothing_kept only_read
+  no_files = ap all_files kept_is ∙ reads_make_none notice nothing_kept only_read
 
+  -- its openings are those in the record
   opened : all_openings m.kept ≡ openings_in notice
   opened = ap all_openings kept_is ∙ openings_shown notice nothing_kept
 
+  -- what it saw is what the files held before the run
   pub seen : AreTrueOpenings stock notice
   seen = search (rules, seen_outputs, openings_used, opened, opened_uses, files_used, no_files)

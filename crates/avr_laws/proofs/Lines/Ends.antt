@@ -14,5 +14,6 @@ pub plays_prefix : {E R : Type 0} (d : Dialog E R) (n : ℕ) (transcript : Trans
 plays_prefix d n transcript events r after plays =
     search (rules, append-nil (sent transcript), append-nil (heard transcript))
 
+-- the first of steady exchanges is steady
 pub first_steady : (exchanges : List Exchange) → AreSteady exchanges → IsSteady (first_exchange exchanges)
 first_steady exchanges s = search rules

@@ -23,6 +23,7 @@ module _ {P : Type 0} (m : Device P) where
   GoesAlong d k sent p executions =
       (exchanges : List Exchange) × ((state_after m k d p exchanges).programmer ≡ after_sent_frames m sent executions p)
 
+  -- without a further command the programmer stays as it is
   not_asked : {E R : Type 0} (d : Dialog E R) (p : P) (exchanges : List Exchange)
       → (state_after m 0 d p exchanges).programmer ≡ p
   not_asked (Emit e d) p exchanges = not_asked d p exchanges
@@ -31,33 +32,39 @@ module _ {P : Type 0} (m : Device P) where
   module _ {E R : Type 0} (bytes : List ℕ) (go_on : Reading → Dialog E R) (n : ℕ) (tape : Tape) (p : P)
       (executions : List Execution) (before : List (List ℕ)) (k : ℕ) (valid : IsFrameBody bytes)
       (past : Past n 1 before) where
+    -- what happened to the programmer at this frame
     abbrev execution : Execution
     execution = first_execution executions
 
+    -- the programmer after it
     abbrev on_time : P
     on_time = after_execution execution (m.after bytes p) p m.reset
 
+    -- the replies so far, the last one first
     abbrev replies : List (List ℕ)
     replies = frame_of_reply m n bytes p execution ∷ before
 
-    abbrev rest : Option (Reading × Tape) → List (List ℕ)
-    rest o = frames_in (continue_with_reading (λ reading. played (go_on reading) (next n)) o).events
+    -- the frames that are sent later
+    abbrev later_frames : Option (Reading × Tape) → List (List ℕ)
+    later_frames o = frames_in (continue_with_reading (λ reading. played (go_on reading) (next n)) o).events
 
+    -- the programmer executes the frame's body
     executed : after_frame m (frame n bytes) p ≡ m.after bytes p
     executed = search (rules, cond-true, frame_is_good, body_of_frame)
 
     arrives : on_time ≡ after_execution execution (after_frame m (frame n bytes) p) p m.reset
     arrives = ap (λ (q : P). after_execution execution q p m.reset) (sym executed)
 
-    by_answer : (o : Option (Reading × Tape)) → answer n tape ≡ o → k ≤ length (rest o)
+    -- by what is read for the first command
+    by_answer : (o : Option (Reading × Tape)) → answer n tape ≡ o → k ≤ length (later_frames o)
         → ((reading : Reading) (left : Tape) → k ≤ length (frames_in (played (go_on reading) (next n) left).events)
         → NoneForged m (take k (frames_in (played (go_on reading) (next n) left).events)) left on_time
         (later_executions executions) replies
         → GoesAlong (go_on reading) k (take k (frames_in (played (go_on reading) (next n) left).events)) on_time
         (later_executions executions))
         → on_reading (λ reading left. AreNotForged n replies (cut (take reply_byte_limit (leading_bytes tape)))
-        × NoneForged m (take k (rest o)) left on_time (later_executions executions) replies) o
-        → GoesAlong (Ask bytes go_on) (suc k) (frame n bytes ∷ take k (rest o)) p executions
+        × NoneForged m (take k (later_frames o)) left on_time (later_executions executions) replies) o
+        → GoesAlong (Ask bytes go_on) (suc k) (frame n bytes ∷ take k (later_frames o)) p executions
     by_answer None is few each forged = none k few
       where
         none : (i : ℕ) → i ≤ 0 → GoesAlong (Ask bytes go_on) (suc i) (frame n bytes ∷ take i []) p executions

@@ -11,10 +11,12 @@ use Rattle.stk_emu.specs.Exchange.{Exchange}
 use Rattle.avr_laws.specs.Worked.{fuse_plan, forged_replies}
 use Rattle.avr_laws.specs.AnyLink.{WholeSessionOverExchanges}
 
+-- over these replies the session ends with status 0
 pub forged_run_succeeds : (played (session fuse_plan) 1 forged_replies).outcome ≡ Some (0, 8, [])
 unfolding session opening handshake operation closing play attempts_or_fault attempt exchange answer
 forged_run_succeeds = refl
 
+-- its promise can't hold for a chip with another fuse
 pub promise_void : (p q : Programmer) (exchanges : List Exchange) (bytes : List ℕ) (events : List (Event OutputEvent))
     → (p.chip.lfuse ≡ 0xE2 → ⊥) → WholeSessionOverExchanges fuse_plan p q exchanges bytes events 0 → ⊥
 promise_void p q exchanges bytes events other over =

@@ -12,14 +12,17 @@ use Rattle.avr_tool.specs.Authentic.{first_execution, later_executions, on_readi
 use Rattle.avr_laws.specs.Kept.{NoneForged}
 use Rattle.avr_laws.specs.NoForgedFrame.{AreNotForged, IsAmongFirst, IsNotForged, frame_of_reply}
 
+-- `IsAmongFirst` as a test
 abbrev is_among_first : ℕ → List (List ℕ) → List ℕ → Bool
 is_among_first zero sent piece = false
 is_among_first (suc k) [] piece = false
 is_among_first (suc k) (first ∷ sent) piece = bytes_eq piece first || is_among_first k sent piece
 
+-- `IsNotForged` as a test
 abbrev is_not_forged : List (List ℕ) → List ℕ → Bool
 is_not_forged sent piece = not (is_good piece) || (bytes_eq (body_of piece) refusal || is_among_first 256 sent piece)
 
+-- `AreNotForged` as a test
 abbrev are_not_forged : ℕ → List (List ℕ) → List (List ℕ) → Bool
 are_not_forged n sent [] = true
 are_not_forged n sent (piece ∷ pieces) = is_not_forged sent piece && (is_reply n piece || are_not_forged n sent pieces)
@@ -28,39 +31,41 @@ abbrev on_reading_or_true : (Reading → Tape → Bool) → Option (Reading × T
 on_reading_or_true test None = true
 on_reading_or_true test (Some (reading, tape)) = test reading tape
 
-abbrev none_forged : {P : Type 0} → Device P → List (List ℕ) → Tape → P → List Execution → List (List ℕ) → Bool
-none_forged m [] tape p executions before = true
-none_forged m (piece ∷ pieces) tape p executions before =
+-- `NoneForged` as a test
+abbrev no_frame_forged : {P : Type 0} → Device P → List (List ℕ) → Tape → P → List Execution → List (List ℕ) → Bool
+no_frame_forged m [] tape p executions before = true
+no_frame_forged m (piece ∷ pieces) tape p executions before =
     let n = seq_of piece in
     let execution = first_execution executions in
     let replies = frame_of_reply m n (body_of piece) p execution ∷ before in
     on_reading_or_true (λ reading left.
     are_not_forged n replies (cut (take reply_byte_limit (leading_bytes tape)))
-    && none_forged m pieces left (after_execution execution (m.after (body_of piece) p) p m.reset)
+    && no_frame_forged m pieces left (after_execution execution (m.after (body_of piece) p) p m.reset)
     (later_executions executions) replies) (answer n tape)
 
-either : (a b : Bool) → (a || b) ≡ true → (a ≡ true) ⊎ (b ≡ true)
-either a b is = search rules
+one_of : (a b : Bool) → (a || b) ≡ true → (a ≡ true) ⊎ (b ≡ true)
+one_of a b is = search rules
 
-both : (a b : Bool) → (a && b) ≡ true → (a ≡ true) × (b ≡ true)
-both a b is = search rules
+each_true : (a b : Bool) → (a && b) ≡ true → (a ≡ true) × (b ≡ true)
+each_true a b is = search rules
 
-equal : (x y : List ℕ) → bytes_eq x y ≡ true → x ≡ y
-equal x y is = search (rules, bytes_eq-Decides)
+equal_bytes : (x y : List ℕ) → bytes_eq x y ≡ true → x ≡ y
+equal_bytes x y is = search (rules, bytes_eq-Decides)
 
+-- each test shows what it tests
 among : (k : ℕ) (sent : List (List ℕ)) (piece : List ℕ) → is_among_first k sent piece ≡ true → IsAmongFirst k sent piece
 among zero sent piece is = cc
 among (suc k) [] piece is = cc
 among (suc k) (first ∷ sent) piece is =
-    elim (either (bytes_eq piece first) (is_among_first k sent piece) is) [
-      | inl same ↦ inl (equal piece first same)
+    elim (one_of (bytes_eq piece first) (is_among_first k sent piece) is) [
+      | inl same ↦ inl (equal_bytes piece first same)
       | inr more ↦ inr (among k sent piece more)
     ]
 
-not_forged : (sent : List (List ℕ)) (piece : List ℕ) → is_not_forged sent piece ≡ true → IsNotForged sent piece
-not_forged sent piece is good =
-    elim (either (bytes_eq (body_of piece) refusal) (is_among_first 256 sent piece) (by_good (is_good piece) good is)) [
-      | inl same ↦ inl (equal (body_of piece) refusal same)
+not_forged_by_test : (sent : List (List ℕ)) (piece : List ℕ) → is_not_forged sent piece ≡ true → IsNotForged sent piece
+not_forged_by_test sent piece is good =
+    elim (one_of (bytes_eq (body_of piece) refusal) (is_among_first 256 sent piece) (by_good (is_good piece) good is)) [
+      | inl same ↦ inl (equal_bytes (body_of piece) refusal same)
       | inr more ↦ inr (among 256 sent piece more)
     ]
   where
@@ -68,25 +73,28 @@ not_forged sent piece is good =
     by_good true e is = is
     by_good false e is = cc
 
+-- up to the awaited reply none is forged
 none_forged_yet : (n : ℕ) (sent pieces : List (List ℕ)) → are_not_forged n sent pieces ≡ true
     → AreNotForged n sent pieces
 none_forged_yet n sent [] is = tt
 none_forged_yet n sent (piece ∷ pieces) is =
-    let parts = both (is_not_forged sent piece) (is_reply n piece || are_not_forged n sent pieces) is in (
-      not_forged sent piece parts.0,
-      λ other. elim (either (is_reply n piece) (are_not_forged n sent pieces) parts.1) [
+    let parts = each_true (is_not_forged sent piece) (is_reply n piece || are_not_forged n sent pieces) is in (
+      not_forged_by_test sent piece parts.0,
+      λ other. elim (one_of (is_reply n piece) (are_not_forged n sent pieces) parts.1) [
         | inl taken ↦ absurd (true≢false (sym taken ∙ other))
         | inr more ↦ none_forged_yet n sent pieces more
       ],
     )
 
+-- by what is read, if anything is
 on_true : (Test : Reading → Tape → Bool) (Claim : Reading → Tape → Type 0) (came : Option (Reading × Tape))
     → ((reading : Reading) (left : Tape) → Test reading left ≡ true → Claim reading left)
     → on_reading_or_true Test came ≡ true → on_reading Claim came
 on_true Test Claim came each is = search rules
 
+-- so a run whose test is true has no forged frame
 pub by_test : {P : Type 0} (m : Device P) (pieces : List (List ℕ)) (tape : Tape) (p : P) (executions : List Execution)
-    (before : List (List ℕ)) → none_forged m pieces tape p executions before ≡ true
+    (before : List (List ℕ)) → no_frame_forged m pieces tape p executions before ≡ true
     → NoneForged m pieces tape p executions before
 by_test m [] tape p executions before is = tt
 by_test m (piece ∷ pieces) tape p executions before is =
@@ -95,10 +103,10 @@ by_test m (piece ∷ pieces) tape p executions before is =
     let replies = frame_of_reply m n (body_of piece) p execution ∷ before in
     let read = cut (take reply_byte_limit (leading_bytes tape)) in
     let later = λ (left : Tape).
-    none_forged m pieces left (after_execution execution (m.after (body_of piece) p) p m.reset)
+    no_frame_forged m pieces left (after_execution execution (m.after (body_of piece) p) p m.reset)
     (later_executions executions) replies in
     on_true _ _ (answer n tape) (λ reading left passed.
-    let parts = both (are_not_forged n replies read) (later left) passed in (
+    let parts = each_true (are_not_forged n replies read) (later left) passed in (
       none_forged_yet n replies read parts.0,
       by_test m pieces left (after_execution execution (m.after (body_of piece) p) p m.reset)
           (later_executions executions) replies parts.1,

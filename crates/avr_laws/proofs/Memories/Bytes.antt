@@ -15,10 +15,10 @@ use Rattle.avr_tool.proofs.Plans.Standings.{faulty_fine}
 
 -- an image that was laid over a memory is held
 pub laid_holds : (image : Image) (bytes : List ℕ) → HoldsImage image (with_image image bytes)
-laid_holds image bytes i b held l = search (rules, get_laid, length-laid)
+laid_holds image bytes i b held inside = search (rules, get_laid, length-laid)
 
 pub and_from_blank : (b : ℕ) → b < 256 → bit_and 255 b ≡ b
-and_from_blank b l = and_comm 255 b ∙ (and_numeral b 254 refl ∙ mod-eq_of_lt l)
+and_from_blank b small = and_comm 255 b ∙ (and_numeral b 254 refl ∙ mod-eq_of_lt small)
 
 pub bytes_same : (xs : List ℕ) → bytes_eq xs xs ≡ true
 bytes_same [] = refl

@@ -10,29 +10,30 @@ use Rattle.stk_emu.proofs.Memories.LaidImages.{length-and_in, get_and_in}
 use Rattle.avr_tool.specs.Items.{has_erase}
 use Rattle.avr_laws.specs.WrittenBytes.{IsWrittenAt, AreWrittenAt, and_all, IsMadeByImages}
 
-are_later : (item : Item) (xs : List Item) (addr : ℕ) (bytes : List ℕ) → AreWrittenAt xs addr bytes
+-- what was written by later items was written by all
+written_later : (item : Item) (xs : List Item) (addr : ℕ) (bytes : List ℕ) → AreWrittenAt xs addr bytes
     → AreWrittenAt (item ∷ xs) addr bytes
-are_later item xs addr [] are = tt
-are_later item xs addr (b ∷ bytes) are = (inr are.0, are_later item xs addr bytes are.1)
+written_later item xs addr [] are = tt
+written_later item xs addr (b ∷ bytes) are = (inr are.0, written_later item xs addr bytes are.1)
 
 -- a write whose byte is ANDed to the one before
-anded : (image : Image) (xs : List Item) (addr before byte mid after : ℕ) → byte_at image addr ≡ Some byte
+write_anded : (image : Image) (xs : List Item) (addr before byte mid after : ℕ) → byte_at image addr ≡ Some byte
     → mid ≡ bit_and before byte
     → IsMadeByImages xs addr mid after → IsMadeByImages (Write Flash image ∷ xs) addr before after
-anded image xs addr before byte mid after at e m = elim m.first_is [
+write_anded image xs addr before byte mid after at is_anded made = elim made.first_is [
   | inl is ↦ record {
     first = before;
-    bytes = byte ∷ m.bytes;
+    bytes = byte ∷ made.bytes;
     first_is = inl refl;
-    are_there = (inl at, are_later (Write Flash image) xs addr m.bytes m.are_there);
-    is = m.is ∙ ap (λ (first : ℕ). and_all first m.bytes) (is ∙ e);
+    are_there = (inl at, written_later (Write Flash image) xs addr made.bytes made.are_there);
+    is = made.is ∙ ap (λ (first : ℕ). and_all first made.bytes) (is ∙ is_anded);
   }
   | inr is ↦ record {
-    first = m.first;
-    bytes = m.bytes;
+    first = made.first;
+    bytes = made.bytes;
     first_is = inr is;
-    are_there = are_later (Write Flash image) xs addr m.bytes m.are_there;
-    is = m.is;
+    are_there = written_later (Write Flash image) xs addr made.bytes made.are_there;
+    is = made.is;
   }
 ]
 
@@ -41,51 +42,55 @@ abbrev Writes : Image → ℕ → ℕ → ℕ → Type 0
 Writes image addr before mid = (mid ≡ before)
     ⊎ ((byte : ℕ) × (byte_at image addr ≡ Some byte) × (mid ≡ bit_and before byte))
 
+-- an address inside flash is inside it after a write
 still_inside : (image : Image) (xs : List ℕ) (addr : ℕ) (lock : Bool) → addr < length xs
     → addr < length (if lock then xs else and_in image xs)
-still_inside image xs addr lock l = search (rules, length-and_in)
+still_inside image xs addr lock inside = search (rules, length-and_in)
 
-joined : (image : Image) (xs : List Item) (addr before mid after : ℕ) → Writes image addr before mid
+-- a write before other items
+write_joined : (image : Image) (xs : List Item) (addr before mid after : ℕ) → Writes image addr before mid
     → IsMadeByImages xs addr mid after → IsMadeByImages (Write Flash image ∷ xs) addr before after
-joined image xs addr before mid after g' m = search (rules, are_later, anded)
+write_joined image xs addr before mid after writes made = search (rules, written_later, write_anded)
 
 module _ (part : Part) (addr : ℕ) where
   abbrev byte : Memories → ℕ
   byte m = get_or m.flash addr 0
 
-  pub made : (xs : List Item) (m : Memories) → addr < length m.flash
+  -- a byte of flash is made by the images that items write, and by an erase
+  pub byte_made : (xs : List Item) (m : Memories) → addr < length m.flash
       → IsMadeByImages xs addr (byte m) (byte (effects part xs m))
-  made [] m l = record { first = byte m; bytes = []; first_is = inl refl; are_there = tt; is = refl }
-  made (Erase ∷ xs) m l = search (
+  byte_made [] m l = record { first = byte m; bytes = []; first_is = inl refl; are_there = tt; is = refl }
+  byte_made (Erase ∷ xs) m l = search (
     rules,
-    are_later,
+    written_later,
     get_or-replicate,
     length-replicate,
-    made xs (effect part Erase m) (search (rules, length-replicate)),
+    byte_made xs (effect part Erase m) (search (rules, length-replicate)),
   )
-  made (Write Flash image ∷ xs) m l = search (
+  byte_made (Write Flash image ∷ xs) m l = search (
     rules,
-    joined,
+    write_joined,
     get_and_in,
     still_inside,
-    made xs (effect part (Write Flash image) m) (still_inside image m.flash addr (are_locked m) l),
+    byte_made xs (effect part (Write Flash image) m) (still_inside image m.flash addr (are_locked m) l),
   )
-  made (Write mem image ∷ xs) m l = search (rules, are_later, made xs (effect part (Write mem image) m) l)
+  byte_made (Write mem image ∷ xs) m l = search (rules, written_later, byte_made xs (effect part (Write mem image) m) l)
 
 -- the first items of a list
-there_of : (k : ℕ) (xs : List Item) (addr byte : ℕ) → IsWrittenAt (take k xs) addr byte → IsWrittenAt xs addr byte
-there_of zero xs addr byte is = absurd is
-there_of (suc k) [] addr byte is = absurd is
-there_of (suc k) (x ∷ xs) addr byte (inl is) = inl is
-there_of (suc k) (x ∷ xs) addr byte (inr is) = inr (there_of k xs addr byte is)
+written_first : (k : ℕ) (xs : List Item) (addr byte : ℕ) → IsWrittenAt (take k xs) addr byte → IsWrittenAt xs addr byte
+written_first zero xs addr byte is = absurd is
+written_first (suc k) [] addr byte is = absurd is
+written_first (suc k) (x ∷ xs) addr byte (inl is) = inl is
+written_first (suc k) (x ∷ xs) addr byte (inr is) = inr (written_first k xs addr byte is)
 
-pub all_there : (k : ℕ) (xs : List Item) (addr : ℕ) (bytes : List ℕ) → AreWrittenAt (take k xs) addr bytes
+pub all_written_first : (k : ℕ) (xs : List Item) (addr : ℕ) (bytes : List ℕ) → AreWrittenAt (take k xs) addr bytes
     → AreWrittenAt xs addr bytes
-all_there k xs addr [] are = tt
-all_there k xs addr (b ∷ bytes) are = (there_of k xs addr b are.0, all_there k xs addr bytes are.1)
+all_written_first k xs addr [] are = tt
+all_written_first k xs addr (b ∷ bytes) are = (written_first k xs addr b are.0, all_written_first k xs addr bytes are.1)
 
-pub erase_of : (k : ℕ) (xs : List Item) → has_erase (take k xs) ≡ true → has_erase xs ≡ true
-erase_of zero xs has = absurd (true≢false (sym has))
-erase_of (suc k) [] has = has
-erase_of (suc k) (Erase ∷ xs) has = refl
-erase_of (suc k) (Write mem image ∷ xs) has = erase_of k xs has
+-- if the first items erase, all do
+pub erase_in_first : (k : ℕ) (xs : List Item) → has_erase (take k xs) ≡ true → has_erase xs ≡ true
+erase_in_first zero xs has = absurd (true≢false (sym has))
+erase_in_first (suc k) [] has = has
+erase_in_first (suc k) (Erase ∷ xs) has = refl
+erase_in_first (suc k) (Write mem image ∷ xs) has = erase_in_first k xs has

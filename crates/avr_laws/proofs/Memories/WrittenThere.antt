@@ -28,6 +28,7 @@ module _ (part : Part) (mem : Mem) (addr : ℕ)
   abbrev IsInside : Memories → Type 0
   IsInside m = addr < length (memory_in part mem m)
 
+  -- a blank byte stays blank while no image has a byte for it
   stays_blank : (xs : List Item) (m : Memories) → IsInside m → LeaveUnwritten xs mem addr → held m ≡ 255
       → held (effects part xs m) ≡ 255
   stays_blank [] m inside free blank = blank
@@ -52,6 +53,7 @@ module _ (part : Part) (mem : Mem) (addr : ℕ)
     others_stay,
   )
 
+  -- so a byte is blank after an erase
   pub erased_is_blank : (xs : List Item) (m : Memories) → IsInside m → LeaveUnwritten xs mem addr → has_erase xs ≡ true
       → held (effects part xs m) ≡ 255
   erased_is_blank [] m inside free has = absurd (true≢false (sym has))
@@ -63,6 +65,7 @@ module _ (part : Part) (mem : Mem) (addr : ℕ)
     size_stays,
   )
 
+  -- a memory keeps its size
   pub sizes_stay : (xs : List Item) (m : Memories)
       → length (memory_in part mem (effects part xs m)) ≡ length (memory_in part mem m)
   sizes_stay [] m = refl
@@ -71,19 +74,22 @@ module _ (part : Part) (mem : Mem) (addr : ℕ)
 
 -- ---- and it takes the image's byte
 
+-- a blank byte takes any byte
 anded_blank : (o : Option ℕ) (x b : ℕ) → o ≡ Some b → x ≡ 255 → b < 256 → and_with o x ≡ b
 anded_blank o x b is blank small = search (rules, and_from_blank)
 
+-- EEPROM of a chip that isn't locked takes an image
 eeprom_there : (image : Image) (xs : List ℕ) (is_locked : Bool) → is_locked ≡ false
     → HoldsImage image (if is_locked then xs else with_image image xs)
 eeprom_there image xs is_locked free = search (rules, true≢false, laid_holds)
 
 module _ (part : Part) (image : Image) (first : List Item) (before : Memories) (bytes : HoldsBytes image) where
-  abbrev mid : Memories
-  mid = effects part first before
+  abbrev after_first : Memories
+  after_first = effects part first before
 
-  flash_blank : IsErasedFor Flash image first → (i b : ℕ) → byte_at image i ≡ Some b → i < length mid.flash
-      → get_or mid.flash i 0 ≡ 255
+  -- flash is blank where an image has a byte, if an erase came before
+  flash_blank : IsErasedFor Flash image first → (i b : ℕ) → byte_at image i ≡ Some b → i < length after_first.flash
+      → get_or after_first.flash i 0 ≡ 255
   flash_blank erased i b is l =
       let blanked : (m : Memories) → i < length m.flash
       → get_or (memory_in part Flash (effect part Erase m)) i 0 ≡ 255 =
@@ -93,13 +99,15 @@ module _ (part : Part) (image : Image) (first : List Item) (before : Memories) (
       erased_is_blank part Flash i blanked sized first before
       (omega (arith, l, sizes_stay part Flash i blanked sized first before)) (erased.1 i b is) erased.0
 
-  lock_blank : IsErasedFor Lock image first → (b : ℕ) → byte_at image 0 ≡ Some b → mid.lock ≡ 255
+  -- so is the lock
+  lock_blank : IsErasedFor Lock image first → (b : ℕ) → byte_at image 0 ≡ Some b → after_first.lock ≡ 255
   lock_blank erased b is = erased_is_blank part Lock 0 (λ m inside. refl) (λ m. refl) first before (omega arith)
       (erased.1 0 b is) erased.0
 
-  pub there : (mem : Mem) → WriteTakesEffect mem image first mid
-      → HoldsImage image (memory_in part mem (write_effect mem image mid))
-  there mem taken = search (
+  -- so the image is in its memory once it is written
+  pub image_there : (mem : Mem) → WriteTakesEffect mem image first after_first
+      → HoldsImage image (memory_in part mem (write_effect mem image after_first))
+  image_there mem taken = search (
     rules,
     true≢false,
     length-and_in,

@@ -15,18 +15,20 @@ without_lines (Frame bytes ∷ events) = Frame bytes ∷ without_lines events
 without_lines (Emitted (PrintsLine line) ∷ events) = without_lines events
 without_lines (Emitted event ∷ events) = Emitted event ∷ without_lines events
 
-pub joined : (a b : List (Event OutputEvent)) → without_lines (a ++ b) ≡ without_lines a ++ without_lines b
-joined [] b = refl
-joined (Frame bytes ∷ a) b = ap (λ events. Frame bytes ∷ events) (joined a b)
-joined (Emitted (PrintsLine line) ∷ a) b = joined a b
-joined (Emitted event ∷ a) b = ap (λ events. Emitted event ∷ events) (joined a b)
+pub lines_of_append : (a b : List (Event OutputEvent)) → without_lines (a ++ b) ≡ without_lines a ++ without_lines b
+lines_of_append [] b = refl
+lines_of_append (Frame bytes ∷ a) b = ap (λ events. Frame bytes ∷ events) (lines_of_append a b)
+lines_of_append (Emitted (PrintsLine line) ∷ a) b = lines_of_append a b
+lines_of_append (Emitted event ∷ a) b = ap (λ events. Emitted event ∷ events) (lines_of_append a b)
 
+-- without the printed lines the frames stay
 frames_kept : (events : List (Event OutputEvent)) → frames_in (without_lines events) ≡ frames_in events
 frames_kept [] = refl
 frames_kept (Frame bytes ∷ events) = ap (λ frames. bytes ∷ frames) (frames_kept events)
 frames_kept (Emitted (PrintsLine line) ∷ events) = frames_kept events
 frames_kept (Emitted event ∷ events) = frames_kept events
 
+-- and their bytes
 bytes_kept : (events : List (Event OutputEvent)) → bytes_sent (without_lines events) ≡ bytes_sent events
 bytes_kept [] = refl
 bytes_kept (Frame bytes ∷ events) = ap (λ more. bytes ++ more) (bytes_kept events)
@@ -42,9 +44,11 @@ pub record AreAlike {R : Type 0} (a b : Dialog OutputEvent R) : Type 0 where
   pub over : (seq : ℕ) (tape : Tape) → silent (played a seq tape) ≡ silent (played b seq tape)
 
 module _ {R : Type 0} {a b : Dialog OutputEvent R} (are_alike : AreAlike a b) (seq : ℕ) (tape : Tape) where
+  -- so they have the same result
   pub same_outcome : (played a seq tape).outcome ≡ (played b seq tape).outcome
   same_outcome = ap (λ p. p.outcome) (are_alike.over seq tape)
 
+  -- and the same events, apart from printed lines
   pub same_events : without_lines (played a seq tape).events ≡ without_lines (played b seq tape).events
   same_events = ap (λ p. p.events) (are_alike.over seq tape)
 
@@ -56,23 +60,28 @@ module _ {R : Type 0} {a b : Dialog OutputEvent R} (are_alike : AreAlike a b) (s
 
 -- ---- laws
 
+-- each dialog is like itself
 pub alike : {R : Type 0} (a : Dialog OutputEvent R) → AreAlike a a
 alike a = record { over = λ seq tape. refl }
 
+-- a run after these events
 silent_after : {R : Type 0} (events : List (Event OutputEvent)) (p : Played OutputEvent R)
     → silent (prepend_events events p) ≡ prepend_events (without_lines events) (silent p)
-silent_after events p = search (rules, joined)
+silent_after events p = search (rules, lines_of_append)
 
+-- a run that goes on after a result
 silent_on : {A B : Type 0} (events : List (Event OutputEvent)) (o : Option (A × ℕ × Tape))
     (go_on : A → ℕ → Tape → Played OutputEvent B) → silent (prepend_events events (continued o go_on))
     ≡ prepend_events (without_lines events) (continued o (λ a seq tape. silent (go_on a seq tape)))
 silent_on events o go_on = search (rules, silent_after)
 
+-- runs that go on in the same way
 same_on : {A B : Type 0} (events : List (Event OutputEvent)) (o : Option (A × ℕ × Tape))
     (f g : A → ℕ → Tape → Played OutputEvent B) → ((a : A) (seq : ℕ) (tape : Tape) → f a seq tape ≡ g a seq tape)
     → prepend_events events (continued o f) ≡ prepend_events events (continued o g)
 same_on events o f g same = search rules
 
+-- dialogs that go on alike after alike ones
 pub alike_bind : {A B : Type 0} {a b : Dialog OutputEvent A} {f g : A → Dialog OutputEvent B}
     → AreAlike a b → ((x : A) → AreAlike (f x) (g x)) → AreAlike (a >>= f) (b >>= g)
 alike_bind {a = a} {b = b} {f = f} {g = g} first later = record {
@@ -85,16 +94,18 @@ alike_bind {a = a} {b = b} {f = f} {g = g} first later = record {
       ∙ sym (ap silent (played_bind b g seq tape))))));
 }
 
-asked : {R : Type 0} (bytes : List ℕ) (f g : Reading → Tape → Played OutputEvent R) (o : Option (Reading × Tape))
+-- by what is read
+alike_asked : {R : Type 0} (bytes : List ℕ) (f g : Reading → Tape → Played OutputEvent R) (o : Option (Reading × Tape))
     → ((reading : Reading) (left : Tape) → silent (f reading left) ≡ silent (g reading left))
     → silent (prepend_events (Frame bytes ∷ []) (continue_with_reading f o))
     ≡ silent (prepend_events (Frame bytes ∷ []) (continue_with_reading g o))
-asked bytes f g o each = search rules
+alike_asked bytes f g o each = search rules
 
+-- dialogs that go on alike after each reading
 alike_ask : {R : Type 0} (body : List ℕ) {f g : Reading → Dialog OutputEvent R}
     → ((reading : Reading) → AreAlike (f reading) (g reading)) → AreAlike (Ask body f) (Ask body g)
 alike_ask body {f = f} {g = g} each = record {
-  over = λ seq tape. asked (frame seq body) (λ reading. played (f reading) (next seq))
+  over = λ seq tape. alike_asked (frame seq body) (λ reading. played (f reading) (next seq))
       (λ reading. played (g reading) (next seq)) (answer seq tape)
       (λ reading left. (each reading).over (next seq) left);
 }

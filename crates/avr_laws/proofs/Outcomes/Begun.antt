@@ -62,20 +62,23 @@ module _ (d : Dialog OutputEvent ℕ) (bodies : SendsValidBodies d) (tape : Tape
   abbrev count : ℕ
   count = length (frames bytes)
 
-  some : (others : List (List ℕ)) × (all ≡ frames bytes ++ others)
-  some = frames_prefix (played d 1 tape).events bytes prefix.0 (sends_whole d 1 tape bodies) prefix.1
+  -- the bytes hold the first frames that the dialog sends
+  more_frames : (others : List (List ℕ)) × (all ≡ frames bytes ++ others)
+  more_frames = frames_prefix (played d 1 tape).events bytes prefix.0 (sends_whole d 1 tape bodies) prefix.1
 
-  fewer : count ≤ length all
-  fewer = let whole = ap length some.1 in omega (arith, whole, length-append (frames bytes) some.0)
+  -- they are at most all frames
+  within : count ≤ length all
+  within = let whole = ap length more_frames.1 in omega (arith, whole, length-append (frames bytes) more_frames.0)
 
+  -- so they are its first frames
   first_frames : take count all ≡ frames bytes
-  first_frames = search (rules, some, take-append-le, take_all)
+  first_frames = search (rules, more_frames, take-append-le, take_all)
 
   -- the exchanges that lead to the programmer after these frames
   pub left_along : {P : Type 0} (m : Device P) (p : P) (executions : List Execution)
       → NoneForged m (frames bytes) tape p executions [] → (exchanges : List Exchange)
       × ((state_after m count d p exchanges).programmer ≡ after_sent_frames m (frames bytes) executions p)
-  left_along m p executions none = search (rules, first_go_along, fewer, first_frames, none)
+  left_along m p executions none = search (rules, first_go_along, within, first_frames, none)
 
 -- the plan's first write operations, if the chip has the plan's geometry and, without -F, its signature
 pub first_made : (plan : Plan) (part : Part) (sound : IsPart part) → HasGeometryOf plan.part part
@@ -125,6 +128,7 @@ module _ (Begun : Plan → Transcript → Type 0)
     abbrev before : List (Event OutputEvent)
     before = map Emitted (planned s r.openings).output_events
 
+    -- the run over what it opened and received
     over : prepend_events before (run_after_planning (planned s r.openings).stage_outcome tape)
         ≡ record { events = r.events; outcome = Some (status, r.next, on_tape r.left ++ []) }
     over =
@@ -133,6 +137,7 @@ module _ (Begun : Plan → Transcript → Type 0)
         ∙ ap (λ (t : Tape). prepend_events before (run_after_planning (planned s r.openings).stage_outcome t))
         (append-nil tape)) ∙ r.is [] []
 
+    -- all that passed, passed during the run
     same : y.link.transcript ≡ r.during
     same = r.grows ∙ ap (λ (t : Transcript). t ++ r.during) silent
 
@@ -146,29 +151,36 @@ module _ (Begun : Plan → Transcript → Type 0)
     none_sent outcome is none = search (rules, same, over, emitted_bytes, none)
 
     module _ (plan : Plan) (made : (planned s r.openings).stage_outcome ≡ Produced plan) where
+      -- the session's part of the run
       over_plan : prepend_events before (played (session plan) 1 tape)
           ≡ record { events = r.events; outcome = Some (status, r.next, on_tape r.left ++ []) }
       over_plan = search (rules, over)
 
+      -- it sent what the session sends
       sent_is : bytes_sent (played (session plan) 1 tape).events ≡ sent r.during
       sent_is = search (rules, emitted_bytes, over_plan)
 
+      -- it put out what planning and the session put out
       outputs_are : outputs r.events
           ≡ (planned s r.openings).output_events ++ outputs (played (session plan) 1 tape).events
       outputs_are = search (rules, over_plan, emitted_outputs)
 
+      -- what passed is a session's
       prefix : IsBytePrefixOf (sent y.link.transcript)
           (bytes_sent (played (session plan) 1 (heard y.link.transcript)).events)
       prefix = search (rules, same, append-nil, sent_is)
 
+      -- so it began the plan that was asked for
       begun : KeepsPlan s x.desk.kept y.desk.kept [] (λ plan. Begun plan y.link.transcript)
       begun = search (rules, run_keeps, outputs_are, plan_fitted, prefix)
 
+    -- by what planning came to
     by_outcome : (outcome : StageOutcome Plan) → (planned s r.openings).stage_outcome ≡ outcome → Claim
     by_outcome (Produced plan) is = inr (begun plan is)
     by_outcome (Refused line) is = inl (none_sent (Refused line) is refl)
     by_outcome NotReadToEnd is = inl (none_sent NotReadToEnd is refl)
 
+    -- so it is for each whole run
     pub run_begun : Claim
     run_begun = by_outcome (planned s r.openings).stage_outcome refl
 
@@ -176,6 +188,7 @@ module _ (Begun : Plan → Transcript → Type 0)
 
   module _ (s : Settings) (x : Devices) (y : Devices) (status : ℕ) (silent : x.link.transcript ≡ [])
       (with : WithPlan s x.desk (λ plan desk. RunsSession plan (devices x.link desk) y status)) where
+    -- so it is with a session that broke off
     pub session_begun : KeepsPlan s x.desk.kept y.desk.kept [] (λ plan. Begun plan y.link.transcript)
     session_begun =
         session_keeps s x y status (λ plan. Begun plan y.link.transcript) with
@@ -186,11 +199,12 @@ module _ (Begun : Plan → Transcript → Type 0)
 
   -- ---- each port
 
-  over_streams : (s : Settings) (x y : Devices) (status : ℕ) → x.link.transcript ≡ []
+  -- over standard streams
+  streams_begun : (s : Settings) (x y : Devices) (status : ℕ) → x.link.transcript ≡ []
       → IsRun s x y status ⊎ IsStopped s x y status → (sent y.link.transcript ≡ [])
       ⊎ KeepsPlan s x.desk.kept y.desk.kept [] (λ plan. Begun plan y.link.transcript)
-  over_streams s x y status silent (inl r) = run_begun s x y status r silent
-  over_streams s x y status silent (inr (inl stopped, one)) =
+  streams_begun s x y status silent (inl r) = run_begun s x y status r silent
+  streams_begun s x y status silent (inr (inl stopped, one)) =
       inr (session_begun s x y 1 silent
       (record {
         plan = stopped.plan;
@@ -198,8 +212,9 @@ module _ (Begun : Plan → Transcript → Type 0)
         made = stopped.made;
         then_is = inr (stopped.then_is, refl);
       }))
-  over_streams s x y status silent (inr (inr stopped, one)) = search rules
+  streams_begun s x y status silent (inr (inr stopped, one)) = search rules
 
+  -- over the network
   over_net : (peers : Peers) (s : Settings) (address : Bytes) (old new : DeskState) (status : ℕ)
       → RunsOverNet peers.unused (peers.at_address address) s address old new status
       → (peers.unused ⊎ peers.at_address address None)
@@ -210,21 +225,25 @@ module _ (Begun : Plan → Transcript → Type 0)
   over_net peers s address old new status (inr (inl (over, with, one))) = inl (inr over)
   over_net peers s address old new status (inr (inr (lacks, unused))) = inl (inl unused)
 
+  -- nothing passed over standard streams
   none : (old new : Devices) → new.link ≡ old.link → old.link.transcript ≡ [] → new.link.transcript ≡ []
   none old new same silent = ap (λ (l : LinkState). l.transcript) same ∙ silent
 
+  -- at each port but a service's
   at_port : (peers : Peers) (text : Bytes) (port : Port) (s : Settings) (old new : Devices) (status : ℕ)
       → NamesPort text port → old.link.transcript ≡ [] → ActsAtPort peers port s old new status
       → BeginsPlanAt Begun peers.at_address peers.unused port s new.link.transcript old.desk.kept new.desk.kept
-  at_port peers text Stdio s old new status names silent (runs, unused) = search (rules, over_streams)
+  at_port peers text Stdio s old new status names silent (runs, unused) = search (rules, streams_begun)
   at_port peers text (Emulated file) s old new status names silent (runs, same, unused) = search (rules, none, same)
   at_port peers text (Network address) s old new status names silent (runs, same) = search (rules, none, same, over_net)
   at_port peers text (Served port file) s old new status names silent acts = absurd names
 
-  served : (peers : Peers) (port file : Bytes) (s : Settings) (old new : Devices) (status : ℕ)
+  -- a service passes nothing over standard streams
+  service_passes : (peers : Peers) (port file : Bytes) (s : Settings) (old new : Devices) (status : ℕ)
       → old.link.transcript ≡ [] → ActsAtPort peers (Served port file) s old new status → new.link.transcript ≡ []
-  served peers port file s old new status silent (serves, same) = none old new same silent
+  service_passes peers port file s old new status silent (serves, same) = none old new same silent
 
+  -- so it is with the program
   pub words_begun : {C : Type 0} (line : CommandLine C) (peers : Peers) (old new : Devices) (status : ℕ)
       → StartsProgram line peers old new status → old.link.transcript ≡ []
       → BeginsCommandLine Begun line.is_words peers.at_address peers.unused new.link.transcript old.desk.kept
@@ -236,7 +255,7 @@ module _ (Begun : Plan → Transcript → Type 0)
         are,
         elim (serves_or_asks words s took.asked) [
           | inl (serves, (port, file, is)) ↦
-              search (rules, served)
+              search (rules, service_passes)
           | inr asks ↦ inr (s, asks, at_port peers asks.port.0 s.port s old new status asks.port.2 silent took.then_is)
         ],
       )

@@ -115,6 +115,7 @@ module _ (s : Settings) (plan : Plan) (x y : Devices) (r : IsRun s x y 0)
   abbrev tape : Tape
   tape = over_tape s x y r
 
+  -- all that passed, passed during the run
   these : passed ≡ r.during
   these = same s x y r plan made_is silent
 
@@ -131,9 +132,11 @@ module _ (s : Settings) (plan : Plan) (x y : Devices) (r : IsRun s x y 0)
     abbrev its_plan : Plan
     its_plan = on_part part plan
 
+    -- its tasks fit the chip's own part
     its_tasks : All (IsFitted part) plan.tasks
     its_tasks = tasks_fit plan part fits (plan_fitted s r.openings plan made_is)
 
+    -- so its session sends valid bodies
     pub its_bodies : SendsValidBodies (session its_plan)
     its_bodies = session_asks its_plan sound its_tasks
 
@@ -145,21 +148,25 @@ module _ (s : Settings) (plan : Plan) (x y : Devices) (r : IsRun s x y 0)
 
       -- ---- without -F it has the signature of the plan's part
 
-      begins : Upholds (over_any_exchange real.device) (λ body q. HasMemories real before q) NoOutput
+      -- the handshake gives the signature, or a fault
+      beginning : Upholds (over_any_exchange real.device) (λ body q. HasMemories real before q) NoOutput
           (AfterBeginning real before) handshake p
-      begins = beginning_goes part sound real before p sizes signs idle
+      beginning = beginning_goes part sound real before p sizes signs idle
 
+      -- a dialog over what was received
       abbrev run : Dialog OutputEvent ℕ → Played OutputEvent ℕ
       run d = played d 1 tape
 
+      -- the session ended with status 0
       ended : (run (from_handshake plan handshake)).outcome ≡ Some (0, r.next, left_over s x y r)
       ended = sym (ap (λ (d : Dialog OutputEvent ℕ). (run d).outcome) (session_is plan))
           ∙ ap (λ (q : Played OutputEvent ℕ). q.outcome) (played_is s x y r plan made_is silent)
 
       module _ (first : ForgesNoFrame real.device handshake 1 tape p executions []) where
+        -- the chip has the signature of the plan's part, or `-F` was given
         pub own : plan.switches.force ≡ false → part.signature ≡ plan.part.signature
         own unforced =
-            own_signature plan part real before handshake 1 tape p executions r.next (left_over s x y r) begins.holds
+            own_signature plan part real before handshake 1 tape p executions r.next (left_over s x y r) beginning.holds
             (no_forged_frame_authentic real.device handshake 1 tape p executions [] tt first) ended unforced
 
         -- so its session differs in printed lines alone
@@ -175,18 +182,22 @@ module _ (s : Settings) (plan : Plan) (x y : Devices) (r : IsRun s x y 0)
             → ForgesNoFrame real.device d 1 tape p executions []
         none_of d more are = search (rules, none_forged, these)
 
+        -- the session's first frames are those of its handshake
         sent_first : IsFirstPart (played handshake 1 tape) (run (from_handshake plan handshake))
         sent_first = first_frames plan handshake 1 tape (sends_valid its_plan handshake
             (subst (λ (d : Dialog OutputEvent ℕ). SendsValidBodies d) (session_is its_plan) its_bodies))
 
+        -- so are the first frames that passed
         first_are : frames (sent passed) ≡ frames_in (played handshake 1 tape).events ++ sent_first.0
         first_are = ap (λ (t : Transcript). frames (sent t)) these
             ∙ (ap frames (sym (sent_is s x y r plan made_is silent))
             ∙ (ap (λ (d : Dialog OutputEvent ℕ). frames (bytes_sent (run d).events)) (session_is plan) ∙ sent_first.1))
 
+        -- so none of the handshake's frames is forged
         first_forged : ForgesNoFrame real.device handshake 1 tape p executions []
         first_forged = none_of handshake sent_first.0 first_are
 
+        -- so the plan is kept on the chip's own part
         pub kept_on_part : KeepsOnPart part plan before
             (real.memories (after_sent_frames real.device (frames (sent passed)) executions p)) x.desk.kept y.desk.kept
         kept_on_part = record {

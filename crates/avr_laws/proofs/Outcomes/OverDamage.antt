@@ -43,6 +43,7 @@ use Rattle.avr_laws.proofs.Outcomes.Promise.{same, tape}
 abbrev IsGood : List ℕ → Type 0
 IsGood piece = is_good piece ≡ true
 
+-- whole frames are pieces
 all_pieces : (fs : List (List ℕ)) → AreWhole fs → All IsPiece fs
 all_pieces [] whole = All-nil IsPiece
 all_pieces (f ∷ fs) whole = All-cons IsPiece f fs whole.0.piece (all_pieces fs whole.1)
@@ -63,6 +64,7 @@ sends_good (Ask bytes go_on) n t sound = All-cons IsGood _ _ (frame_is_good n by
 
 -- if a link forges no frame for a session, it forges none for its handshake
 module _ {P : Type 0} (m : Device P) (plan : Plan) where
+  -- by what is read for the first command
   handshake_forges_none : (d : Dialog ⊥ StepOutcome) (n : ℕ) (tape : Tape) (p : P) (executions : List Execution)
       (before : List (List ℕ)) → ForgesNoFrame m (from_handshake plan d) n tape p executions before
       → ForgesNoFrame m d n tape p executions before
@@ -85,6 +87,7 @@ module _ (s : Settings) (plan : Plan) (x y : Devices) (r : IsRun s x y 0)
   abbrev executions : List Execution
   executions = executions_by_arrival through
 
+  -- the link forges no frame for the session
   forges_none : ForgesNoFrame device (session plan) 1 (tape s x y r) p executions []
   forges_none = search (rules, same, brings_no_frame, reply_fits_frame)
 
@@ -92,6 +95,7 @@ module _ (s : Settings) (plan : Plan) (x y : Devices) (r : IsRun s x y 0)
   abbrev its : Dialog OutputEvent ℕ
   its = session (on_part p.chip.part plan)
 
+  -- this session differs in printed lines alone
   are : AreAlike (session plan) its
   are = are_alike s plan x y r made_is silent p.chip.part sound.part fits (emulated p.chip.part sound.part) p executions
       (sound_fits p.chip sound) (sound_idle p sound)
@@ -101,15 +105,19 @@ module _ (s : Settings) (plan : Plan) (x y : Devices) (r : IsRun s x y 0)
       (subst (λ (d : Dialog OutputEvent ℕ). ForgesNoFrame device d 1 (tape s x y r) p executions []) (session_is plan)
       forges_none))
 
+  -- it sends valid bodies
   bodies : SendsValidBodies its
   bodies = its_bodies s plan x y r made_is silent p.chip.part sound.part fits
 
+  -- it sends the frames that passed
   these : frames (sent y.link.transcript) ≡ frames_in (played its 1 (tape s x y r)).events
   these = frames_alike s plan x y r made_is silent (on_part p.chip.part plan) are bodies
 
+  -- the plan's own session sends the same frames
   own : frames_in (played (session plan) 1 (tape s x y r)).events ++ [] ≡ frames (sent y.link.transcript)
   own = search (rules, append-nil, tape, same_frames, are, these)
 
+  -- so the plan is kept on the chip's own part
   pub over_damage : KeepsOnPart p.chip.part plan (memories_of p.chip)
       (memories_of (after_frames device (frames got) p).chip) x.desk.kept y.desk.kept
   over_damage =

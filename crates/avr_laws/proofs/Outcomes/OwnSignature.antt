@@ -39,6 +39,7 @@ abbrev status_in : Option (ℕ × ℕ × Tape) → ℕ
 status_in None = 0
 status_in (Some result) = result.0
 
+-- a run with status 1 isn't one with status 0
 not_zero : (n seq : ℕ) (tape left : Tape)
     → ◌≡◌ {A = Option (ℕ × ℕ × Tape)} (Some (1, n, tape)) (Some (0, seq, left)) → ⊥
 not_zero n seq tape left is = let clash : 1 ≡ 0 = ap status_in is in omega (arith, clash)
@@ -50,22 +51,25 @@ succeeds_by : {R : Type 0} (r : R) (seq : ℕ) (left : Tape) (Claim : Type 0)
     → Claim) → (continue_with_reading go_on o).outcome ≡ Some (r, seq, left) → Claim
 succeeds_by r seq left Claim go_on o each is = search rules
 
+-- the frames of bytes that begin with one
 cut_frame : (f bytes : List ℕ) → IsWhole f → frames (f ++ bytes) ≡ f ∷ frames bytes
 cut_frame f bytes whole = search (rules, cut_first, cond-true)
 
-whole_frame : (n : ℕ) (body : List ℕ) → IsFrameBody body → IsWhole (frame n body)
-whole_frame n body valid = search (rules, frame_is_piece, and_parts, frame_is_good)
+-- a frame is whole and good
+frame_is_whole : (n : ℕ) (body : List ℕ) → IsFrameBody body → IsWhole (frame n body)
+frame_is_whole n body valid = search (rules, frame_is_piece, and_parts, frame_is_good)
 
 -- the frames of the one run are the first ones of the other
 abbrev pub IsFirstPart : {A : Type 0} → Played ⊥ A → Played OutputEvent ℕ → Type 0
 IsFirstPart first whole = (more : List (List ℕ)) × (frames (bytes_sent whole.events) ≡ frames_in first.events ++ more)
 
-onwards : {A : Type 0} (first : Reading → Tape → Played ⊥ A) (whole : Reading → Tape → Played OutputEvent ℕ)
+-- by what is read
+first_part_on : {A : Type 0} (first : Reading → Tape → Played ⊥ A) (whole : Reading → Tape → Played OutputEvent ℕ)
     (o : Option (Reading × Tape))
     → ((reading : Reading) (left : Tape) → IsFirstPart (first reading left) (whole reading left))
     → IsFirstPart (continue_with_reading first o) (continue_with_reading whole o)
-onwards first whole None each = ([], refl)
-onwards first whole (Some (reading, left)) each = each reading left
+first_part_on first whole None each = ([], refl)
+first_part_on first whole (Some (reading, left)) each = each reading left
 
 module _ (plan : Plan) where
   abbrev s : Switches
@@ -86,30 +90,33 @@ module _ (plan : Plan) where
       >>= λ outcome. Done (checked_by (signature_checked plan.part.signature s.force) outcome))
       (opening_output s.quiet plan.part))
 
+  -- a session is its handshake and what comes after it
   pub session_is : session plan ≡ from_handshake handshake
   unfolding session opening
   session_is = refl
 
+  -- if the session sends valid bodies, its handshake does
   pub sends_valid : (d : Dialog ⊥ StepOutcome) → SendsValidBodies (from_handshake d) → SendsValidBodies d
   sends_valid (Done outcome) valid = tt
   sends_valid (Emit e d) valid = absurd e
   sends_valid (Ask body go_on) valid = (valid.0, λ reading. sends_valid (go_on reading) (valid.1 reading))
 
   -- the first frames of the session are those of its handshake
-  pub first_frames : (d : Dialog ⊥ StepOutcome) (n : ℕ) (tape : Tape) → SendsValidBodies d
-      → IsFirstPart (played d n tape) (played (from_handshake d) n tape)
+  pub first_frames : (dialog : Dialog ⊥ StepOutcome) (n : ℕ) (tape : Tape) → SendsValidBodies dialog
+      → IsFirstPart (played dialog n tape) (played (from_handshake dialog) n tape)
   first_frames (Done outcome) n tape valid = (_, refl)
-  first_frames (Emit e d) n tape valid = absurd e
+  first_frames (Emit e dialog) n tape valid = absurd e
   first_frames (Ask body go_on) n tape valid =
-      let rest = onwards (λ reading. played (go_on reading) (next n))
+      let rest = first_part_on (λ reading. played (go_on reading) (next n))
       (λ reading. played (from_handshake (go_on reading)) (next n)) (answer n tape)
       (λ reading left. first_frames (go_on reading) (next n) left (valid.1 reading)) in (
         rest.0,
-        search (rules, cut_frame, whole_frame),
+        search (rules, cut_frame, frame_is_whole),
       )
 
   -- ---- a session with status 0 took the signature that it found
 
+  -- after a fault no session ends with status 0
   never_fine : (d : Dialog ⊥ (Result ⊤ HostFault)) (n : ℕ) (tape : Tape) (seq : ℕ) (left : Tape)
       → (played (reported d (λ outcome. []) >>= (λ closed. Done Over) >>= λ standing. Done (status_of standing)) n
       tape).outcome ≡ Some (0, seq, left) → ⊥
@@ -118,8 +125,9 @@ module _ (plan : Plan) where
   never_fine (Ask body go_on) n tape seq left is =
       succeeds_by 0 seq left ⊥ (λ reading. played (reported (go_on reading) (λ outcome. []) >>= (λ closed. Done Over)
       >>= λ standing. Done (status_of standing)) (next n)) (answer n tape)
-      (λ reading rest e so. never_fine (go_on reading) (next n) rest seq left so) is
+      (λ reading rest is_read so. never_fine (go_on reading) (next n) rest seq left so) is
 
+  -- so one that does had no fault when it was opened
   no_fault : (outputs : List OutputEvent) (standing : Standing) (n : ℕ) (tape : Tape) (seq : ℕ) (left : Tape)
       → (played (after (emits outputs (Done standing))) n tape).outcome ≡ Some (0, seq, left) → standing ≡ NoFault
   no_fault [] NoFault n tape seq left is = refl
@@ -131,20 +139,22 @@ module _ (plan : Plan) where
   abbrev pub HasAccepted : StepOutcome → Type 0
   HasAccepted outcome = (found : Bytes) × (outcome ≡ Ok found) × (s.force ≡ false → found ≡ plan.part.signature)
 
+  -- a fault is no success
   pub no_host_fault : (fault : StepFault) → standing {A = Bytes} (Err (host_fault fault)) ≡ NoFault → ⊥
   no_host_fault fault is = search rules
 
+  -- a signature that was accepted is the part's, or `-F` was given
   pub accepted : (outcome : StepOutcome)
       → standing (checked_by (signature_checked plan.part.signature s.force) outcome) ≡ NoFault → HasAccepted outcome
-  accepted (Ok found) is = (
+  accepted (Ok found) fine = (
     found,
     refl,
     λ unforced. elim (cases_Bool (bytes_eq found plan.part.signature)) [
       | inl same ↦ search (rules, bytes_eq-Decides)
-      | inr differs ↦ absurd (cc (rw (unforced, differs) at is))
+      | inr differs ↦ absurd (cc (rw (unforced, differs) at fine))
     ],
   )
-  accepted (Err fault) is = absurd (no_host_fault fault is)
+  accepted (Err fault) fine = absurd (no_host_fault fault fine)
 
   -- ---- over a link that forges no frame it is the chip's
 
@@ -153,6 +163,7 @@ module _ (plan : Plan) where
     Begins d p = HoldsFrom (over_any_exchange real.device) (λ body q. HasMemories real m q) NoOutput
         (AfterBeginning real m) d p
 
+    -- so the chip's signature is the part's
     pub own_signature : (d : Dialog ⊥ StepOutcome) (n : ℕ) (tape : Tape) (p : real.P) (executions : List Execution)
         (seq : ℕ) (left : Tape) → Begins d p → RepliesAreAuthentic real.device d n tape p executions
         → (played (from_handshake d) n tape).outcome ≡ Some (0, seq, left)

@@ -35,19 +35,23 @@ pub record WritesFiles (output_events : List OutputEvent) (files : List Writing)
   pub created : (r : Record) → all_files (after_events output_events r) ≡ all_files r ++ named_files files
   pub output : (r : Record) → (after_events output_events r).output ≡ r.output ++ dash_output files
 
+-- the files that have names, of two lists
 named_joined : (fs gs : List Writing) → named_files (fs ++ gs) ≡ named_files fs ++ named_files gs
 named_joined fs gs = filter-append (λ (file : Writing). not (is_dash file.name)) fs gs
 
+-- the files on standard output, of two lists
 put_joined : (fs gs : List Writing) → dash_output (fs ++ gs) ≡ dash_output fs ++ dash_output gs
 put_joined [] gs = refl
 put_joined (f ∷ fs) gs = search (rules, cases_Bool, append_assoc, put_joined fs gs)
 
-none : WritesFiles [] []
-none = record { created = λ r. sym (append-nil (all_files r)); output = λ r. sym (append-nil r.output) }
+-- no output writes no file
+none_written : WritesFiles [] []
+none_written = record { created = λ r. sym (append-nil (all_files r)); output = λ r. sym (append-nil r.output) }
 
-pub both : (a b : List OutputEvent) (fs gs : List Writing) → WritesFiles a fs → WritesFiles b gs
+-- what is put out after something else
+pub both_write : (a b : List OutputEvent) (fs gs : List Writing) → WritesFiles a fs → WritesFiles b gs
     → WritesFiles (a ++ b) (fs ++ gs)
-both a b fs gs first second = record {
+both_write a b fs gs first second = record {
   created = λ r. ap all_files (after_append a b r) ∙ (second.created (after_events a r)
       ∙ (ap (λ (files : List Writing). files ++ named_files gs) (first.created r)
       ∙ (append_assoc (all_files r) (named_files fs) (named_files gs)
@@ -58,22 +62,26 @@ both a b fs gs first second = record {
       ∙ ap (λ (bytes : Bytes). r.output ++ bytes) (sym (put_joined fs gs)))));
 }
 
-line : (bytes : Bytes) → WritesFiles (PrintsLine bytes ∷ []) []
-line bytes = record { created = λ r. sym (append-nil (all_files r)); output = λ r. sym (append-nil r.output) }
+-- a printed line writes no file
+line_writes : (bytes : Bytes) → WritesFiles (PrintsLine bytes ∷ []) []
+line_writes bytes = record { created = λ r. sym (append-nil (all_files r)); output = λ r. sym (append-nil r.output) }
 
+-- a line that a test leaves out
 if_line : (b : Bool) (bytes : Bytes) → WritesFiles (if b then [] else PrintsLine bytes ∷ []) []
-if_line b bytes = search (rules, none, line)
+if_line b bytes = search (rules, none_written, line_writes)
 
-opened : (opening : Opening) → WritesFiles (Opens opening ∷ []) []
-opened (Absent name) = record {
+-- nor does an opening
+opening_writes : (opening : Opening) → WritesFiles (Opens opening ∷ []) []
+opening_writes (Absent name) = record {
   created = λ r. files_absent name r ∙ sym (append-nil (all_files r));
   output = λ r. sym (append-nil r.output);
 }
-opened (Found reading) = record {
+opening_writes (Found reading) = record {
   created = λ r. files_opened (ToRead reading) r;
   output = λ r. sym (append-nil r.output);
 }
 
+-- a save writes its file, or standard output
 saved_as : (b : Bool) (file text : Bytes) → is_dash file ≡ b
     → WritesFiles (if b then WritesOutput text ∷ [] else CreatesFile file ∷ WritesFile text ∷ []) (record {
       name = file;
@@ -91,9 +99,11 @@ saved_as false file text is =
 abbrev unprinted : Record → Record
 unprinted r = record r { messages = [] }
 
+-- one output event does the same without earlier messages
 one_unprinted : (event : OutputEvent) (r : Record) → unprinted (after event (unprinted r)) ≡ unprinted (after event r)
 one_unprinted event r = search rules
 
+-- so do all
 all_unprinted : (output_events : List OutputEvent) (r : Record)
     → unprinted (after_events output_events (unprinted r)) ≡ unprinted (after_events output_events r)
 all_unprinted [] r = refl
@@ -105,6 +115,7 @@ all_unprinted (event ∷ output_events) r = search (
   all_unprinted output_events (after event r),
 )
 
+-- without printed lines the record is the same but for messages
 lines_dropped : (events : List (Event OutputEvent)) (r : Record)
     → unprinted (after_events (outputs (without_lines events)) r) ≡ unprinted (after_events (outputs events) r)
 lines_dropped [] r = refl
@@ -114,6 +125,7 @@ lines_dropped (Emitted (PrintsLine bytes) ∷ events) r =
     ∙ (sym (all_unprinted (outputs events) r) ∙ all_unprinted (outputs events) (after (PrintsLine bytes) r))
 lines_dropped (Emitted event ∷ events) r = lines_dropped events (after event r)
 
+-- so events that differ in printed lines alone write the same files
 pub writes_alike : (a b : List (Event OutputEvent)) (files : List Writing) → without_lines a ≡ without_lines b
     → WritesFiles (outputs a) files → WritesFiles (outputs b) files
 writes_alike a b files same writes = record {
@@ -128,72 +140,84 @@ writes_alike a b files same writes = record {
 
 -- ---- planning writes none
 
+-- reading and reporting write no file
 pub reading_writes : (output_events : List OutputEvent) → OnlyReadsAndPrints output_events
     → WritesFiles output_events []
-reading_writes [] reads = none
+reading_writes [] reads = none_written
 reading_writes (Opens opening ∷ output_events) reads =
-    both (Opens opening ∷ []) output_events [] [] (opened opening) (reading_writes output_events reads)
-reading_writes (PrintsLine bytes ∷ output_events) reads = grind (arith, both, line, reading_writes output_events reads)
+    both_write (Opens opening ∷ []) output_events [] [] (opening_writes opening) (reading_writes output_events reads)
+reading_writes (PrintsLine bytes ∷ output_events) reads =
+    grind (arith, both_write, line_writes, reading_writes output_events reads)
 reading_writes (event ∷ output_events) reads = absurd reads
 
 -- ---- the actions of the expected run
 
-informed : (quiet : ℕ) (pieces : List Bytes) → WritesFiles (informs quiet pieces) []
-informed quiet pieces = if_line _ _
+-- an informing line
+informing_writes : (quiet : ℕ) (pieces : List Bytes) → WritesFiles (informs quiet pieces) []
+informing_writes quiet pieces = if_line _ _
 
-warned : (quiet : ℕ) (pieces : List Bytes) → WritesFiles (warns quiet pieces) []
-warned quiet pieces = if_line _ _
+-- a warning
+warning_writes : (quiet : ℕ) (pieces : List Bytes) → WritesFiles (warns quiet pieces) []
+warning_writes quiet pieces = if_line _ _
 
+-- a save and its line
 saved_then : (file text : Bytes) (quiet : ℕ) (pieces : List Bytes)
     → WritesFiles (saving_output file text ++ informs quiet pieces) (record { name = file; bytes = text } ∷ [])
 saved_then file text quiet pieces =
-    both (saving_output file text) (informs quiet pieces) (record { name = file; bytes = text } ∷ []) []
-    (saved_as (is_dash file) file text refl) (informed quiet pieces)
+    both_write (saving_output file text) (informs quiet pieces) (record { name = file; bytes = text } ∷ []) []
+    (saved_as (is_dash file) file text refl) (informing_writes quiet pieces)
 
 -- of an outcome without files
-notice : {A : Type 0} (part : Part) (good : A → List OutputEvent) (outcome : Result A HostFault)
+fault_or_writes : {A : Type 0} (part : Part) (good : A → List OutputEvent) (outcome : Result A HostFault)
     → ((a : A) → WritesFiles (good a) []) → WritesFiles (fault_line_or part good outcome) []
-notice part good outcome each = search (rules, line)
+fault_or_writes part good outcome each = search (rules, line_writes)
 
-same_signature : (b : Bool) (output_events : List OutputEvent) → WritesFiles output_events []
+-- a warning that is left out if signatures agree
+unless_same : (b : Bool) (output_events : List OutputEvent) → WritesFiles output_events []
     → WritesFiles (if b then [] else output_events) []
-same_signature b output_events writes = search (rules, none)
+unless_same b output_events writes = search (rules, none_written)
 
 module _ (part : Part) (s : Switches) where
-  of_action : (action : Action) (m : Memories) → WritesFiles (action_expected part s action m).output_events
+  -- an action writes its file
+  action_writes : (action : Action) (m : Memories) → WritesFiles (action_expected part s action m).output_events
       (action_files part s action m)
-  of_action OpenSession m = search (rules, both, informed, warned, same_signature)
-  of_action (CompareImage mem image) m = search (rules, notice, informed)
-  of_action (SaveMemory mem format file) m = search (rules, saved_then)
-  of_action (SkipAction SkippedErase) m = search (rules, warned)
-  of_action z0 m = search (rules, informed)
+  action_writes OpenSession m = search (rules, both_write, informing_writes, warning_writes, unless_same)
+  action_writes (CompareImage mem image) m = search (rules, fault_or_writes, informing_writes)
+  action_writes (SaveMemory mem format file) m = search (rules, saved_then)
+  action_writes (SkipAction SkippedErase) m = search (rules, warning_writes)
+  action_writes z0 m = search (rules, informing_writes)
 
-  leaves : (action : Action) (m : Memories)
+  -- the memories after an action
+  action_leaves : (action : Action) (m : Memories)
       → (action_expected part s action m).memories ≡ effects part (action_items action) m
-  leaves action m = search rules
+  action_leaves action m = search rules
 
-  in_turn : (first : Expected) (standing : Standing) (next : Memories → Expected) (fs gs : List Writing)
+  -- one action, and then the others
+  actions_in_turn : (first : Expected) (standing : Standing) (next : Memories → Expected) (fs gs : List Writing)
       → first.standing ≡ standing → WritesFiles first.output_events fs
       → ((next first.memories).standing ≡ NoFault → WritesFiles (next first.memories).output_events gs)
       → (then_from first standing next).standing ≡ NoFault → WritesFiles (then_from first standing next).output_events
       (fs ++ gs)
-  in_turn first standing next fs gs is one more fine = search (rules, both)
+  actions_in_turn first standing next fs gs is one more fine = search (rules, both_write)
 
-  of_actions : (all : List Action) (m : Memories) → (actions_expected part s all m).standing ≡ NoFault
+  -- so do all actions, if there is no fault
+  actions_write : (all : List Action) (m : Memories) → (actions_expected part s all m).standing ≡ NoFault
       → WritesFiles (actions_expected part s all m).output_events (actions_files part s all m)
-  of_actions [] m fine = none
-  of_actions (action ∷ all) m fine =
+  actions_write [] m fine = none_written
+  actions_write (action ∷ all) m fine =
       let first = action_expected part s action m in
-      in_turn first first.standing (actions_expected part s all) (action_files part s action m)
-      (actions_files part s all (effects part (action_items action) m)) refl (of_action action m)
+      actions_in_turn first first.standing (actions_expected part s all) (action_files part s action m)
+      (actions_files part s all (effects part (action_items action) m)) refl (action_writes action m)
       (subst (λ (n : Memories). (actions_expected part s all n).standing ≡ NoFault
       → WritesFiles (actions_expected part s all n).output_events
-      (actions_files part s all (effects part (action_items action) m))) (sym (leaves action m))
-      (of_actions all (effects part (action_items action) m))) fine
+      (actions_files part s all (effects part (action_items action) m))) (sym (action_leaves action m))
+      (actions_write all (effects part (action_items action) m))) fine
 
+-- status 0 means no fault
 fine_by : (standing : Standing) → status_of standing ≡ 0 → standing ≡ NoFault
 fine_by standing is = search rules
 
+-- so the expected run writes the plan's files
 pub expected_writes : (plan : Plan) (m : Memories) → (expected_run plan m).status ≡ 0
     → WritesFiles (expected_run plan m).output_events (saved_files plan m)
 expected_writes plan m zero =
@@ -201,17 +225,19 @@ expected_writes plan m zero =
     let fine : working.standing ≡ NoFault = fine_by working.standing zero in
     let files = actions_files plan.part plan.switches (actions plan) m in
     subst (λ (files : List Writing). WritesFiles (expected_run plan m).output_events files)
-    (append-nil files ∙ files_by_tasks plan m) (both working.output_events (ending_output plan working.standing)
-    files [] (of_actions plan.part plan.switches (actions plan) m fine)
+    (append-nil files ∙ files_by_tasks plan m) (both_write working.output_events (ending_output plan working.standing)
+    files [] (actions_write plan.part plan.switches (actions plan) m fine)
     (subst (λ (standing : Standing). WritesFiles (ending_output plan standing) []) (sym fine)
-    (informed plan.switches.quiet (codes "done" ∷ []))))
+    (informing_writes plan.switches.quiet (codes "done" ∷ []))))
 
 -- ---- a whole run
 
+-- the files that were made, by the uses
 pub created_by_uses : (files : List Writing) (old now : Record) → all_files now ≡ all_files old ++ named_files files
     → files_among (all_uses now) ≡ files_among (all_uses old) ++ named_files files
 created_by_uses files old now is = search (rules, files_used)
 
+-- what is put out saves these files
 pub these_saved : (output_events : List OutputEvent) (files : List Writing) (old now : DeskState)
     → WritesFiles output_events files → ChangesRecord (after_events output_events) old now
     → FilesAreSaved files old.kept now.kept

@@ -40,34 +40,40 @@ module _ (plan : Plan) (part : Part) (sound : IsPart part) (real : Real part) (u
   abbrev Refused : Standing → List OutputEvent → Spot real.P → Type 0
   Refused at emitted y = (at ≡ NoFault → ⊥) × HasMemories real m y.0
 
+  -- what is made of the signature that was found
   abbrev judged : StepOutcome → Result Bytes HostFault
   judged outcome = checked_by (signature_checked plan.part.signature plan.switches.force) outcome
 
-  taken : (o : StepOutcome) (q : real.P) → AfterBeginning real m o q
+  -- a handshake over this chip gives its signature, which is refused
+  refused_there : (o : StepOutcome) (q : real.P) → AfterBeginning real m o q
       → (standing (judged o) ≡ NoFault → ⊥) × HasMemories real m q
-  taken (Ok found) q a = (
+  refused_there (Ok found) q a = (
     λ fine.
         let a' = accepted plan (Ok found) fine in
         let same : found ≡ a'.0 = cc a'.1 in
         other (sym a.1 ∙ (same ∙ a'.2 unforced)),
     settled_idle real m q a.0,
   )
-  taken (Err fault) q i = (no_host_fault plan fault, i)
+  refused_there (Err fault) q i = (no_host_fault plan fault, i)
 
+  -- so opening the session ends in a fault
   began : (q : real.P) → HasMemories real m q → Keeps real.device (HasMemories real m)
       (λ (r : Result Bytes HostFault) q. (standing r ≡ NoFault → ⊥) × HasMemories real m q)
       (handshake >>= λ outcome. Done (judged outcome)) q
-  began q idle = outcome_mapped judged (beginning_goes part sound real m q f signs idle) taken
+  began q idle = outcome_mapped judged (beginning_goes part sound real m q f signs idle) refused_there
 
-  opened : (z : Spot real.P) → HasMemories real m z.0 → Prints real.device Anything Kept Refused
+  -- opening the session keeps the memories
+  opening_spares : (z : Spot real.P) → HasMemories real m z.0 → Prints real.device Anything Kept Refused
       (reported (handshake >>= λ outcome. Done (judged outcome)) (opening_output plan.switches.quiet plan.part)) z
-  opened z idle = search (rules, prints_reported, on_link, began, any_outputs)
+  opening_spares z idle = search (rules, prints_reported, on_link, began, any_outputs)
 
+  -- after a fault no action comes
   no_more : (next : Dialog OutputEvent Standing) (at : Standing) (emitted : List OutputEvent) (y : Spot real.P)
       → Refused at emitted y → Prints real.device Anything (λ x. Kept (emitted ++ x))
       (λ b x. Refused b (emitted ++ x)) (unless_fault next at) y
   no_more next at emitted y r = search (rules, stops)
 
+  -- the end of the session keeps them, too
   ends : (at : Standing) (emitted : List OutputEvent) (y : Spot real.P) → Refused at emitted y
       → Prints real.device Anything (λ x. Kept (emitted ++ x)) (λ (b : Standing) x. Kept (emitted ++ x))
       (ending plan.part plan.switches at) y
@@ -80,6 +86,7 @@ module _ (plan : Plan) (part : Part) (sound : IsPart part) (real : Real part) (u
       (λ closed x z i. stops real.device Anything (λ (at : Standing) x z. Kept x z) Over x z i)
   ends Over emitted y r = stops real.device Anything (λ (at : Standing) x z. Kept x z) Over emitted y r.1
 
+  -- so does the session
   session_prints : (z : Spot real.P) → HasMemories real m z.0
       → Prints real.device Anything Kept (λ (status : ℕ) x y. Kept x y) (session plan) z
   session_prints z idle =
@@ -87,14 +94,16 @@ module _ (plan : Plan) (part : Part) (sound : IsPart part) (real : Real part) (u
       (sym (session_is plan))
       (prints_then real.device Anything (λ x y i. i)
       (prints_then real.device Anything (λ x y i. i)
-      (prints_then real.device Anything (λ x y i. i) (opened z idle) (no_more (later_actions plan))) ends)
+      (prints_then real.device Anything (λ x y i. i) (opening_spares z idle) (no_more (later_actions plan))) ends)
       (λ at emitted y i. stops real.device Anything (λ (status : ℕ) x y. Kept x y) (status_of at) emitted y i))
 
+  -- at each moment
   session_spares : (k : ℕ) (p : real.P) (exchanges : List Exchange) → HasMemories real m p
       → HasMemories real m (state_after real.device k (session plan) p exchanges).programmer
   session_spares k p exchanges idle =
       (at_moment real.device Anything (λ status x y i. i) k (session_prints (p, exchanges) idle)).now
 
+-- so does a run, whole or not
 pub spared : (plan : Plan) → All (IsFitted plan.part) plan.tasks → IsPart plan.part → (passed : Transcript)
     → IsBytePrefixOf (sent passed) (bytes_sent (played (session plan) 1 (heard passed)).events)
     → (part : Part) (sound : IsPart part) (real : Real part) → plan.switches.force ≡ false

@@ -47,6 +47,7 @@ module _ (plan : Plan) (part : Part) (sound : IsPart part) (fits : HasGeometryOf
     (keeping : has_erase (items plan) ≡ true → erase_keeps_eeprom part before ≡ true
     → ItemsKeepEeprom part (items plan)) (old now : Record) (there : KeepsOnPart part plan left after old now)
     (begun : HasFirstOperations (on_part part plan) before left) where
+  -- the second run repaired what the first one left
   as_one : AsOne plan part before after
   as_one = (
     done_again (on_part part plan) before left after sound (tasks_fit plan part fits fitted) sizes keeping begun
@@ -58,6 +59,7 @@ module _ (plan : Plan) (part : Part) (sound : IsPart part) (fits : HasGeometryOf
 
 module _ {P : Type 0} (part : Part) (m : Device P) (view : P → Memories) (IsIn IsReady : P → Type 0)
     (becomes : Mem → ℕ → ℕ) where
+  -- so it is if the second run starts where the first one ended
   pub as_one_by_any : (plan : Plan) (first second : Transcript) (old now : Record) (p q : P)
       → IsBegunByAny part m view IsIn IsReady becomes plan first
       → IsKeptByAny part m view IsIn IsReady becomes plan second old now
@@ -106,6 +108,7 @@ module _ (plan : Plan) (first second : Transcript) (old now : Record) (p q : Pro
     abbrev after : Memories
     after = memories_of (after_sent_frames device (frames (sent second)) others q).chip
 
+    -- the second run kept its plan
     there : KeepsOnPart p.chip.part plan (memories_of q.chip) after old now
     there = search rules
 
@@ -113,6 +116,7 @@ module _ (plan : Plan) (first second : Transcript) (old now : Record) (p q : Pro
     are_alike : AreAlike (session plan) (session its_plan)
     are_alike = session_alike plan p.chip.part fits there.signature
 
+    -- what the first run left
     ended : ReportsOverExchanges its_plan p (after_sent_frames device (frames (sent first)) executions p)
         (exchanges_on_tape (session its_plan) 1 (heard first) executions) (sent first)
         (played (session its_plan) 1 (heard first)).events
@@ -120,6 +124,7 @@ module _ (plan : Plan) (first second : Transcript) (old now : Record) (p q : Pro
         (alike_forges_none device (session plan) (session its_plan) 1 (heard first) p executions [] are_alike none)
         (subst (IsBytePrefixOf (sent first)) (same_bytes are_alike 1 (heard first)) prefix)
 
+    -- so both left what one run leaves
     pub emulated_as_one : AsOne plan p.chip.part (memories_of p.chip) after
     emulated_as_one = as_one plan p.chip.part sound.part fits fitted (memories_of p.chip) (memories_of q.chip) after
         (its_sizes its_plan p sound refl its_tasks) keeping old now there

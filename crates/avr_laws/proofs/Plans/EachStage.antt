@@ -36,11 +36,13 @@ module _ (Holds : (A : Type 0) → Stage A → List Bytes → Type 0)
       → ((a : A) → Holds B (go_on a) []) → Holds B (stage >>= go_on) names
   last {A = A} {B = B} stage go_on names first second = search (rules, append-nil names)
 
+  -- the stage of the part file
   parts : (name : Option Bytes) → Holds (List Part) (parts_stage name) (part_file name)
   parts None = settled (List Part) (Ok [])
   parts (Some name) = of_parts name
 
   module _ (s : Switches) where
+    -- the stage of an image
     image : (memory : Mem) (size : ℕ) (name : Bytes) (kind : Format)
         → Holds (List (Option ℕ)) (image_stage s memory size name kind) (image_file name kind)
     image memory size name format.Immediate = search rules
@@ -48,39 +50,43 @@ module _ (Holds : (A : Type 0) → Stage A → List Bytes → Type 0)
 
     module _ (part : Part) where
       -- an update's image, then its task
-      imaged : (u : Update) (make : List (Option ℕ) → Task)
+      update_holds : (u : Update) (make : List (Option ℕ) → Task)
           → Holds Task (update_image s part u >>= λ bytes. result_stage (Ok (make bytes))) (image_file u.file u.format)
-      imaged u make = search (rules, last, image)
+      update_holds u make = search (rules, last, image)
 
+      -- a write, by whether its memory can be written
       write : (u : Update) → Holds Task (write_stage s part u) (file_of_op u op.Write)
       write u = by_memory (is_writable u.memory)
         where
           by_memory : (b : Bool) → Holds Task
               (if b then (update_image s part u >>= λ bytes. result_stage (Ok (Write u.memory bytes)))
               else result_stage (Err (read_only_line u.memory))) (if b then image_file u.file u.format else [])
-          by_memory true = imaged u (Write u.memory)
+          by_memory true = update_holds u (Write u.memory)
           by_memory false = settled Task (Err (read_only_line u.memory))
 
-      operation : (u : Update) (o : Op) → Holds Task (op_stage s part u o) (file_of_op u o)
-      operation u op.Write = write u
-      operation u o = search (rules, imaged)
+      -- an update, by its operation
+      operation_holds : (u : Update) (o : Op) → Holds Task (op_stage s part u o) (file_of_op u o)
+      operation_holds u op.Write = write u
+      operation_holds u o = search (rules, update_holds)
 
+      -- the updates, one after the other
       tasks : (before : List Task) (updates : List Update)
           → Holds (List Task) (tasks_stage s part before updates) (files_of updates)
       tasks before [] = settled (List Task) (Ok before)
       tasks before (u ∷ updates) =
           onward Task (List Task) (task_stage s part u) (λ task. tasks_stage s part (before ++ task ∷ []) updates)
-          (file_of_op u u.op) (files_of updates) (operation u u.op) (λ task. tasks (before ++ task ∷ []) updates)
+          (file_of_op u u.op) (files_of updates) (operation_holds u u.op) (λ task. tasks (before ++ task ∷ []) updates)
 
   -- the plan made of a part and tasks
-  abbrev made : Settings → Part → List Task → Stage Plan
-  made s part tasks = result_stage (Ok (record { part = part; tasks = tasks; switches = s.switches }))
+  abbrev plan_stage : Settings → Part → List Task → Stage Plan
+  plan_stage s part tasks = result_stage (Ok (record { part = part; tasks = tasks; switches = s.switches }))
 
+  -- planning as a whole
   pub whole_plan : (s : Settings) → Holds Plan (planned s) (files_read s)
   whole_plan s =
-      let behind : Part → Stage Plan = λ part. tasks_stage s.switches part [] s.updates >>= made s part in
-      onward (List Part) Plan (parts_stage s.parts) (λ all. part_stage s.part all >>= behind) (part_file s.parts)
+      let after_part : Part → Stage Plan = λ part. tasks_stage s.switches part [] s.updates >>= plan_stage s part in
+      onward (List Part) Plan (parts_stage s.parts) (λ all. part_stage s.part all >>= after_part) (part_file s.parts)
       (files_of s.updates) (parts s.parts)
-      (λ all. onward Part Plan (part_stage s.part all) behind [] (files_of s.updates)
+      (λ all. onward Part Plan (part_stage s.part all) after_part [] (files_of s.updates)
       (settled Part (or_line (λ fault. no_part_line s.part) (part_of_id s.part all)))
       (λ part. search (rules, last, tasks)))

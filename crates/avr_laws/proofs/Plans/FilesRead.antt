@@ -20,12 +20,14 @@ use Rattle.avr_plan.specs.Planning.{checked_parts, warning_events, checked_image
 
 -- ---- the openings
 
+-- openings that were true in all output were true in its first part
 pub seen_first : (stock : Stock) (first second : List OutputEvent) → AreTrueOpenings stock (first ++ second)
     → AreTrueOpenings stock first
 seen_first stock [] second seen = tt
 seen_first stock (Opens opening ∷ first) second seen = (seen.0, seen_first stock first second seen.1)
 seen_first stock (event ∷ first) second seen = seen_first stock first second seen
 
+-- and in its second part
 pub seen_second : (stock : Stock) (first second : List OutputEvent) → AreTrueOpenings stock (first ++ second)
     → AreTrueOpenings stock second
 seen_second stock [] second seen = seen
@@ -52,16 +54,20 @@ module _ (stock : Stock) where
       → ((stage openings).stage_outcome ≡ NotReadToEnd → ⊥)
       → IsSame (stage openings) (stage (openings_of_files stock names ++ rest)) rest
 
+  -- a stage with the same result
   same_verdict : {A : Type 0} (one other : Result A Bytes) (openings rest : List Opening) → other ≡ one
       → IsSame (result_stage one openings) (result_stage other rest) rest
   same_verdict one other openings rest is = search rules
 
+  -- a stage that reads nothing
   settled_fixed : {A : Type 0} (result : Result A Bytes) → Sees (result_stage result) []
   settled_fixed result openings rest seen read = same_verdict result result openings rest refl
 
+  -- a stage that only reports
   output_fixed : (output_events : List OutputEvent) → Sees (output_stage output_events) []
   output_fixed output_events openings rest seen read = search rules
 
+  -- two stages, one after the other
   onward : {A B : Type 0} (stage : Stage A) (go_on : A → Stage B) (prefix back : List Bytes) → Sees stage prefix
       → ((a : A) → Sees (go_on a) back) → Sees (stage >>= go_on) (prefix ++ back)
   onward {A = A} stage go_on prefix back first second openings rest seen read =
@@ -84,14 +90,17 @@ module _ (stock : Stock) where
         (file_stage name limit judge (read_whole name (content_of_name stock [] name) ∷ rest)) rest
     behind_opening opening openings rest is read = search (rules, same_verdict)
 
-    file : Sees (file_stage name limit judge) (name ∷ [])
-    file x0 rest seen read = search (rules, behind_opening)
+    -- a stage that reads a file
+    of_file : Sees (file_stage name limit judge) (name ∷ [])
+    of_file x0 rest seen read = search (rules, behind_opening)
 
+  -- the format of a file shows in its first 1024 bytes
   same_kind : (kind : Format) (bytes more : Bytes) → 1024 ≤ length bytes
       → kind_of kind (bytes ++ more) ≡ kind_of kind bytes
   same_kind kind bytes more long =
       search (rules, length-take-le 1024 bytes long, take-append-drop 1024 bytes, kind-prefix, append_assoc)
 
+  -- past its limit an image's file is refused by its first bytes
   pub limited_image : (name : Bytes) (kind : Format) (size : ℕ)
       → IsLimited LARGEST_IMAGE_FILE (checked_image name kind size)
   limited_image name kind size bytes more past =
@@ -108,11 +117,12 @@ module _ (stock : Stock) where
           found bytes size
       past_limit found whole one other prefix same = rw (one, other, prefix, same) refl
 
+  -- so it is for planning as a whole
   plan_sees : (s : Settings) → Sees (planned s) (files_read s)
   plan_sees = whole_plan (λ A stage names. Sees {A = A} stage names) (λ A result. settled_fixed result)
       (λ s name ending. output_fixed (warning_events s name ending))
-      (λ name. file name LARGEST_PART_FILE (checked_parts name) (search (rules, length-append)))
-      (λ name kind size. file name LARGEST_IMAGE_FILE (checked_image name kind size) (limited_image name kind size))
+      (λ name. of_file name LARGEST_PART_FILE (checked_parts name) (search (rules, length-append)))
+      (λ name kind size. of_file name LARGEST_IMAGE_FILE (checked_image name kind size) (limited_image name kind size))
       (λ A B stage go_on first back f g. onward stage go_on first back f g)
 
   -- planning over what was seen of the files is planning over the files

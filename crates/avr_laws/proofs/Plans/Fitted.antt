@@ -34,29 +34,35 @@ Image = List (Option ℕ)
 
 -- ---- what a stage made, an earlier one made on the way
 
+-- the first stage produced a value, and what goes on from it produced this one
 abbrev Earlier : {A B : Type 0} → Stage A → (A → Stage B) → List Opening → B → Type 0
 Earlier {A} stage go_on openings b =
     (a : A) × (((stage openings).stage_outcome ≡ Produced a) × ((go_on a (stage openings).openings_left).stage_outcome
     ≡ Produced b))
 
+-- so it is for a stage that produced a value
 earlier : {A B : Type 0} (stage : Stage A) (go_on : A → Stage B) (openings : List Opening) (b : B)
     → ((stage >>= go_on) openings).stage_outcome ≡ Produced b → Earlier stage go_on openings b
-earlier stage go_on openings b is = search rules
+earlier stage go_on openings b made = search rules
 
-pub settled : {A : Type 0} (r : Result A Bytes) (openings : List Opening) (a : A)
-    → (result_stage r openings).stage_outcome ≡ Produced a → r ≡ Ok a
-settled r openings b is = search rules
+-- a stage that produced a value had this result
+pub produced_ok : {A : Type 0} (result : Result A Bytes) (openings : List Opening) (a : A)
+    → (result_stage result openings).stage_outcome ≡ Produced a → result ≡ Ok a
+produced_ok result openings b made = search rules
 
 -- ---- the image of a file
 
-content : {A : Type 0} (name : Bytes) (limit : ℕ) (judge : Bytes → Result A Bytes) (opening : Opening)
+-- what a file's stage produced comes from some text
+content_passes : {A : Type 0} (name : Bytes) (limit : ℕ) (judge : Bytes → Result A Bytes) (opening : Opening)
     (openings : List Opening) (a : A) → (content_stage name limit judge opening openings).stage_outcome ≡ Produced a
     → (bytes : Bytes) × (judge bytes ≡ Ok a)
-content name limit judge opening openings a is = search rules
+content_passes name limit judge opening openings a is = search rules
 
-pub given : (file : Bytes) (r : ImageOrBadFile) (p : Image × Ending) → or_line (bad_file_line file) r ≡ Ok p → r ≡ Ok p
-given file r p is = search rules
+-- a result that became no line was OK
+pub was_ok : (file : Bytes) (r : ImageOrBadFile) (p : Image × Ending) → or_line (bad_file_line file) r ≡ Ok p → r ≡ Ok p
+was_ok file r p is = search rules
 
+-- the image of a file has the memory's size
 file_size : (switches : Switches) (file : Bytes) (kind : Format) (size : ℕ) (openings : List Opening) (image : Image)
     → (file_image_stage switches file kind size openings).stage_outcome ≡ Produced image → length image ≡ size
 file_size switches file kind size openings image is =
@@ -65,64 +71,71 @@ file_size switches file kind size openings image is =
     let first = earlier stage (λ (g : Image × Ending). output_stage (warning_events switches file g.1)
     >>= λ ok. result_stage (Ok g.0)) openings image is in
     let opened = earlier (open_stage file) (content_stage file LARGEST_IMAGE_FILE judge) openings first.0 first.1.0 in
-    let read = content file LARGEST_IMAGE_FILE judge opened.0 _ first.0 opened.1.1 in
-    let whole = given file (image_within LARGEST_IMAGE_FILE kind read.0 size) first.0 read.1 in
+    let read = content_passes file LARGEST_IMAGE_FILE judge opened.0 _ first.0 opened.1.1 in
+    let whole = was_ok file (image_within LARGEST_IMAGE_FILE kind read.0 size) first.0 read.1 in
     let same : first.0.0 ≡ image = cc in
     ap length (sym same) ∙ image-size LARGEST_IMAGE_FILE kind read.0 size first.0.0 first.0.1 (sym whole)
 
 -- ---- the image of values
 
-onto : (r : Result ℕ ImageFault) (rs : Result (List ℕ) ImageFault) (bytes : List ℕ) → onto_ok r rs ≡ Ok bytes
+-- a value in front of others is OK if both are
+both_ok : (r : Result ℕ ImageFault) (rs : Result (List ℕ) ImageFault) (bytes : List ℕ) → onto_ok r rs ≡ Ok bytes
     → (byte : ℕ) × (more : List ℕ) × ((r ≡ Ok byte) × ((rs ≡ Ok more) × (bytes ≡ byte ∷ more)))
-onto r rs bytes is = search rules
+both_ok r rs bytes is = search rules
 
-inside : (size k : ℕ) (texts : List (List ℕ)) (bytes : List ℕ)
+-- values end inside the memory
+values_inside : (size k : ℕ) (texts : List (List ℕ)) (bytes : List ℕ)
     → all_ok (map (byte_of_value size) (enumerate_from k texts)) ≡ Ok bytes → (bytes ≡ []) ⊎ (k + length bytes ≤ size)
-inside size k [] bytes is = inl cc
-inside size k (text ∷ texts) bytes is =
+values_inside size k [] bytes is = inl cc
+values_inside size k (text ∷ texts) bytes is =
     let rest = all_ok (map (byte_of_value size) (enumerate_from (k + 1) texts)) in
-    let one = onto (fitting size k (value_of text)) rest bytes is in
-    let more = inside size (k + 1) texts one.1 one.2.1.0 in search rules
+    let one = both_ok (fitting size k (value_of text)) rest bytes is in
+    let more = values_inside size (k + 1) texts one.1 one.2.1.0 in search rules
 
 -- ---- the tasks
 
 module _ (switches : Switches) (part : Part) where
-  imaged : (u : Update) (make : Image → Task) (openings : List Opening) (task : Task)
+  -- an update's image has its memory's size
+  image_fits : (u : Update) (make : Image → Task) (openings : List Opening) (task : Task)
       → ((update_image switches part u >>= λ image. result_stage (Ok (make image))) openings).stage_outcome
       ≡ Produced task → (image : Image) × ((length image ≡ size_of u.memory part) × (task ≡ make image))
-  imaged u make openings task is =
+  image_fits u make openings task is =
       let first = earlier (update_image switches part u) (λ image. result_stage (Ok (make image))) openings task
-      is in search (rules, from_zero_is_a_span, laid_size, length-replicate, inside, file_size)
+      is in search (rules, from_zero_is_a_span, laid_size, length-replicate, values_inside, file_size)
 
-  write : (u : Update) (openings : List Opening) (task : Task)
+  -- a write fits the part
+  write_fits : (u : Update) (openings : List Opening) (task : Task)
       → (write_stage switches part u openings).stage_outcome ≡ Produced task → IsFitted part task
-  write u openings task is = elim (cases_Bool (is_writable u.memory)) [
+  write_fits u openings task is = elim (cases_Bool (is_writable u.memory)) [
     | inl may ↦
-        let made = imaged u (Write u.memory) openings task (rw may at is) in
+        let made = image_fits u (Write u.memory) openings task (rw may at is) in
         subst (IsFitted part) (sym made.1.1) (made.1.0, may)
     | inr never ↦ cc (rw never at is)
   ]
 
-  operation : (u : Update) (o : Op) (openings : List Opening) (task : Task)
+  -- so does each task
+  update_fits : (u : Update) (o : Op) (openings : List Opening) (task : Task)
       → (op_stage switches part u o openings).stage_outcome ≡ Produced task → IsFitted part task
-  operation u op.Write openings task is = write u openings task is
-  operation u op.Verify openings task is = search (rules, imaged u (Verify u.memory) openings task is)
-  operation u op.Read openings task is = search rules
+  update_fits u op.Write openings task is = write_fits u openings task is
+  update_fits u op.Verify openings task is = search (rules, image_fits u (Verify u.memory) openings task is)
+  update_fits u op.Read openings task is = search rules
 
-  tasks : (before : List Task) (updates : List Update) (openings : List Opening) (made : List Task)
+  -- so do all
+  tasks_fit : (before : List Task) (updates : List Update) (openings : List Opening) (made : List Task)
       → All (IsFitted part) before → (tasks_stage switches part before updates openings).stage_outcome ≡ Produced made
       → All (IsFitted part) made
-  tasks before [] openings made fitted is = let same : before ≡ made = cc in subst (All (IsFitted part)) same fitted
-  tasks before (u ∷ updates) openings made fitted is =
+  tasks_fit before [] openings made fitted is = let same : before ≡ made = cc in subst (All (IsFitted part)) same fitted
+  tasks_fit before (u ∷ updates) openings made fitted is =
       let first = earlier (task_stage switches part u) (λ task. tasks_stage switches part (before ++ task ∷ []) updates)
       openings made is in
       search (
         rules,
-        tasks (before ++ first.0 ∷ []) updates
+        tasks_fit (before ++ first.0 ∷ []) updates
             (task_stage switches part u openings).openings_left made (All-append (IsFitted part) before (first.0
-            ∷ []) fitted (all_one (IsFitted part) first.0 (operation u u.op openings first.0 first.1.0))) first.1.1,
+            ∷ []) fitted (all_one (IsFitted part) first.0 (update_fits u u.op openings first.0 first.1.0))) first.1.1,
       )
 
+-- so all tasks of a plan fit its part
 pub plan_fitted : (s : Settings) (openings : List Opening) (plan : Plan)
     → (planned s openings).stage_outcome ≡ Produced plan → All (IsFitted plan.part) plan.tasks
-plan_fitted s openings plan is = search (rules, tasks, earlier)
+plan_fitted s openings plan is = search (rules, tasks_fit, earlier)

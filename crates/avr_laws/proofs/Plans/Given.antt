@@ -19,10 +19,12 @@ use Rattle.avr_laws.specs.FilesRead.{AreTrueOpenings}
 
 -- ---- at files in memory
 
+-- an opening that was true gives what the file holds
 seen_by : (stock : Stock) (opening : Opening) → IsTrueOpening stock [] opening
     → IsReadBy (FileHolds (content_of_name stock [])) opening []
 seen_by stock opening seen = search (rules, append-nil)
 
+-- so do all openings of an output
 seen_read : (stock : Stock) (output_events : List OutputEvent) → AreTrueOpenings stock output_events
     → AreRead (FileHolds (content_of_name stock [])) output_events []
 seen_read stock [] seen = refl
@@ -30,6 +32,7 @@ seen_read stock (Opens opening ∷ output_events) seen =
     ([], [], refl, seen_by stock opening seen.0, seen_read stock output_events seen.1)
 seen_read stock (event ∷ output_events) seen = seen_read stock output_events seen
 
+-- so the plan is the one that settings and files ask for
 pub seen_asked : (stock : Stock) (s : Settings) (openings : List Opening) (plan : Plan)
     → AreTrueOpenings stock (planned s openings).output_events
     → (planned s openings).stage_outcome ≡ Produced plan → IsAsked s (FileHolds (content_of_name stock [])) [] plan
@@ -37,6 +40,7 @@ seen_asked stock s openings plan seen made = search (rules, plan_asked, seen_rea
 
 -- ---- by a desk's record
 
+-- each opening of an output gives what it gave
 opened_read : (output_events : List OutputEvent) → AreRead WasOpened output_events (openings_in output_events)
 opened_read [] = refl
 opened_read (Opens (Found reading) ∷ output_events) =
@@ -45,6 +49,7 @@ opened_read (Opens (Absent name) ∷ output_events) =
     (Absent name ∷ [], openings_in output_events, refl, tt, opened_read output_events)
 opened_read (event ∷ output_events) = opened_read output_events
 
+-- the openings of two outputs
 pub openings_joined : (first second : List OutputEvent)
     → openings_in (first ++ second) ≡ openings_in first ++ openings_in second
 openings_joined [] second = refl
@@ -52,9 +57,9 @@ openings_joined (Opens opening ∷ first) second = search (rules, openings_joine
 openings_joined (event ∷ first) second = openings_joined first second
 
 -- what was opened is in the output
-pub since : (old new : DeskState) (outputs : List OutputEvent) → ChangesRecord (after_events outputs) old new
+pub openings_since : (old new : DeskState) (outputs : List OutputEvent) → ChangesRecord (after_events outputs) old new
     → all_openings new.kept ≡ all_openings old.kept ++ openings_in outputs
-since old new outputs passes = ap all_openings passes ∙ openings_shown outputs old.kept
+openings_since old new outputs passes = ap all_openings passes ∙ openings_shown outputs old.kept
 
 -- the same by the uses
 pub opened_by_uses : (old new : Record) (opened : List Opening) → all_openings new ≡ all_openings old ++ opened

@@ -40,6 +40,7 @@ use Rattle.avr_laws.specs.NoForgedFrame.{ForgesNoFrame}
 use Rattle.avr_laws.proofs.Readers.LastActions.{ReadsAction, session_agrees}
 use Rattle.avr_laws.specs.Reader.{IsReader, LastAgree, LastIsThere, OnlyRead}
 
+-- what holds for each of a list holds for its last part
 each_behind : {A : Type 0} (Q : A → Type 0) (xs ys : List A) → Each Q (xs ++ ys) → Each Q ys
 each_behind Q [] ys each = each
 each_behind Q (x ∷ xs) ys each = each_behind Q xs ys each.1
@@ -52,45 +53,49 @@ module _ (plan : Plan) (Reads : Mem → Type 0) (x : Memories)
   abbrev s : Switches
   s = plan.switches
 
-  abbrev Holds : Mem → Image → Type 0
-  Holds mem image = HoldsImage image (memory_in plan.part mem x)
+  abbrev HoldsThere : Mem → Image → Type 0
+  HoldsThere mem image = HoldsImage image (memory_in plan.part mem x)
 
-  reading : (tasks : List Task) → OnlyRead Reads tasks → Each (ReadsAction Reads) (tasks_actions s tasks)
-  reading [] reads = tt
-  reading (task.Write mem image ∷ tasks) reads = absurd reads
-  reading (task.Verify mem image ∷ tasks) reads = (reads.0, reading tasks reads.1)
-  reading (task.Read mem format file ∷ tasks) reads = (reads.0, reading tasks reads.1)
+  -- tasks that only read have actions that only read
+  tasks_read : (tasks : List Task) → OnlyRead Reads tasks → Each (ReadsAction Reads) (tasks_actions s tasks)
+  tasks_read [] reads = tt
+  tasks_read (task.Write mem image ∷ tasks) reads = absurd reads
+  tasks_read (task.Verify mem image ∷ tasks) reads = (reads.0, tasks_read tasks reads.1)
+  tasks_read (task.Read mem format file ∷ tasks) reads = (reads.0, tasks_read tasks reads.1)
 
-  written : (dry off : Bool) (done : List Action) (mem : Mem) (image : Image) (later : List Action)
+  -- a write that is compared, by the switches `-n` and `-V`
+  compared : (dry off : Bool) (done : List Action) (mem : Mem) (image : Image) (later : List Action)
       → work plan ≡ done ++ ((if dry then SkipAction (SkippedWrite mem image) ∷ []
       else WriteImage mem image ∷ (if off then [] else CompareImage mem image ∷ [])) ++ later)
-      → dry ≡ false → off ≡ false → Reads mem → Each (ReadsAction Reads) later → Holds mem image
-  written true off done mem image later are wet on reads others = absurd (cc wet)
-  written false true done mem image later are wet on reads others = absurd (cc on)
-  written false false done mem image later are wet on reads others =
+      → dry ≡ false → off ≡ false → Reads mem → Each (ReadsAction Reads) later → HoldsThere mem image
+  compared true off done mem image later are wet on reads others = absurd (cc wet)
+  compared false true done mem image later are wet on reads others = absurd (cc on)
+  compared false false done mem image later are wet on reads others =
       there (done ++ (WriteImage mem image ∷ [])) later mem image
       (are ∙ sym (append_assoc done (WriteImage mem image ∷ []) (CompareImage mem image ∷ later))) reads others
 
-  agree : (done : List Action) (tasks : List Task) → work plan ≡ done ++ tasks_actions s tasks
+  -- the tasks after these actions
+  agree_from : (done : List Action) (tasks : List Task) → work plan ≡ done ++ tasks_actions s tasks
       → LastAgree plan.part s Reads tasks x
-  agree done [] are = tt
-  agree done (task.Write mem image ∷ tasks) are = (
+  agree_from done [] are = tt
+  agree_from done (task.Write mem image ∷ tasks) are = (
     λ wet on reads others.
-        written s.dry s.no_verify done mem image (tasks_actions s tasks) are wet on reads (reading tasks others),
-    agree (done ++ task_actions s (task.Write mem image)) tasks
+        compared s.dry s.no_verify done mem image (tasks_actions s tasks) are wet on reads (tasks_read tasks others),
+    agree_from (done ++ task_actions s (task.Write mem image)) tasks
         (are ∙ sym (append_assoc done (task_actions s (task.Write mem image)) (tasks_actions s tasks))),
   )
-  agree done (task.Verify mem image ∷ tasks) are = (
-    λ reads others. there done (tasks_actions s tasks) mem image are reads (reading tasks others),
-    agree (done ++ (CompareImage mem image ∷ [])) tasks
+  agree_from done (task.Verify mem image ∷ tasks) are = (
+    λ reads others. there done (tasks_actions s tasks) mem image are reads (tasks_read tasks others),
+    agree_from (done ++ (CompareImage mem image ∷ [])) tasks
         (are ∙ sym (append_assoc done (CompareImage mem image ∷ []) (tasks_actions s tasks))),
   )
-  agree done (task.Read mem format file ∷ tasks) are =
-      agree (done ++ task_actions s (task.Read mem format file)) tasks
+  agree_from done (task.Read mem format file ∷ tasks) are =
+      agree_from (done ++ task_actions s (task.Read mem format file)) tasks
       (are ∙ sym (append_assoc done (task_actions s (task.Read mem format file)) (tasks_actions s tasks)))
 
+  -- so it is for all tasks
   pub last_agree : LastAgree plan.part s Reads plan.tasks x
-  last_agree = agree (erase_actions s plan.tasks) plan.tasks refl
+  last_agree = agree_from (erase_actions s plan.tasks) plan.tasks refl
 
 -- ---- by what passed over the link
 
@@ -109,20 +114,25 @@ module _ (s : Settings) (x y : Devices) (r : IsRun s x y 0) (plan : Plan)
   abbrev count : ℕ
   count = length (frames_in events)
 
+  -- the plan fits its part
   fitted : All (IsFitted plan.part) plan.tasks
   fitted = plan_fitted s r.openings plan made_is
 
+  -- so its session sends valid bodies
   bodies : SendsValidBodies (session plan)
   bodies = session_asks plan sound fitted
 
+  -- all that passed, passed during the run
   these : y.link.transcript ≡ r.during
   these = same s x y r plan made_is silent
 
+  -- the session's frames are those that were sent
   frames_are : frames_in events ≡ frames (sent r.during)
   frames_are =
       sym (frames_sent events (sends_whole (session plan) 1 (over_tape s x y r) bodies))
       ∙ ap frames (sent_is s x y r plan made_is silent)
 
+  -- the link forges no frame for the session
   forges_none : ForgesNoFrame m (session plan) 1 (over_tape s x y r) p executions []
   forges_none =
       none_forged m (session plan) 1 (over_tape s x y r) p executions [] []
@@ -130,9 +140,11 @@ module _ (s : Settings) (x y : Devices) (r : IsRun s x y 0) (plan : Plan)
       (sym (append-nil (frames_in events) ∙ frames_are))
       (subst (λ (passed : Transcript). NoneForged m (frames (sent passed)) (heard passed) p executions []) these none))
 
+  -- so the session goes along the exchanges of its tape
   goes : GoesAlongExchanges m (session plan) 1 (over_tape s x y r) p executions
   goes = grind (arith, goes_as, over_tape, bodies, no_forged_frame_authentic, forges_none)
 
+  -- its frames leave this programmer
   stands : (state_after m count (session plan) p exchanges).programmer
       ≡ after_sent_frames m (frames (sent y.link.transcript)) executions p
   stands =
@@ -141,24 +153,27 @@ module _ (s : Settings) (x y : Devices) (r : IsRun s x y 0) (plan : Plan)
       (take_all count (frames_in events) (omega arith)
       ∙ (frames_are ∙ sym (ap (λ (passed : Transcript). frames (sent passed)) these)))
 
+  -- the session ended with status 0
   ended : (state_after m count (session plan) p exchanges).dialog ≡ Done 0
   ended = (goes.outcome 0 r.next (left_over s x y r)
       (ap (λ (o : Played OutputEvent ℕ). o.outcome) (played_is s x y r plan made_is silent))).0
 
-  found : (done rest : List Action) (mem : Mem) (image : Image) → work plan ≡ done ++ (CompareImage mem image ∷ rest)
-      → Reads mem → Each (ReadsAction Reads) rest
+  -- an image that was compared after the last write is there
+  seen : (done rest : List Action) (mem : Mem) (image : Image) → work plan
+      ≡ done ++ (CompareImage mem image ∷ rest) → Reads mem → Each (ReadsAction Reads) rest
       → HoldsImage image (memory_in plan.part mem
       (view (after_sent_frames m (frames (sent y.link.transcript)) executions p)))
-  found done rest mem image are reads others =
+  seen done rest mem image are reads others =
       subst (λ (q : P). HoldsImage image (memory_in plan.part mem (view q))) stands
       (session_agrees plan sound m view IsIn Reads t done (CompareImage mem image ∷ rest) are
       (each_behind (FitsAction plan.part) done (CompareImage mem image ∷ rest)
       (subst (λ (all : List Action). AllFitActions plan.part all) are (work_fits plan fitted)))
       (reads, others) p i exchanges count ended).0
 
+  -- so it is for the tasks
   pub last_there : LastAgree plan.part plan.switches Reads plan.tasks
       (view (after_sent_frames m (frames (sent y.link.transcript)) executions p))
-  last_there = last_agree plan Reads (view (after_sent_frames m (frames (sent y.link.transcript)) executions p)) found
+  last_there = last_agree plan Reads (view (after_sent_frames m (frames (sent y.link.transcript)) executions p)) seen
 
 -- ---- whatever a call over a link and a desk came to
 

@@ -31,6 +31,7 @@ use Rattle.avr_tool.specs.ExpectedOutput.{FirstActionsOutput, IsExpectedOutput, 
 
 module _ (plan : Plan) (sound : IsPart plan.part) (fitted : All (IsFitted plan.part) plan.tasks) (m : Memories)
     (f : FitsPart plan.part m) where
+  -- what a session puts out is what its plan lets it put out
   along : (k : ℕ) (p : Programmer) (exchanges : List Exchange) → HasMemories plan.part m p
       → Printed device (AtMoment plan (emulated plan.part sound) m) (AtEnd plan (emulated plan.part sound) m ⊤) k
       (session plan) (p, exchanges)
@@ -71,10 +72,12 @@ then_at : (first : Expected) (next : Memories → Expected) (at : Standing) → 
     → (first then next) ≡ then_from first at next
 then_at first next at e = ap (λ x. then_from first x next) e
 
+-- if there was no fault after both, there was none after the first
 was_fine : (first : Expected) (next : Memories → Expected) (at : Standing) → first.standing ≡ at
     → (first then next).standing ≡ NoFault → first.standing ≡ NoFault
 was_fine first next at stands fine = search (rules, then_at)
 
+-- the output of the first actions begins the output of all
 actions_prefix : (part : Part) (s : Switches) (done more : List Action) (m : Memories)
     → (actions_expected part s done m).standing ≡ NoFault
     → (later : List OutputEvent) × ((actions_expected part s (done ++ more) m).output_events

@@ -45,51 +45,59 @@ writing byte =
 abbrev passed : ℕ → Transcript
 passed byte = perfect_transcript (session (writing byte)) 1 programmer
 
-fits : All (IsFitted m328p) (writing 0xE2).tasks
-fits = All-cons (IsFitted m328p) (Write Lfuse (Some 0xE2 ∷ [])) [] (refl, refl) (All-nil (IsFitted m328p))
+-- its tasks fit the part
+tasks_fit : All (IsFitted m328p) (writing 0xE2).tasks
+tasks_fit = All-cons (IsFitted m328p) (Write Lfuse (Some 0xE2 ∷ [])) [] (refl, refl) (All-nil (IsFitted m328p))
 
-whole : IsBytePrefixOf (sent (passed 0xE2))
+-- all that it sent is a prefix of what its session sends
+whole_run : IsBytePrefixOf (sent (passed 0xE2))
     (bytes_sent (played (session (writing 0xE2)) 1 (heard (passed 0xE2))).events)
 unfolding session opening handshake operation closing play attempts_or_fault attempt exchange answer
-whole = ([], append-nil (sent (passed 0xE2)))
+whole_run = ([], append-nil (sent (passed 0xE2)))
 
+-- so it began its plan
 pub fuse_begun : IsBegun (writing 0xE2) (passed 0xE2)
-fuse_begun = emulated_begun (writing 0xE2) fits (passed 0xE2) whole
+fuse_begun = emulated_begun (writing 0xE2) tasks_fit (passed 0xE2) whole_run
 
 -- and at any programmer of the emulated one's kind
-abbrev Any : Plan → Transcript → Type 0
-Any = IsBegunByAny m328p device chip_memories (HasPart m328p) (HasEmptyBuffers m328p) (λ mem byte. byte)
+abbrev BegunByAny : Plan → Transcript → Type 0
+BegunByAny = IsBegunByAny m328p device chip_memories (HasPart m328p) (HasEmptyBuffers m328p) (λ mem byte. byte)
 
-pub fuse_begun_by_any : Any (writing 0xE2) (passed 0xE2)
-fuse_begun_by_any = search (rules, begun_by_any, fits, whole)
+pub fuse_begun_by_any : BegunByAny (writing 0xE2) (passed 0xE2)
+fuse_begun_by_any = search (rules, begun_by_any, tasks_fit, whole_run)
 
 -- ---- a run that wrote 62
 
+-- what became of its eight frames
 abbrev executions : List Execution
 executions = Executed ∷ Executed ∷ Executed ∷ Executed ∷ Executed ∷ Executed ∷ Executed ∷ Executed ∷ []
 
-none_forged : NoneForged device (frames (sent (passed 0x62))) (heard (passed 0x62)) programmer executions []
+-- none of its replies is forged
+none_forged_by_run : NoneForged device (frames (sent (passed 0x62))) (heard (passed 0x62)) programmer executions []
 unfolding session opening handshake operation closing play attempts_or_fault attempt exchange answer
-none_forged = by_test device (frames (sent (passed 0x62))) (heard (passed 0x62)) programmer executions [] refl
+none_forged_by_run = by_test device (frames (sent (passed 0x62))) (heard (passed 0x62)) programmer executions [] refl
 
-first_of : (count : ℕ) → 0x62 ≡ (effects m328p (take count (write_operations (writing 0xE2)))
+-- no first write operations of the plan give a fuse of 62
+after_first : (count : ℕ) → 0x62 ≡ (effects m328p (take count (write_operations (writing 0xE2)))
     (memories_of (fresh_state m328p))).lfuse → ⊥
-first_of zero is = omega (arith, is)
-first_of (suc zero) is = omega (arith, is)
-first_of (suc (suc count)) is = omega (arith, is)
+after_first zero is = omega (arith, is)
+after_first (suc zero) is = omega (arith, is)
+after_first (suc (suc count)) is = omega (arith, is)
 
+-- so this run didn't begin the plan
 pub another_byte_begun : IsBegun (writing 0xE2) (passed 0x62) → ⊥
 unfolding session opening handshake operation closing play attempts_or_fault attempt exchange answer
 another_byte_begun begun =
-    let made = begun programmer executions chip_is_sound refl none_forged in
-    first_of made.count (ap (λ (m : Memories). m.lfuse) made.memories)
+    let made = begun programmer executions chip_is_sound refl none_forged_by_run in
+    after_first made.count (ap (λ (m : Memories). m.lfuse) made.memories)
 
-pub another_byte_by_any : Any (writing 0xE2) (passed 0x62) → ⊥
+-- nor at any programmer
+pub another_byte_by_any : BegunByAny (writing 0xE2) (passed 0x62) → ⊥
 unfolding session opening handshake operation closing play attempts_or_fault attempt exchange answer
 another_byte_by_any begun =
     let made = begun is_part refl (λ unforced. refl) rows_kept programmer executions is_in chip_fits_part
-    ((λ written. refl), tt) none_forged in
-    first_of made.count (ap (λ (m : Memories). m.lfuse) made.memories)
+    ((λ written. refl), tt) none_forged_by_run in
+    after_first made.count (ap (λ (m : Memories). m.lfuse) made.memories)
 
 -- ---- a chip of another signature, without -F
 
@@ -100,31 +108,35 @@ Spares = IsSparedByAny m328p device chip_memories (HasPart m328p) (HasEmptyBuffe
 abbrev of_m328 : ℕ → Plan
 of_m328 byte = record (writing byte) { part = m328 }
 
+-- what passes if the chip is refused
 abbrev refused : Transcript
 refused = perfect_transcript (session (of_m328 0xE2)) 1 programmer
 
+-- its tasks fit the part
 fits_m328 : All (IsFitted m328) (of_m328 0xE2).tasks
 fits_m328 = All-cons (IsFitted m328) (Write Lfuse (Some 0xE2 ∷ [])) [] (refl, refl) (All-nil (IsFitted m328))
 
+-- all that it sent is a prefix of what its session sends
 refused_whole : IsBytePrefixOf (sent refused) (bytes_sent (played (session (of_m328 0xE2)) 1 (heard refused)).events)
 unfolding session opening handshake operation closing play attempts_or_fault attempt exchange answer
 refused_whole = ([], append-nil (sent refused))
 
+-- so the chip is as it was
 pub chip_spared : Spares (of_m328 0xE2) refused
 chip_spared = search (rules, spared_by_any, fits_m328, refused_whole)
 
 m328_is_part : IsPart m328
 m328_is_part = search rules
 
-another : m328p.signature ≡ m328.signature → ⊥
-another same = let last : 0x0F ≡ 0x14 = ap (λ (bytes : Bytes). slice_index bytes 2) same in omega (arith, last)
+other_signature : m328p.signature ≡ m328.signature → ⊥
+other_signature same = let last : 0x0F ≡ 0x14 = ap (λ (bytes : Bytes). slice_index bytes 2) same in omega (arith, last)
 
 -- a run that wrote the fuse all the same
 pub fuse_not_spared : Spares (of_m328 0xE2) (passed 0x62) → ⊥
 unfolding session opening handshake operation closing play attempts_or_fault attempt exchange answer
 fuse_not_spared spares =
-    let same = spares m328_is_part is_part refl another rows_kept programmer executions is_in chip_fits_part
-    none_forged in
+    let same = spares m328_is_part is_part refl other_signature rows_kept programmer executions is_in chip_fits_part
+    none_forged_by_run in
     search rules
 
 -- ---- over the emulator nothing may pass over standard streams

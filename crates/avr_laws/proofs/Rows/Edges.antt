@@ -27,22 +27,26 @@ abbrev late : List ℕ
 late = frame 1 (0x01 ∷ 0x00 ∷ [])
 
 -- the replies so far, the last one first, if those since this one were lost
-abbrev since : ℕ → List (List ℕ)
-since count = replicate count [] ++ late ∷ []
+abbrev since_late : ℕ → List (List ℕ)
+since_late count = replicate count [] ++ late ∷ []
 
-still_among : (count : ℕ) → IsAmongFirst (suc count) (since count) late
+-- the late reply is among so many and one more
+still_among : (count : ℕ) → IsAmongFirst (suc count) (since_late count) late
 still_among zero = inl refl
 still_among (suc count) = inr (still_among count)
 
-no_longer_among : (count : ℕ) → IsAmongFirst count (since count) late → ⊥
+-- it isn't among so many
+no_longer_among : (count : ℕ) → IsAmongFirst count (since_late count) late → ⊥
 no_longer_among zero among = among
 no_longer_among (suc count) (inl same) = cc
 no_longer_among (suc count) (inr among) = no_longer_among count among
 
-pub late_by_255 : IsNotForged (since 255) late
+-- so 255 frames late it isn't forged
+pub late_by_255 : IsNotForged (since_late 255) late
 late_by_255 good = inr (still_among 255)
 
-pub late_by_256 : IsNotForged (since 256) late → ⊥
+-- and 256 frames late it is
+pub late_by_256 : IsNotForged (since_late 256) late → ⊥
 late_by_256 not_forged = elim (not_forged refl) [ inl same ↦ cc | inr among ↦ no_longer_among 256 among ]
 
 -- ---- a file that was read before the run gives no text
@@ -66,20 +70,23 @@ another_opening IsSo old new more is keeps = search (rules, append_cancel_left)
 
 -- ---- a file of 4,194,304 bytes gives an image, and a longer one doesn't
 
+-- the longest file that gives an image
 pub longest_file : (text : Bytes) → length text ≡ 4194304
     → HasImage (λ name given opened. given ≡ text) (codes "image") Raw 4194304 (from_zero text 4194304) []
 longest_file text is = (text, refl, omega (arith, is), (omega (arith, is), refl))
 
+-- a file of one byte more
 pub longer_file : (text : Bytes) (size : ℕ) (image : List (Option ℕ)) → length text ≡ 4194305
     → HasImage (λ name given opened. given ≡ text) (codes "image") Raw size image [] → ⊥
 longer_file text size image is has = search rules
 
 -- ---- a chip file of another part
 
-abbrev plan : Plan
-plan = record { part = m328p; tasks = []; switches = worked_settings.switches }
+abbrev empty_plan : Plan
+empty_plan = record { part = m328p; tasks = []; switches = worked_settings.switches }
 
-pub another_part : (name : Bytes) (old new : Record) → IsKeptInFile name (Some old_file) plan old new → ⊥
+-- a file of another part's size
+pub another_part : (name : Bytes) (old new : Record) → IsKeptInFile name (Some old_file) empty_plan old new → ⊥
 another_part name old new kept =
     let found = chip_in_file m328p (Some old_file) kept.before kept.was in
     let size = (from_file m328p (Some old_file) (with_memories m328p kept.before) found).0 in omega (arith, size)
@@ -89,6 +96,7 @@ another_part name old new kept =
 abbrev dry_plan : Plan
 dry_plan = record { part = m328; tasks = []; switches = record worked_settings.switches { dry = true } }
 
+-- so nothing is kept
 pub dry_not_forced : (before after : Memories) (old now : Record)
     → KeepsOnPart m328p dry_plan before after old now → ⊥
 dry_not_forced before after old now kept = search rules

@@ -99,6 +99,7 @@ unlocked s = after (record s.at { held = None }) s.calls s
 
 -- ---- lemmas
 
+-- what a name has after another was put
 put_at : (name bytes other : Bytes) (names : Names) (found : Option Bytes) → put name bytes names other ≡ found
     → (names other ≡ found) ⊎ ((other ≡ name) × (found ≡ Some bytes))
 put_at name bytes other names found is = elim (cases_Bool (bytes_eq other name)) [
@@ -106,16 +107,19 @@ put_at name bytes other names found is = elim (cases_Bool (bytes_eq other name))
   | inr not ↦ search (rules, is, not)
 ]
 
+-- what was put is there
 put_there : (name bytes : Bytes) (names : Names) → put name bytes names name ≡ Some bytes
 put_there name bytes names = search (rules, bytes_same name)
 
+-- the name of the held file
 abbrev name_in : Option (Bytes × Option Bytes) → Bytes
 name_in None = []
 name_in (Some held) = held.0
 
-abbrev found_in : Option (Bytes × Option Bytes) → Option Bytes
-found_in None = None
-found_in (Some held) = held.1
+-- what it had when it was locked
+abbrev was_in : Option (Bytes × Option Bytes) → Option Bytes
+was_in None = None
+was_in (Some held) = held.1
 
 -- A run in this model: its moments, the places where another file is mounted, the files that others hold, and the
 -- errors of calls that were to hold a file.
@@ -128,31 +132,39 @@ record Run : Type 1 where
 module _ (run : Run) where
   -- ---- what a crash leaves
 
+  -- another file is mounted there
   abbrev is_mounted : Bytes → Type 0
   is_mounted name = run.mounted name
 
+  -- at this moment a crash may leave this of the held file
   abbrev MayLeave : Bytes → Option Bytes → Moment → Type 0
   MayLeave name found m = ((was : Option Bytes) × (m.held ≡ Some (name, was))) × (is_mounted name → ⊥)
       × ((m.disk name ≡ found) ⊎ (m.now name ≡ found))
 
+  -- at one of these moments
   abbrev left_at : List Moment → Bytes → Option Bytes → Type 0
   left_at [] name found = ⊥
   left_at (m ∷ ms) name found = MayLeave name found m ⊎ left_at ms name found
 
   -- ---- the members of the trait
 
+  -- the calls that were made, and how many files are held
   abbrev has_done : SystemCalls → System → Type 0
   has_done done s = done ≡ record { calls = s.calls; holds = option_len s.at.held }
 
+  -- what a crash may leave, now or before
   abbrev left : System → Bytes → Option Bytes → Type 0
   left s name found = left_at (s.at ∷ s.past) name found
 
+  -- a file that was held began with this
   abbrev began : Bytes → Option Bytes → Type 0
   began name found = (m : Moment) × run.happened m × (m.held ≡ Some (name, found))
 
+  -- this was on the disk at some moment
   abbrev lasts : Bytes → Bytes → Type 0
   lasts name bytes = (m : Moment) × run.happened m × (m.disk name ≡ Some bytes)
 
+  -- a name has these bytes
   abbrev finds : System → Bytes → Bytes → Type 0
   finds s name bytes = s.at.now name ≡ Some bytes
 
@@ -160,6 +172,7 @@ module _ (run : Run) where
   abbrev finds_synced : System → Bytes → Bytes → Type 0
   finds_synced s name bytes = finds s name bytes
 
+  -- what the name has is on the disk
   abbrev is_spare : System → Bytes → Type 0
   is_spare s name = s.at.disk name ≡ s.at.now name
 
@@ -169,6 +182,7 @@ module _ (run : Run) where
   abbrev finds_seen_and_new : System → Option Bytes → NewFile → Type 0
   finds_seen_and_new s seen file = (s.at.held ≡ Some (file.place, seen)) × (s.at.now file.place ≡ seen)
 
+  -- the name isn't that of the held file
   abbrev is_free : System → Bytes → Type 0
   is_free s name = (was : Option Bytes) → s.at.held ≡ Some (name, was) → ⊥
 
@@ -363,15 +377,19 @@ module _ (run : Run) where
 
   -- ---- lemmas
 
+  -- a call that changes nothing
   uncounted : (s : System) → IsUncounted has_done left s s
   uncounted s = record { done = λ done is. is; kept = λ name found may. may }
 
+  -- a call that changes no file
   repeated : (s : System) (calls : List FileCall) → CrashLeavesNoMore left s (called calls s)
   repeated s calls name found e = search rules
 
+  -- if no file is held, each name is free
   none_held : (s : System) (name : Bytes) → Counts has_done 0 s → is_free s name
   none_held s name (done, is, none) was held = search rules
 
+  -- a name is free if no file is held, or else by itself
   free : (s : System) (name : Bytes) → Counts has_done 0 s ⊎ is_free s name → is_free s name
   free s name e = search (rules, none_held)
 
@@ -380,33 +398,41 @@ module _ (run : Run) where
       → bytes_eq held name ≡ false → is_free s name
   unheld s held name was is not other there = search (rules, bytes_same)
 
+  -- a crash may leave what was put under a name
   put_leaves : (s : System) (name bytes : Bytes) (calls : List FileCall)
       → CrashMayAlsoLeave left name (λ found. found ≡ Some bytes) s
       (after (record s.at { now = put name bytes s.at.now }) calls s)
   put_leaves s name bytes calls other found e = search (rules, put_at)
 
+  -- making a file that isn't held
   create_leaves : (s : System) (name : Bytes) → is_free s name → CrashLeavesNoMore left s (created name s)
   create_leaves s name e other found is = search (rules, put_at, unheld)
 
+  -- locking a file
   locking_leaves : (s : System) (name : Bytes) → run.happened (locked name s).at
       → CrashMayAlsoLeave left name (began name) s (locked name s)
   locking_leaves s name was other found e = search rules
 
+  -- a new file that gets its place
   placed_whole : (s : System) (file : NewFile) (bytes : Bytes) → keeps file bytes
       → CrashMayAlsoLeave left file.place (λ found. found ≡ Some bytes) s (placed file s)
   placed_whole s file bytes kept = search (rules, put_leaves)
 
+  -- it is there then
   placed_there : (s : System) (file : NewFile) (bytes : Bytes) → keeps file bytes
       → finds (placed file s) file.place bytes
   placed_there s file bytes kept = put_there file.place file.synced s.at.now ∙ ap Some kept.1
 
+  -- a sync of everything
   sync_leaves : (s : System) (name : Bytes) → CrashLeavesNoMore left s (synced name s)
   sync_leaves s name other found e = search rules
 
+  -- writing over a mounted file
   over_leaves : (s : System) (name bytes : Bytes) → is_mounted name
       → CrashLeavesNoMore left s (written_over name bytes s)
   over_leaves s name bytes mounted other found e = search (rules, put_at)
 
+  -- unlocking
   unlock_leaves : (s : System) → CrashLeavesNoMore left s (unlocked s)
   unlock_leaves s other found e = search rules
 
@@ -514,7 +540,7 @@ module _ (run : Run) where
       → (error_kind error ≡ ErrorKind.NotFound → (s.at.held ≡ Some (held, None)) × (s.at.now held ≡ None))
       → OpenSeenClauses (from_to s s) (is_now held) (Err error)
   open_seen_fails s held error was absent = record {
-    named = λ kind. (s.at, was, (absent kind).1, λ before is. ap found_in (sym is ∙ (absent kind).0));
+    named = λ kind. (s.at, was, (absent kind).1, λ before is. ap was_in (sym is ∙ (absent kind).0));
     opens = λ done is. is;
     keeps = λ other found may. may;
   }
@@ -545,7 +571,7 @@ module _ (run : Run) where
   place_new_met : (s : System) (file : NewFile) → run.happened s.at → finds_seen_and_new s None file
       → PlaceNewClauses (from_to s (placed file s)) (is_now file.place) file (Ok file)
   place_new_met s file was finds = record {
-    only = (s.at, was, finds.1, λ before is. ap found_in (sym is ∙ finds.0));
+    only = (s.at, was, finds.1, λ before is. ap was_in (sym is ∙ finds.0));
     whole = placed_whole s file;
     placed = placed_there s file;
     stays = λ done is. is;
@@ -610,6 +636,7 @@ module _ (was : Option Bytes) (new : Bytes) where
   abbrev chip : Bytes
   chip = codes "chip"
 
+  -- only the chip's file may be there
   abbrev files : Names
   files name = if bytes_eq name chip then was else None
 
@@ -645,15 +672,19 @@ module _ (was : Option Bytes) (new : Bytes) where
   abbrev may_leave : System → Option Bytes → Type 0
   may_leave s found = left run s chip found
 
+  -- nothing may be left before a file is held
   none_begun : (name : Bytes) (found : Option Bytes) → left run begun name found → ⊥
   none_begun name found e = search rules
 
+  -- a crash may leave the old chip
   old_left : may_leave ended was
   old_left = inr (inr (inl ((was, refl), λ mounted. mounted, inl refl)))
 
+  -- or the new one
   new_left : may_leave ended (Some new)
   new_left = inr (inr (inl ((was, refl), λ mounted. mounted, inr refl)))
 
+  -- the new one is on the disk
   new_lasts : lasts run chip new
   new_lasts = (saved.at, inr (inr refl), refl)
 
@@ -661,9 +692,11 @@ module _ (was : Option Bytes) (new : Bytes) where
   spare_removed : is_spare run saved chip × RemoveNewClauses run (from_to saved saved)
   spare_removed = (refl, remove_new_met run saved chip refl)
 
+  -- before the chip is saved the new file's first name may not be removed
   unsaved_kept : (was ≡ Some new → ⊥) → is_spare run renamed chip → ⊥
   unsaved_kept differs spare = differs spare
 
+  -- the chip began with what there was
   began_was : (found : Option Bytes) → began run chip found → found ≡ was
   began_was found e = search rules
 
@@ -698,6 +731,7 @@ abbrev torn : Bytes → Bytes → System
 torn old new = placed (file (Some old) new) (after (record (holding (Some old) new).at { now = λ name. None }) []
     (holding (Some old) new))
 
+-- the clauses refuse this system
 torn_refused : (old new : Bytes) → RenameClauses (run (Some old) new) (from_to (holding (Some old) new) (torn old new))
     (is_now (codes "chip")) (file (Some old) new) (Ok (file (Some old) new)) → ⊥
 torn_refused old new meets =
@@ -718,6 +752,7 @@ unsynced old new =
       happened = λ m. (m ≡ (holding (Some old) new).at) ⊎ (m ≡ (renamed (Some old) new).at);
     }
 
+-- so they do this one
 unsynced_refused : (old new : Bytes) → (old ≡ new → ⊥) → SyncPlacedClauses (unsynced old new)
     (from_to (renamed (Some old) new) (renamed (Some old) new)) (is_now (codes "chip")) (Ok tt) → ⊥
 unsynced_refused old new differs meets = search rules
@@ -740,15 +775,19 @@ system was new = record {
   began = began (run was new);
 }
 
+-- the chip's file
 abbrev written : Bytes → Writing
 written new = record { name = codes "chip"; bytes = new }
 
+-- the record of a run that replaced it
 abbrev replaced : Bytes → Record
 replaced new = record nothing_kept { uses = Created (written new) ∷ []; tried = written new ∷ []; releases = 1 }
 
+-- what a crash may leave is in the record
 crash_recorded : (was : Option Bytes) (new : Bytes) → CrashLeaves (system was new) (ended was new) (written new ∷ [])
 crash_recorded was new name found may = search (rules, old_or_new was new name found may)
 
+-- so the record is true
 replacement_recorded : (was : Option Bytes) (new : Bytes) (reads : Reads Bytes) (writes : Writes Bytes)
     (input : Reads (Unit {0}))
     → IsTrueRecord (system was new) reads writes input (ended was new) Nothing None (replaced new)
@@ -762,6 +801,7 @@ replacement_recorded was new reads writes input = record {
   crash = crash_recorded was new;
 }
 
+-- it isn't, if the renaming is made in two steps
 torn_unrecorded : (old new : Bytes) (reads : Reads Bytes) (writes : Writes Bytes) (input : Reads (Unit {0}))
     → IsTrueRecord (system (Some old) new) reads writes input (torn old new) Nothing None (replaced new) → ⊥
 torn_unrecorded old new reads writes input truly = search (rules, began_was)

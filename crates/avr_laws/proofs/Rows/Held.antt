@@ -16,10 +16,11 @@ use Rattle.avr_laws.specs.HeldParts.{IsPartOf}
 pub one_value : HoldsValues (codes "0xE2") 1 (Some 0xE2 ∷ [])
 one_value = (0xE2 ∷ [], refl, refl, omega arith, omega arith, refl)
 
-abbrev first_of : List (Option ℕ) → ℕ
-first_of (Some byte ∷ more) = byte
-first_of image = 0
+abbrev first_held : List (Option ℕ) → ℕ
+first_held (Some byte ∷ more) = byte
+first_held image = 0
 
+-- a value above 255
 pub large_value : (image : List (Option ℕ)) → HoldsValues (codes "256") 1 image → ⊥
 large_value image ([], are, all, some, few, is) = absurd (omega (arith, some))
 large_value image (byte ∷ bytes, are, all, some, few, is) = search rules
@@ -30,10 +31,12 @@ pub two_records : HoldsRecords Ihex (codes ":0100000005FA\n:00000001FF\n") 2 (So
 unfolding decode_pairs
 two_records = ((0, 5) ∷ [], refl, refl, refl)
 
+-- the same byte, at address 1, in S-records
 pub an_s_record : HoldsRecords Srec (codes "S104000105F5\nS9030000FC\n") 2 (None ∷ Some 5 ∷ [])
 unfolding decode_pairs
 an_s_record = ((1, 5) ∷ [], refl, refl, refl)
 
+-- a record with another checksum
 pub wrong_sum : (image : List (Option ℕ)) → HoldsRecords Ihex (codes ":0100000005FB\n") 2 image → ⊥
 unfolding decode_pairs
 wrong_sum image has = search rules
@@ -89,9 +92,11 @@ outside_memory image has = search rules
 
 -- ---- raw bytes
 
+-- one byte in a memory of two
 pub one_byte : HoldsImageAs file.Raw (5 ∷ []) 2 (Some 5 ∷ None ∷ [])
 one_byte = (omega arith, refl)
 
+-- two bytes for a memory of one
 pub long_file : (image : List (Option ℕ)) → HoldsImageAs file.Raw (5 ∷ 6 ∷ []) 1 image → ⊥
 long_file image has = let fits : 2 ≤ 1 = has.0 in omega (arith, fits)
 
@@ -111,6 +116,7 @@ fields = member (codes "signature") (string (codes "1E950F")) (
 is_part : IsPart m328p
 is_part = search rules
 
+-- a table with all fields of a part
 pub a_part : IsPartOf (codes "m328p") fields m328p
 unfolding decode_pairs
 a_part = record {
@@ -124,5 +130,6 @@ a_part = record {
   is_part = is_part;
 }
 
+-- a table without fields
 pub no_part : (key : List ℕ) (part : Part) → IsPartOf key no_members part → ⊥
 no_part key part is = cc is.flash_size

@@ -74,9 +74,11 @@ chip_is_compared = refl
 
 -- ---- the link
 
+-- before the sixth frame, with nothing unread
 abbrev sixth : Progress
 sixth = progress_at 6 []
 
+-- the frame of LEAVE
 abbrev leaving : List ℕ
 leaving = 0x1B ∷ 0x06 ∷ 0x00 ∷ 0x03 ∷ 0x0E ∷ 0x11 ∷ 0x01 ∷ 0x01 ∷ 0x01 ∷ []
 

@@ -45,9 +45,11 @@ worked_forges_none = by_test device (frames worked_frames) worked_replies progra
 abbrev pub idle : List Execution
 idle = Executed ∷ Executed ∷ Executed ∷ Executed ∷ ThenRestarted Executed ∷ Executed ∷ []
 
+-- all its frames were received, the last one after the restart
 pub idle_came : ReceivedSentFrames (take 61 worked_frames) (drop 61 worked_frames ∷ []) (frames worked_frames) idle
 idle_came = record { good = refl }
 
+-- each reply is the programmer's own
 pub idle_forges_none : NoneForged device (frames worked_frames) worked_replies programmer idle []
 unfolding answer
 idle_forges_none = by_test device (frames worked_frames) worked_replies programmer idle [] refl
@@ -57,6 +59,7 @@ idle_forges_none = by_test device (frames worked_frames) worked_replies programm
 abbrev pub reading_plan : Plan
 reading_plan = record fuse_plan { tasks = Read Lfuse Raw (codes "fuse") ∷ [] }
 
+-- the file has the low fuse
 pub the_file_saved : (m : Memories)
     → saved_files reading_plan m ≡ record { name = codes "fuse"; bytes = m.lfuse ∷ [] } ∷ []
 unfolding saved_text
@@ -66,6 +69,7 @@ abbrev first_byte : List Writing → ℕ
 first_byte [] = 0
 first_byte (file ∷ files) = slice_index file.bytes 0
 
+-- a file with another byte isn't what was saved
 pub another_text : (m : Memories) (old now : Record) (byte : ℕ) → (m.lfuse ≡ byte → ⊥) → files_among (all_uses old) ≡ []
     → FilesAreSaved (saved_files reading_plan m) old now
     → files_among (all_uses now) ≡ record { name = codes "fuse"; bytes = byte ∷ [] } ∷ [] → ⊥
@@ -76,6 +80,7 @@ another_text m old now byte differs empty saved is =
     ∙ ap named_files (the_file_saved m))) in
     differs (sym (ap first_byte same))
 
+-- nor is no file
 pub no_file : (m : Memories) (old now : Record) → files_among (all_uses old) ≡ []
     → FilesAreSaved (saved_files reading_plan m) old now → files_among (all_uses now) ≡ [] → ⊥
 no_file m old now empty saved is =

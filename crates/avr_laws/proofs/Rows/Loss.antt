@@ -18,17 +18,21 @@ use Rattle.avr_laws.specs.ChipFound.{IsChipInFile}
 use Rattle.avr_laws.specs.Kept.{NoneForged}
 use Rattle.avr_laws.specs.WorkedLoss.{image_read, image_text, loss_executions, loss_frames, loss_plan, loss_programmer, loss_replies, loss_updates, loss_part, old_chip, old_file, received_first, received_later}
 
-pub ends : (played (session loss_plan) 1 loss_replies).outcome ≡ Some (0, 17, [])
+-- it ends with status 0
+pub ends_with_0 : (played (session loss_plan) 1 loss_replies).outcome ≡ Some (0, 17, [])
 unfolding session opening handshake operation closing play attempts_or_fault attempt exchange answer
-ends = refl
+ends_with_0 = refl
 
-pub sends : frames_in (played (session loss_plan) 1 loss_replies).events ≡ loss_frames
+-- it sends these frames
+pub sends_frames : frames_in (played (session loss_plan) 1 loss_replies).events ≡ loss_frames
 unfolding session opening handshake operation closing play attempts_or_fault attempt exchange answer
-sends = refl
+sends_frames = refl
 
-pub came : ReceivedSentFrames received_first (received_later ∷ []) loss_frames loss_executions
-came = record { good = refl }
+-- the programmer received them, some after a restart
+pub frames_came : ReceivedSentFrames received_first (received_later ∷ []) loss_frames loss_executions
+frames_came = record { good = refl }
 
+-- none of the replies is forged
 pub none_is_forged : NoneForged device loss_frames loss_replies loss_programmer loss_executions []
 unfolding answer
 none_is_forged = by_test device loss_frames loss_replies loss_programmer loss_executions [] refl
@@ -36,16 +40,20 @@ none_is_forged = by_test device loss_frames loss_replies loss_programmer loss_ex
 pub is_part : IsPart loss_part
 is_part = search rules
 
+-- its chip is one of the part
 pub chip_is_sound : IsSoundChip old_chip
 chip_is_sound = search (rules, is_part, All-cons, All-nil)
 
+-- and the chip of the file
 pub chip_is_in_file : IsChipInFile loss_part (Some old_file) old_chip
 chip_is_in_file = (refl, refl, refl, refl)
 
+-- what the flash has then
 pub flash_is : (after_sent_frames device loss_frames loss_executions loss_programmer).chip.flash
     ≡ 0x12 ∷ 0x34 ∷ 0xFF ∷ 0xFF ∷ 0xFF ∷ 0xFF ∷ 0xFF ∷ 0xFF ∷ []
 flash_is = refl
 
+-- the file that was opened asks for the plan's tasks
 pub image_is_asked : AreTasksOf WasOpened loss_part loss_updates loss_plan.tasks (all_openings image_read)
 unfolding decode_pairs
 image_is_asked = (

@@ -54,19 +54,19 @@ pub erase_clears_the_lock : (after_instruction Erase (chip 0xD9)).lock ≡ 0xFF
 erase_clears_the_lock = refl
 
 -- an open chip with bytes in its page buffers
-abbrev loaded : ChipState
-loaded = record (chip 0xD9) { lock = 0xFF; flash_buffer = 0xF0 ∷ 0xF1 ∷ []; eeprom_buffer = None ∷ Some 0xAA ∷ [] }
+abbrev buffered : ChipState
+buffered = record (chip 0xD9) { lock = 0xFF; flash_buffer = 0xF0 ∷ 0xF1 ∷ []; eeprom_buffer = None ∷ Some 0xAA ∷ [] }
 
 -- a write of flash clears bits, and sets none (avr_part's `execute`)
-pub flash_takes_zeros : (after_instruction (WriteFlashPage 0) loaded).flash ≡ 0xF0 ∷ 0x01 ∷ []
+pub flash_takes_zeros : (after_instruction (WriteFlashPage 0) buffered).flash ≡ 0xF0 ∷ 0x01 ∷ []
 flash_takes_zeros = refl
 
 -- a write of EEPROM keeps the bytes that weren't loaded (avr_part's `execute`)
-pub unloaded_eeprom_stays : (after_instruction (WriteEepromPage 0) loaded).eeprom ≡ 0x12 ∷ 0xAA ∷ []
+pub unloaded_eeprom_stays : (after_instruction (WriteEepromPage 0) buffered).eeprom ≡ 0x12 ∷ 0xAA ∷ []
 unloaded_eeprom_stays = refl
 
 -- a lock of FE has lock bit 0 at 0, so EEPROM stays (avr_part's `execute`)
-pub locked_eeprom_stays : (after_instruction (WriteEepromPage 0) (record loaded { lock = 0xFE })).eeprom
+pub locked_eeprom_stays : (after_instruction (WriteEepromPage 0) (record buffered { lock = 0xFE })).eeprom
     ≡ 0x12 ∷ 0x34 ∷ []
 locked_eeprom_stays = refl
 
@@ -79,11 +79,11 @@ high_fuse_is_read = refl
 abbrev lf : List ℕ
 lf = 10 ∷ []
 
-abbrev rest : List ℕ
-rest = lf ++ codes ":00000001FF" ++ lf
+abbrev end_line : List ℕ
+end_line = lf ++ codes ":00000001FF" ++ lf
 
 -- a line's sum, and a count of the data records (`value` of avr_records' `read_records`)
-pub sum_is_checked : image_in_text Ihex (codes ":0100000041BF" ++ rest) 2 ≡ Err (BadSum 1)
+pub sum_is_checked : image_in_text Ihex (codes ":0100000041BF" ++ end_line) 2 ≡ Err (BadSum 1)
 unfolding decode_pairs
 sum_is_checked = refl
 
@@ -92,12 +92,12 @@ unfolding decode_pairs
 count_is_checked = refl
 
 -- the record in a second piece counts, and so does an FF at the end (`of_text` of avr_records' `finish`)
-pub second_record_is_read : image_in_text Ihex (codes ":0100000041BE" ++ lf ++ codes ":0100010042BC" ++ rest) 2
+pub second_record_is_read : image_in_text Ihex (codes ":0100000041BE" ++ lf ++ codes ":0100010042BC" ++ end_line) 2
     ≡ Ok (Some 0x41 ∷ Some 0x42 ∷ [], Ended)
 unfolding decode_pairs
 second_record_is_read = refl
 
-pub trailing_ff_is_kept : image_in_text Ihex (codes ":0200000041FFBE" ++ rest) 2
+pub trailing_ff_is_kept : image_in_text Ihex (codes ":0200000041FFBE" ++ end_line) 2
     ≡ Ok (Some 0x41 ∷ Some 0xFF ∷ [], Ended)
 unfolding decode_pairs
 trailing_ff_is_kept = refl
@@ -108,7 +108,7 @@ offset_wraps = refl
 
 -- the end record comes after the last byte (`text` of avr_records' `new`)
 pub end_record_is_last : image_text Ihex (Some 0x41 ∷ None ∷ Some 0x42 ∷ [])
-    ≡ codes ":0100000041BE" ++ lf ++ codes ":0100020042BB" ++ rest
+    ≡ codes ":0100000041BE" ++ lf ++ codes ":0100020042BB" ++ end_line
 unfolding encode_with
 end_record_is_last = refl
 
@@ -118,15 +118,15 @@ end_record_is_last = refl
 pub waiting_byte_comes : HasNoLeadingByte (on_tape (0x1B ∷ [])) → ⊥
 waiting_byte_comes none = none
 
-abbrev programmer : Programmer
-programmer = record (fresh_programmer (fresh_state m328p)) { mode = true }
+abbrev in_mode : Programmer
+in_mode = record (fresh_programmer (fresh_state m328p)) { mode = true }
 
 -- what was replied OK was done (stk_emu's `execute`)
-pub fuse_is_written : (execute (0x17 ∷ 0xAC ∷ 0xA0 ∷ 0x00 ∷ 0x62 ∷ []) programmer).1.chip.lfuse ≡ 0x62
+pub fuse_is_written : (execute (0x17 ∷ 0xAC ∷ 0xA0 ∷ 0x00 ∷ 0x62 ∷ []) in_mode).1.chip.lfuse ≡ 0x62
 fuse_is_written = refl
 
 -- each frame has its reply (`all` of stk_emu's `reply_to_all`)
-pub each_frame_has_its_reply : emulate programmer (frame 1 (0x04 ∷ []) ++ frame 2 (0x05 ∷ []))
+pub each_frame_has_its_reply : emulate in_mode (frame 1 (0x04 ∷ []) ++ frame 2 (0x05 ∷ []))
     ≡ frame 1 (0x04 ∷ 0xC9 ∷ []) ++ frame 2 (0x05 ∷ 0xC9 ∷ [])
 each_frame_has_its_reply = refl
 

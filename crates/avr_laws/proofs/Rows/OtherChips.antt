@@ -26,20 +26,24 @@ SameAfter m bytes = (q : Programmer) → m.after bytes q ≡ device.after bytes 
 
 module _ (m : Device Programmer) (loads : (a : ℕ) → SameReply m (load_body a) × SameAfter m (load_body a))
     (resets : (q : Programmer) → m.reset q ≡ device.reset q) where
+  -- after LOAD_ADDRESS both are the same
   same_place : (address : Option ℕ) (p : Programmer) → addressed m address p ≡ addressed device address p
   same_place None p = refl
   same_place (Some a) p = (loads a).1 p
 
+  -- both have loaded the address, or neither
   same_loaded : (address : Option ℕ) (p : Programmer) → IsLoaded m address p → IsLoaded device address p
   same_loaded address p loaded = search rules
 
   module _ (part : Part) (row : Row) (p : Programmer) (reply : SameReply m row.command)
       (after : SameAfter m row.command)
     where
+      -- after the row's command both are the same
       same_end : m.after row.command (addressed m row.address p)
           ≡ device.after row.command (addressed device row.address p)
       same_end = ap (λ q. m.after row.command q) (same_place row.address p) ∙ after (addressed device row.address p)
 
+      -- a row that one refuses the other refuses
       same_refused : (q : Programmer) → RefusesRow device chip_memories (HasEmptyBuffers part) row q
           → RefusesRow m chip_memories (HasEmptyBuffers part) row q
       same_refused q refused = record {
@@ -47,11 +51,13 @@ module _ (m : Device Programmer) (loads : (a : ℕ) → SameReply m (load_body a
         bad = λ read long e. refused.bad read long (sym (reply q) ∙ e);
       }
 
+      -- also after a restart
       same_restarted : (device.reset p ≡ p)
           ⊎ RefusesRow device chip_memories (HasEmptyBuffers part) row (device.reset p)
           → (m.reset p ≡ p) ⊎ RefusesRow m chip_memories (HasEmptyBuffers part) row (m.reset p)
       same_restarted e = search (rules, same_refused)
 
+      -- so a row is done, or not at all
       same_done : IsDoneOrNot device chip_memories (HasEmptyBuffers part) part row p
           → IsDoneOrNot m chip_memories (HasEmptyBuffers part) part row p
       same_done d = record {
@@ -71,6 +77,7 @@ module _ (m : Device Programmer) (loads : (a : ℕ) → SameReply m (load_body a
         restarted = λ a is. same_restarted (d.restarted a is);
       }
 
+  -- so it keeps the rows that are vouched for
   pub does_as_emulated : (part : Part) → IsPart part → (Vouched : (row : Row) → IsRow part row → Memories → Type 0)
       → SameAfter m sign_on_body → SameReply m enter_body → SameAfter m enter_body → SameAfter m leave_body
       → ((row : Row) (is : IsRow part row) (x : Memories) → Vouched row is x
@@ -133,14 +140,17 @@ module _ (part : Part) (sound : IsPart part) where
   by_row m row other e same = subst (Same m) (sym e) same
 
   module _ (becomes : Mem → ℕ → ℕ) (byte : ℕ) where
+    -- it does each row that is vouched for as the emulated one
     calibrated_does : (row : Row) (is : IsRow part row) (x : Memories) → IsVouched becomes part row is x
         → Same (calibrated byte) row
     calibrated_does row is x v = search (rules, by_row)
 
+    -- so it keeps these rows
     pub calibrated_keeps : IsProgrammer part (calibrated byte) chip_memories (HasPart part) (HasEmptyBuffers part)
         (IsVouched becomes part)
     calibrated_keeps = search (rules, does_as_emulated, calibrated_does)
 
+  -- it does each row that is vouched for as the emulated one
   bits_do : (row : Row) (is : IsRow part row) (x : Memories) → IsVouched kept_bits part row is x → Same keeping_bits row
   bits_do row (ErasesChip e) x v = by_row keeping_bits row _ e (λ q. refl, λ q. refl)
   bits_do row (WritesFlashPage page bytes whole inside e) x v = by_row keeping_bits row _ e (λ q. refl, λ q. refl)
@@ -161,6 +171,7 @@ module _ (part : Part) (sound : IsPart part) where
   bits_do row (ReadsSignature place few e) x v = by_row keeping_bits row _ e (λ q. refl, λ q. refl)
   bits_do row (ReadsCalibration e) x v = absurd v
 
+  -- so it keeps these rows
   pub bits_keep : IsProgrammer part keeping_bits chip_memories (HasPart part) (HasEmptyBuffers part)
       (IsVouched kept_bits part)
   bits_keep = search (rules, does_as_emulated, bits_do)
@@ -169,8 +180,8 @@ module _ (part : Part) (sound : IsPart part) where
 pub not_whole : (part : Part) (byte : ℕ) (p : Programmer) → p.mode ≡ true → HasEmptyBuffers part p
     → FitsPart part (chip_memories p) → (byte ≡ 255 → ⊥)
     → IsProgrammer part (calibrated byte) chip_memories (HasPart part) (HasEmptyBuffers part) (λ row is x. Unit {0}) → ⊥
-not_whole part byte p on s f other t =
-    let d = t.rows _ p (ReadsCalibration refl) tt f s in
+not_whole part byte p in_mode ready sizes other keeps =
+    let d = keeps.rows _ p (ReadsCalibration refl) tt sizes ready in
     let read = d.good tt (byte ∷ []) refl (ap (λ (b : Bool). if b then 0x1C ∷ 0 ∷ byte ∷ 0 ∷ []
-    else 0x1C ∷ 0xC0 ∷ []) on) in
+    else 0x1C ∷ 0xC0 ∷ []) in_mode) in
     other (ap (λ (xs : List ℕ). slice_index xs 0) read.0)

@@ -38,14 +38,17 @@ pub forced_run_succeeds : (played (session (plan true)) 1 worked_replies).outcom
 unfolding session opening handshake operation closing play attempts_or_fault attempt exchange answer
 forced_run_succeeds = refl
 
+-- it sends the frames of the worked run
 pub its_frames : bytes_sent (played (session (plan true)) 1 worked_replies).events ≡ worked_frames
 unfolding session opening handshake operation closing play attempts_or_fault attempt exchange answer
 its_frames = refl
 
+-- without -F
 pub unforced_run_fails : (played (session (plan false)) 1 worked_replies).outcome ≡ Some (1, 7, [])
 unfolding session opening handshake operation closing play attempts_or_fault attempt exchange answer
 unforced_run_fails = refl
 
+-- the chip has the geometry of the plan's part
 pub chip_fits : HasGeometryOf m328 m328p
 chip_fits = refl
 
@@ -73,14 +76,17 @@ sixth = 0x1B ∷ 0x06 ∷ 0x00 ∷ 0x02 ∷ 0x0E ∷ 0x11 ∷ 0x00 ∷ 0x00 ∷ 
 abbrev damaged : List ℕ
 damaged = 0x1B ∷ 0x07 ∷ 0x00 ∷ 0x0B ∷ 0x0E ∷ drop 5 first
 
+-- what arrives: the damaged reply, and then all six
 abbrev come : List Arrival
 come = FrameArrives damaged ∷ FrameArrives first ∷ FrameArrives second ∷ FrameArrives third ∷ FrameArrives fourth
     ∷ FrameArrives fifth ∷ FrameArrives sixth ∷ []
 
+-- over this link the run ends with status 0
 pub damaged_run_succeeds : (played (session (plan true)) 1 (tape_of_arrivals come)).outcome ≡ Some (0, 7, [])
 unfolding session opening handshake operation closing play attempts_or_fault attempt exchange answer
 damaged_run_succeeds = refl
 
+-- it sends the same frames
 pub damaged_run_sends : bytes_sent (played (session (plan true)) 1 (tape_of_arrivals come)).events ≡ worked_frames
 unfolding session opening handshake operation closing play attempts_or_fault attempt exchange answer
 damaged_run_sends = refl
@@ -88,12 +94,15 @@ damaged_run_sends = refl
 another_number : ◌≢◌ {A = ℕ} 0x01 0x07
 another_number same = omega (arith, same)
 
+-- all six frames came whole
 abbrev all_whole : List Bool
 all_whole = true ∷ true ∷ true ∷ true ∷ true ∷ true ∷ []
 
+-- the bytes after the first ones
 abbrev from : ℕ → List ℕ
 from n = drop n worked_frames
 
+-- so all frames arrived
 pub damaged_run_arrived : Arrived (frames worked_frames) all_whole worked_frames
 damaged_run_arrived =
     (from 7, refl, (from 25, refl, (from 37, refl, (from 49, refl, (from 61, refl, ([], refl, refl))))))
@@ -102,6 +111,7 @@ damaged_run_arrived =
 none_skipped : {A : Type 0} → true ≡ false → A
 none_skipped skipped = absurd (true≢false skipped)
 
+-- each reply arrives, whole or damaged in one byte
 pub damaged_run_brings_replies : BringsReplies device (session (plan true)) 1 come programmer
     (executions_by_arrival all_whole) []
 unfolding session opening handshake operation closing play attempts_or_fault attempt exchange answer
@@ -140,6 +150,7 @@ not_forced before after old now kept =
 abbrev reading : Plan
 reading = record (plan true) { tasks = Read Signature Raw (codes "found") ∷ [] }
 
+-- the file has the chip's signature
 pub the_signature_saved : (m : Memories)
     → saved_files (on_part m328p reading) m ≡ record { name = codes "found"; bytes = 0x1E ∷ 0x95 ∷ 0x0F ∷ [] } ∷ []
 unfolding saved_text
@@ -149,6 +160,7 @@ abbrev last_byte : List Writing → ℕ
 last_byte [] = 0
 last_byte (file ∷ files) = slice_index file.bytes 2
 
+-- a file with that of the plan's part isn't what was saved
 pub another_signature : (m : Memories) (old now : Record) → files_among (all_uses old) ≡ []
     → FilesAreSaved (saved_files (on_part m328p reading) m) old now
     → files_among (all_uses now) ≡ record { name = codes "found"; bytes = m328.signature } ∷ [] → ⊥

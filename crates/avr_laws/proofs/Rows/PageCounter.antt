@@ -10,19 +10,19 @@ use Rattle.avr_laws.specs.WorkedBootloader.{Bootloader, boot_before, bootloader}
 use Rattle.avr_laws.specs.WorkedLoss.{loss_part}
 
 -- page 0 is written while the counter is at page 1
-abbrev start : Bootloader
-start = record boot_before {
+abbrev at_page_1 : Bootloader
+at_page_1 = record boot_before {
   programming = true;
   memories = record boot_before.memories { flash = 1 ∷ 2 ∷ 3 ∷ 4 ∷ 5 ∷ 6 ∷ 7 ∷ 8 ∷ [] };
 }
 
-pub fits : FitsPart loss_part start.memories
-fits = record { flash = refl; eeprom = refl; bytes = search arith }
+pub start_fits : FitsPart loss_part at_page_1.memories
+start_fits = record { flash = refl; eeprom = refl; bytes = search arith }
 
-pub counter_refused : (IsIn IsReady : Bootloader → Type 0) → IsReady start
+pub counter_refused : (IsIn IsReady : Bootloader → Type 0) → IsReady at_page_1
     → IsProgrammer loss_part (bootloader loss_part) (λ b. b.memories) IsIn IsReady (IsVouched (λ mem byte. byte) loss_part) → ⊥
 counter_refused IsIn IsReady ready t =
-    let d = t.rows _ start (WritesFlashPage 0 (0 ∷ 0 ∷ 0 ∷ 0 ∷ []) refl (omega arith) refl) tt fits ready in
+    let d = t.rows _ at_page_1 (WritesFlashPage 0 (0 ∷ 0 ∷ 0 ∷ 0 ∷ []) refl (omega arith) refl) tt start_fits ready in
     elim (d.either refl) [
       | inl kept ↦ let five : 255 ≡ 5 = ap (λ (x : Memories). slice_index x.flash 4) kept.memories in
           omega (arith, five)

@@ -23,6 +23,7 @@ perfect_transcript (Emit e d) n p = perfect_transcript d n p
 perfect_transcript (Ask bytes go_on) n p = Sent (frame n bytes) ∷ Got (on_tape (frame n (device.reply bytes p)))
     ∷ perfect_transcript (go_on (Replied (device.reply bytes p))) (next n) (device.after bytes p)
 
+-- a reply with the command's number is the one that is read
 own_reply : (n : ℕ) (bytes : List ℕ) (later : Tape) → IsFrameBody bytes
     → answer n (on_tape (frame n bytes) ++ later) ≡ Some (Replied bytes, later)
 own_reply n bytes later b =
@@ -41,6 +42,7 @@ asked bytes go_on n reply later b = search (rules, own_reply)
 -- a dialog in turn, as one that continues it
 module _ {E R : Type 0} (d e : Dialog E R) (n k : ℕ) (prefix : Tape) (events : List (Event E))
     (goes : (tape : Tape) → played d n (prefix ++ tape) ≡ prepend_events events (played e k tape)) where
+  -- after an exchange
   in_turn_after : (transcript : Transcript) (tape : Tape) (bytes : List ℕ) → InTurnFrom e k tape bytes transcript
       → InTurnFrom d n (prefix ++ tape) (bytes_sent events ++ bytes) transcript
   in_turn_after [] tape bytes exchanges = tt
@@ -50,6 +52,7 @@ module _ {E R : Type 0} (d e : Dialog E R) (n k : ℕ) (prefix : Tape) (events :
   in_turn_after (Got items ∷ transcript) tape bytes exchanges =
       search (rules, bytes_append, append_assoc, in_turn_after transcript (tape ++ items) bytes exchanges.1)
 
+-- so it is for the whole conversation
 pub in_turn : {E R : Type 0} (d : Dialog E R) (n : ℕ) (p : Programmer) → SendsValidBodies d
     → InTurnFrom d n [] [] (perfect_transcript d n p)
 in_turn (Done r) n p asks = tt

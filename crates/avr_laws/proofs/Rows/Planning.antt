@@ -29,24 +29,30 @@ use Rattle.avr_plan.specs.declared.planned.Task.{Task}
 use Rattle.avr_plan.specs.declared.planned.Task.TheVariants.{Write}
 use Rattle.avr_desk.proofs.Stages.Breaks.{Begins, begins_then, begins_file, unopened, opened_is_reported, ReportsOne, refused_once}
 
+-- the limits of an image's file and of a part file
 limits : (LARGEST_IMAGE_FILE ≡ 4194304) × (LARGEST_PART_FILE ≡ 65536)
 limits = (refl, refl)
 
+-- the file of the plan's update
 abbrev file : Bytes
 file = codes "x.hex"
 
 abbrev other : Bytes
 other = codes "y.hex"
 
+-- half of its line
 abbrev half : Bytes
 half = take 30 (not_opened_line file)
 
+-- an update by this file
 abbrev of_file : Update
 of_file = record { memory = Flash; op = op.Write; format = Ihex; file = file }
 
+-- an update by a value
 abbrev of_values : Update
 of_values = record { memory = Eeprom; op = op.Write; format = Immediate; file = codes "1" }
 
+-- the settings
 abbrev wanted : Settings
 wanted = record {
   part = codes "m328p";
@@ -64,8 +70,9 @@ task = file_image_stage no_switches file Ihex 32768 >>= λ image. result_stage (
 abbrev tasks : Stage (List Task)
 tasks = task >>= λ first. result_stage (Ok (first ∷ []))
 
-begins : Begins file (planned wanted)
-begins =
+-- planning begins by opening the file
+opening : Begins file (planned wanted)
+opening =
     begins_then file tasks (λ all. result_stage (Ok (record { part = m328p; tasks = all; switches = no_switches })))
     (begins_then file task (λ first. result_stage (Ok (first ∷ []))) (search (rules, begins_then, begins_file)))
 
@@ -79,6 +86,7 @@ differs place line notice old new apart (inr part) = search rules
 
 -- ---- when it allocates with no file open
 
+-- a single update is the one that is due
 only_due : (u due : Update) (done more : List Update) → u ∷ [] ≡ done ++ due ∷ more → due ≡ u
 only_due u due [] more is = cc
 only_due u due (x ∷ []) more is = let none : [] ≡ due ∷ more = cc in absurd (cc)
@@ -88,6 +96,7 @@ only_due u due (x ∷ y ∷ done) more is = let none : [] ≡ y ∷ (done ++ due
 abbrev mixed : Settings
 mixed = record wanted { updates = of_values ∷ of_file ∷ [] }
 
+-- before it allocates for the values nothing was opened
 begins_mixed : (passed : List Opening) (emitted : List OutputEvent) (done : List Update) (due : Update)
     (more : List Update)
     (made : Plan) → of_values ∷ of_file ∷ [] ≡ done ++ due ∷ more → op_allocates due due.op ≡ true
@@ -99,6 +108,7 @@ begins_mixed : (passed : List Opening) (emitted : List OutputEvent) (done : List
 begins_mixed passed emitted [] due more made is allocates planned_so = search rules
 begins_mixed passed emitted (x ∷ done) due more made is allocates planned_so = search (rules, only_due)
 
+-- so it is at each such moment
 takes_first : (passed : List Opening) (emitted : List OutputEvent) → AtAllocatingUpdate mixed passed emitted
     → (passed ≡ []) × (emitted ≡ [])
 takes_first passed emitted at =
@@ -122,7 +132,7 @@ module _ (r : Record) (k l m n status : ℕ) where
   ReportedAs notice = ReportsFailureAs (not_opened_line file) notice (showing r k m) (showing (after_err notice r) l n)
 
   notice_by : (notice : Bytes) → Ends notice → ReportedAs notice
-  notice_by notice ends = of_file_alone (unopened (AtAllocatingUpdate wanted) file notice (planned wanted) begins r k l
+  notice_by notice ends = of_file_alone (unopened (AtAllocatingUpdate wanted) file notice (planned wanted) opening r k l
       m n status ends)
     where
       of_file_alone : ReportedAs notice ⊎ (ReportsLineAs memory_line notice (showing r k m)
@@ -143,6 +153,7 @@ module _ (r : Record) (k l m n status : ℕ) where
   second_line : Ends (not_opened_line file ++ memory_line) → ⊥
   second_line ends = search (rules, notice_by)
 
+  -- half a line, though the desk took all
   half_a_line : l ≡ k + 1 → l < 2 ^ 64 - 1 → Ends half → ⊥
   half_a_line one few ends = search (rules, notice_by)
 
@@ -151,6 +162,7 @@ module _ (r : Record) (k l m n status : ℕ) where
       → ReportedAs []
   reported_silence ends = search (rules, notice_by)
 
+  -- no message, though no failure was counted
   silence : NoFailureCounted k l → RunsStage (AtAllocatingUpdate wanted) (planned wanted) (showing r k m)
       (showing r l n) (Err status) → ⊥
   silence sound ends = search (rules, reported_silence)
@@ -181,6 +193,7 @@ lacking = record wanted { part = codes "t99" }
 abbrev refusal : Bytes
 refusal = no_part_line (codes "t99")
 
+-- planning is refused, and opens nothing
 lacks : (openings : List Opening) → planned lacking openings
     ≡ record { output_events = []; stage_outcome = Refused refusal; openings_left = openings }
 lacks openings = refl
@@ -191,6 +204,7 @@ module _ (r : Record) (k l m n status : ℕ) where
       m n → ⊥
   refused_twice x0 = search rules
 
+  -- so two faults are never reported
   two_faults : RunsStage (AtAllocatingUpdate lacking) (planned lacking) (showing r k m)
       (showing (after_err (refusal ++ memory_line) r) l n) (Err status) → ⊥
   two_faults ends = refused_twice (search (rules, refused_once))

@@ -119,13 +119,16 @@ sends openings = refl
 pub is_part : IsPart m328p
 is_part = search rules
 
+-- the session sends valid bodies
 asks : SendsValidBodies (session plan)
 asks = session_asks plan is_part
     (All-cons (IsFitted m328p) (Write Lfuse (Some 0xE2 ∷ [])) [] (refl, refl) (All-nil (IsFitted m328p)))
 
+-- the desk after the run
 abbrev reported : DeskState
 reported = showing (after_events (outputs (run settings [] (heard passed)).events) nothing_kept) 0 0
 
+-- the run
 abbrev ran : IsRun settings (devices (link_state [] 0) begun) (devices (link_state passed 0) reported) 0
 ran = record {
   openings = [];
@@ -142,12 +145,14 @@ ran = record {
   sound = (refl, (refl, refl));
 }
 
+-- so its plan was kept
 pub run_is_kept : IsKept plan passed nothing_kept reported.kept
 run_is_kept =
     kept settings plan (devices (link_state [] 0) begun) (devices (link_state passed 0) reported) ran refl refl
 
 -- ---- its premises hold
 
+-- a fresh chip of any part is sound
 fresh_is_sound : (part : Part) → IsPart part → IsSoundChip (fresh_state part)
 fresh_is_sound part is =
     search (rules, length-replicate, All-replicate (λ b. b < 256), All-replicate (λ o. IfSome o (λ b. b < 256)))
@@ -166,24 +171,28 @@ arrivals (Ask bytes go_on) n p =
 abbrev tape : Tape
 tape = tape_of_arrivals (arrivals (session plan) 1 programmer)
 
+-- this is what was received
 its_tape : tape ≡ heard passed
 unfolding session opening handshake operation closing play attempts_or_fault attempt exchange answer
 its_tape = refl
 
+-- the frames that were sent
 its_frames : frames_in (played (session plan) 1 tape).events ++ [] ≡ frames (sent passed)
 unfolding session opening handshake operation closing play attempts_or_fault attempt exchange answer
 its_frames = refl
 
-brings : BringsReplies device (session plan) 1 (arrivals (session plan) 1 programmer) programmer executions []
+-- each reply arrived whole
+brings_each : BringsReplies device (session plan) 1 (arrivals (session plan) 1 programmer) programmer executions []
 unfolding session opening handshake operation closing play attempts_or_fault attempt exchange answer
-brings = search rules
+brings_each = search rules
 
+-- so none is forged
 none_forged : NoneForged device (frames (sent passed)) (heard passed) programmer executions []
 none_forged =
     subst (λ (t : Tape). NoneForged device (frames (sent passed)) t programmer executions []) its_tape
     (subst (λ (fs : List (List ℕ)). NoneForged device fs tape programmer executions []) its_frames
     (its_none_forged device (session plan) 1 tape programmer executions [] (brings_no_frame device reply_fits_frame
-    (session plan) 1 (arrivals (session plan) 1 programmer) programmer executions [] tt brings)))
+    (session plan) 1 (arrivals (session plan) 1 programmer) programmer executions [] tt brings_each)))
 
 -- all at once
 pub premises_hold : IsSoundChip programmer.chip × HasGeometryOf plan.part programmer.chip.part
@@ -192,27 +201,35 @@ premises_hold = (chip_is_sound, refl, none_forged)
 
 -- ---- so does what it kept
 
+-- the memories before the run
 abbrev fresh : Memories
 fresh = memories_of (fresh_state m328p)
 
-abbrev left : Chip
-left = (after_sent_frames device (frames (sent passed)) executions programmer).chip
+-- the chip after it
+abbrev left_chip : Chip
+left_chip = (after_sent_frames device (frames (sent passed)) executions programmer).chip
 
-pub kept_on_part : KeepsOnPart m328p plan fresh (memories_of left) nothing_kept reported.kept
+-- its plan was kept on its part
+pub kept_on_part : KeepsOnPart m328p plan fresh (memories_of left_chip) nothing_kept reported.kept
 kept_on_part = run_is_kept programmer executions chip_is_sound refl none_forged
 
-pub plan_kept : Keeps plan fresh (memories_of left) nothing_kept reported.kept
+-- so it was kept
+pub plan_kept : Keeps plan fresh (memories_of left_chip) nothing_kept reported.kept
 plan_kept = kept_on_part.keeps
 
+-- its comparisons agreed
 pub compared : PlanAgrees plan fresh
 compared = plan_kept.agrees
 
-pub fuse_written : IsWritten m328p (asked_items plan) fresh (memories_of left)
+-- its fuse was written
+pub fuse_written : IsWritten m328p (asked_items plan) fresh (memories_of left_chip)
 fuse_written = plan_kept.images refl
 
+-- with another fuse they don't agree
 pub another_fuse : (m : Memories) → (m.lfuse ≡ 0xE2 → ⊥) → PlanAgrees fuse_plan m → ⊥
 another_fuse m other agrees = other (agrees.0 0 0xE2 refl (omega arith))
 
+-- a fuse that wasn't written
 pub fuse_unwritten : IsWritten m328p (asked_items plan) fresh fresh → ⊥
 fuse_unwritten written = let byte : 255 ≡ 0xE2 = written.images Lfuse 0 0xE2 refl (omega arith) in omega (arith, byte)
 
@@ -221,6 +238,7 @@ pub plan_unkept : (old now : Record) → Keeps plan fresh fresh old now → ⊥
 plan_unkept old now keeps =
     let byte : 255 ≡ 0xE2 = ap (λ (m : Memories). m.lfuse) keeps.made in omega (arith, byte)
 
+-- so its plan isn't kept, if it has a write
 pub write_unsent : (old now : Record) → IsKept plan (Sent worked_frames ∷ Got worked_replies ∷ []) old now → ⊥
 write_unsent old now kept =
     let keeps : KeepsOnPart m328p plan fresh
@@ -237,33 +255,41 @@ whole mem byte = byte
 abbrev pub Any : Plan → Transcript → Record → Record → Type 0
 Any = IsKeptByAny m328p device chip_memories (HasPart m328p) (HasEmptyBuffers m328p) whole
 
+-- at any programmer that keeps the rows
 pub run_is_kept_by_any : IsKeptByAny m328p device chip_memories (HasPart m328p) (HasEmptyBuffers m328p) whole plan
     passed nothing_kept reported.kept
 run_is_kept_by_any =
     kept_by_any m328p device chip_memories (HasPart m328p) (HasEmptyBuffers m328p) whole settings plan
     (devices (link_state [] 0) begun) (devices (link_state passed 0) reported) ran refl refl
 
+-- the emulated programmer does
 pub rows_kept : IsProgrammer m328p device chip_memories (HasPart m328p) (HasEmptyBuffers m328p) (IsVouched whole m328p)
 rows_kept = emulated_meets m328p is_part (IsVouched whole m328p)
 
+-- it has a chip of the part
 pub is_in : HasPart m328p programmer
 is_in =
     let idle = sound_idle programmer chip_is_sound in
     record { part_is = idle.part_is; flash_buffer = idle.flash_buffer; eeprom_buffer = idle.eeprom_buffer }
 
+-- whose memories fit the part
 pub chip_fits_part : FitsPart m328p fresh
 chip_fits_part = sound_fits (fresh_state m328p) chip_is_sound
 
+-- memories of another size don't
 pub flash_short : FitsPart m328p (record fresh { flash = 1 ∷ 2 ∷ [] }) → ⊥
 flash_short fits = let short = fits.flash in omega (arith, short)
 
+-- the plan suits the sheet
 pub plan_suits : SuitsPlan whole plan fresh
 plan_suits = ((λ written. refl), tt)
 
-pub kept_by_table : KeepsOnPart m328p plan fresh (memories_of left) nothing_kept reported.kept
+-- so it was kept
+pub kept_by_table : KeepsOnPart m328p plan fresh (memories_of left_chip) nothing_kept reported.kept
 kept_by_table =
     run_is_kept_by_any is_part refl rows_kept programmer executions is_in chip_fits_part plan_suits none_forged
 
+-- a write that wasn't sent
 pub write_unsent_to_any : (old now : Record)
     → IsKeptByAny m328p device chip_memories (HasPart m328p) (HasEmptyBuffers m328p) whole plan
     (Sent worked_frames ∷ Got worked_replies ∷ []) old now → ⊥
@@ -286,18 +312,22 @@ frame_forged none = search rules
 
 -- ---- files
 
+-- a record of these uses
 abbrev used : List FileUse → Record
 used uses = record nothing_kept { uses = uses }
 
+-- a file with the low fuse was saved
 pub file_saved : (m : Memories) → FilesAreSaved (saved_files reading_plan m) nothing_kept
     (used (Created (record { name = codes "fuse"; bytes = m.lfuse ∷ [] }) ∷ []))
 unfolding saved_text
 file_saved m = record { created = refl; output = refl }
 
+-- a file that was read to its end gave its text
 pub whole_read : (name text : Bytes) → WasOpened name text
     (all_openings (used (Opened (Found (record { name = name; bytes = text; ended = true })) ∷ [])))
 whole_read name text = refl
 
+-- the settings ask for this plan
 pub plan_asked : (Gives : GivesText) → IsAsked settings Gives [] plan
 plan_asked Gives = record {
   parts = [];
@@ -310,9 +340,11 @@ plan_asked Gives = record {
   switches = refl;
 }
 
+-- without a chip file the chip is fresh
 pub no_chip_file : AreInFile m328p None fresh
 no_chip_file = refl
 
+-- a chip file that is too short
 pub short_chip_file : (m : Memories) → AreInFile m328p (Some []) m → ⊥
 short_chip_file m are =
     let size : 0 ≡ 33796 =
@@ -324,17 +356,18 @@ short_chip_file m are =
 abbrev file : Bytes
 file = codes "chip"
 
-abbrev loaded : Record
-loaded = with_absent file nothing_kept
+abbrev loaded_desk : Record
+loaded_desk = with_absent file nothing_kept
 
-abbrev saved : Record
-saved = with_replaced file (file_of_memories (memories_of left)) loaded
+abbrev saved_desk : Record
+saved_desk = with_replaced file (file_of_memories (memories_of left_chip)) loaded_desk
 
-pub chip_saved : IsKeptInFile file None plan nothing_kept saved
+-- the chip was saved
+pub chip_saved : IsKeptInFile file None plan nothing_kept saved_desk
 chip_saved = record {
   before = fresh;
-  after = memories_of left;
-  ended = loaded;
+  after = memories_of left_chip;
+  ended = loaded_desk;
   was = no_chip_file;
   keeps = record {
     made = plan_kept.made;
@@ -345,10 +378,12 @@ chip_saved = record {
   saved = refl;
 }
 
+-- a list with an element isn't empty
 not_none : (xs : List Writing) (x : Writing) → xs ++ x ∷ [] ≡ [] → ⊥
 not_none [] x e = cc
 not_none (y ∷ xs) x e = cc
 
+-- a run that tried to save nothing
 pub chip_unsaved : (name : Bytes) (found : Option Bytes) (other : Plan) (old new : Record) → new.tried ≡ []
     → IsKeptInFile name found other old new → ⊥
 chip_unsaved name found other old new none kept =
@@ -370,6 +405,7 @@ abbrev streams : List ℕ → List ℕ → Transcript → StreamState (List ℕ)
 streams unread taken transcript =
     record { reader = unread; writer = taken; failures = 0; last_error = None; transcript = transcript }
 
+-- a reader that may always time out had each timeout
 each_timeout : (before : List ℕ) (tape : Tape)
     → EachTimedOut (TimedOutAfter reads.remaining timed_out (before ++ bytes_on_tape tape)) before tape
 each_timeout before [] = tt
@@ -380,10 +416,12 @@ each_timeout before (Byte byte ∷ tape) =
     (append_assoc before (byte ∷ []) (bytes_on_tape tape)) (each_timeout (before ++ byte ∷ []) tape)
 each_timeout before (End ∷ tape) = each_timeout before tape
 
+-- all that passed is in the transcript
 pub all_passed : (during : Transcript) → TranscriptIsTrueSince reads.remaining timed_out writes.contents
     (streams (bytes_on_tape (heard during)) [] []) (streams [] (sent during) during)
 all_passed during = let paused = each_timeout [] (heard during) in search (rules, append-nil)
 
+-- a byte that the writer didn't take
 pub byte_lost : TranscriptIsTrueSince reads.remaining timed_out writes.contents (streams [] [] [])
     (streams [] [] (Sent (0 ∷ []) ∷ [])) → ⊥
 byte_lost truly =
@@ -424,6 +462,7 @@ pause_made_up truly =
 abbrev address : Bytes
 address = codes "here:1"
 
+-- a network with one address
 abbrev pub network : Networks ℕ (List ℕ) ℕ
 network = record {
   reaches = λ side name. name ≡ address;
@@ -433,10 +472,12 @@ network = record {
   unused = ⊥;
 }
 
+-- the connection was made to it
 pub connected : (during : Transcript)
     → IsOverAddress network reads timed_out writes (λ side. Unit {0}) address (Some (link_state during 0))
 connected during = search (rules, all_passed during)
 
+-- a connection to another address
 pub elsewhere : (now : LinkState)
     → IsOverAddress network reads timed_out writes (λ side. Unit {0}) (codes "away:1") (Some now) → ⊥
 elsewhere now over =
@@ -444,8 +485,8 @@ elsewhere now over =
 
 -- ---- the record of a desk: the chip file was absent, and then made
 
-abbrev system : Ghosts SystemCalls (List ℕ) (List ℕ) (List ℕ)
-system = record {
+abbrev one_file : Ghosts SystemCalls (List ℕ) (List ℕ) (List ℕ)
+one_file = record {
   has_done = λ done now. done ≡ now;
   is_input = λ input. ⊥;
   is_of = λ opened name. ⊥;
@@ -459,6 +500,7 @@ system = record {
   began = λ name found. ⊥;
 }
 
+-- a desk with which nothing was done
 abbrev unused : Shown SystemCalls (List ℕ) (List ℕ) (List ℕ) ℕ ℕ
 unused = record {
   system = no_calls;
@@ -472,33 +514,40 @@ unused = record {
   kept = nothing_kept;
 }
 
-pub desk_new : IsNewDesk system unused
+-- it is new
+pub desk_new : IsNewDesk one_file unused
 desk_new = record { fresh = refl; unheld = λ name found may. may; opened = refl; hold = refl; kept = refl }
 
-pub desk_used : IsNewDesk system (record unused { hold = Some [] }) → ⊥
+-- a desk that holds a file isn't
+pub desk_used : IsNewDesk one_file (record unused { hold = Some [] }) → ⊥
 desk_used desk = let none : ◌≡◌ {A = Option (List ℕ)} (Some []) None = desk.hold in cc
 
+-- the chip file wasn't there
 abbrev absent : FileUse
 absent = Opened (Absent file)
 
+-- then it was made
 abbrev made : FileUse
 made = Created (record { name = file; bytes = 0 ∷ [] })
 
 abbrev uses : Record
 uses = record nothing_kept { uses = absent ∷ made ∷ [] }
 
-pub record_true : RecordsFiles system reads writes reads
+-- the record shows each call
+pub record_true : RecordsFiles one_file reads writes reads
     (record unused { system = calls_of_record uses; kept = uses })
 record_true =
-    search (rules, All-cons (IsTrueUse system reads writes reads), All-nil (IsTrueUse system reads writes reads))
+    search (rules, All-cons (IsTrueUse one_file reads writes reads), All-nil (IsTrueUse one_file reads writes reads))
 
-pub call_unrecorded : RecordsFiles system reads writes reads
+-- a file that was opened and not recorded
+pub call_unrecorded : RecordsFiles one_file reads writes reads
     (record unused { system = record { calls = Opens file ∷ []; holds = 0 } }) → ⊥
 call_unrecorded truly =
     let none : 0 ≡ 1 = ap (λ (done : SystemCalls). length done.calls) truly.has_done in omega (arith, none)
 
 -- ---- messages: a line that their writer took, and one that it didn't
 
+-- a desk whose writer of messages took this, and whose record has that
 abbrev printing : Bytes → Bytes → Shown SystemCalls (List ℕ) (List ℕ) (List ℕ) Bytes Bytes
 printing taken recorded = record {
   system = no_calls;
@@ -512,9 +561,11 @@ printing taken recorded = record {
   kept = record nothing_kept { messages = recorded };
 }
 
+-- a line that the writer took
 pub line_taken : (line : Bytes) → RecordsOutput writes writes (printing [] []) (printing line line)
 line_taken line = record { messages = (line, refl, refl); output = ([], refl, λ apart none. refl) }
 
+-- a line that it didn't take
 pub line_untaken : RecordsOutput writes writes (printing [] []) (printing [] (0 ∷ [])) → ⊥
 line_untaken shown =
     let none : 1 ≡ 0 = ap (λ (bytes : Bytes). length bytes) (shown.messages.1 ∙ sym shown.messages.2) in
@@ -522,14 +573,17 @@ line_untaken shown =
 
 -- ---- each port
 
+-- the run followed its plan
 pub plan_followed : KeepsPlan settings nothing_kept reported.kept []
     (λ made. Any made passed nothing_kept reported.kept)
 unfolding session opening handshake attempts_or_fault attempt exchange answer play operation closing
 plan_followed = (plan, [], refl, plan_asked WasOpened, run_is_kept_by_any)
 
+-- over standard streams
 pub over_streams : (At : ConnectionState) → KeepsPlanAt Any At Stdio settings passed nothing_kept reported.kept
 over_streams At = plan_followed
 
+-- over the network
 pub over_network : KeepsPlanAt Any (IsOverAddress network reads timed_out writes (λ side. Unit {0})) (Network address)
     settings [] nothing_kept reported.kept
 over_network = (
@@ -541,13 +595,15 @@ over_network = (
   ),
 )
 
-pub over_emulator : (At : ConnectionState) → KeepsPlanAt Any At (Emulated file) settings [] nothing_kept saved
+-- over the emulator
+pub over_emulator : (At : ConnectionState) → KeepsPlanAt Any At (Emulated file) settings [] nothing_kept saved_desk
 over_emulator At = (refl, (None, (plan, [], refl, plan_asked WasOpened, chip_saved)))
 
 -- a part that nobody knows
 abbrev pub unknown : Settings
 unknown = record worked_settings { part = codes "none" }
 
+-- so no plan was kept
 pub part_unknown : (At : ConnectionState) (during : Transcript) (old new : Record)
     → KeepsPlanAt Any At Stdio unknown during old new → ⊥
 part_unknown At during old new (other, opened, is, asked, keeps) =
@@ -555,10 +611,12 @@ part_unknown At during old new (other, opened, is, asked, keeps) =
     subst (λ (parts : List Part). find (has_id (codes "none")) (parts ++ built_in_parts) ≡ Some other.part)
     asked.are_parts.0 asked.part in cc
 
+-- a run whose connection was never made
 pub not_connected : (At : ConnectionState) (name : Bytes) (s : Settings) (during : Transcript) (old new : Record)
     → ((link : LinkState) → At name (Some link) → ⊥) → KeepsPlanAt Any At (Network name) s during old new → ⊥
 not_connected At name s during old new none (_, (link, over, keeps)) = none link over
 
+-- a run that tried to save nothing
 pub file_unsaved : (At : ConnectionState) (name : Bytes) (s : Settings) (during : Transcript) (old new : Record)
     → new.tried ≡ [] → KeepsPlanAt Any At (Emulated name) s during old new → ⊥
 file_unsaved At name s during old new none (_, (found, (other, opened, is, asked, keeps))) =
@@ -583,6 +641,7 @@ none_serves : first_of (codes "serve") (matches_of avrstk words) ≡ None
 unfolding avrstk options bundle_met walked chars encode
 none_serves = refl
 
+-- the command line asks for these settings
 pub settings_asked : AsksFor (matches_of avrstk words) settings
 settings_asked = settings_are (matches_of avrstk words) settings words_read none_serves
 
@@ -615,6 +674,7 @@ service_given : first_of (codes "serve") (matches_of avrstk service_words) ≡ S
 unfolding avrstk options bundle_met walked chars encode
 service_given = refl
 
+-- the words ask for a service
 pub service_asked : AsksToServe (matches_of avrstk service_words)
 service_asked = elim (serves_or_asks service_words service (sym service_read)) [
   | inl (serves, named) ↦ serves
@@ -623,15 +683,18 @@ service_asked = elim (serves_or_asks service_words service (sym service_read)) [
       absurd (cc clash)
 ]
 
+-- a run without `--serve`
 pub service_unasked : AsksToServe (matches_of avrstk words) → ⊥
 service_unasked serves =
     let clash : ◌≡◌ {A = Option Bytes} None (Some serves.number.0) = sym none_serves ∙ serves.number.1 in
     absurd (cc clash)
 
+-- so what it asks for was kept
 pub line_kept : KeepsCommandLine Any (λ given. given ≡ words) (λ name seen. ⊥) passed nothing_kept
     reported.kept
 line_kept = (words, refl, λ taken. inr (settings, settings_asked, over_streams (λ name seen. ⊥)))
 
+-- a command line with a part that nobody knows
 abbrev other_words : List Bytes
 other_words = codes "avrstk" ∷ codes "-p" ∷ codes "none" ∷ codes "-P" ∷ codes "stdio:" ∷ []
 
@@ -647,9 +710,11 @@ none_serves_others : first_of (codes "serve") (matches_of avrstk other_words) �
 unfolding avrstk options bundle_met walked chars encode
 none_serves_others = refl
 
+-- equal results have equal settings
 ok_is : (a b : Settings) → ◌≡◌ {A = Result Settings SettingsFault} (Ok a) (Ok b) → a ≡ b
 ok_is a b e = cc
 
+-- so nothing was kept
 pub line_unkept : (At : ConnectionState) (during : Transcript) (old new : Record)
     → KeepsCommandLine Any (λ given. given ≡ other_words) At during old new → ⊥
 line_unkept At during old new (given, is, keeps) = elim (keeps (ap (takes avrstk) is ∙ other_taken)) [

@@ -13,6 +13,7 @@ use Rattle.stk_host.specs.Transcript.{Transcript, Sent, Got}
 use Rattle.stk_emu.specs.Programmer.{Programmer}
 use Rattle.avr_tool.specs.Serving.{RepliesInTurn}
 
+-- the limit of a chip file
 limits : LARGEST_CHIP_FILE ≡ 4194304
 limits = refl
 
@@ -29,6 +30,7 @@ denials r = length r.denied
 abbrev file_count : Record → ℕ
 file_count r = length r.uses
 
+-- a denial of a file that nobody was asked to lock
 pub no_denial_unasked : (file : Bytes) → LocksFile begun (now (after_err (error (in_use_pieces file)) nothing_kept) 0) file
     (Err 1) → ⊥
 no_denial_unasked file holds = search rules
@@ -60,11 +62,13 @@ reply = 0x1B ∷ 0x09 ∷ 0x00 ∷ 0x02 ∷ 0x0E ∷ 0x05 ∷ 0xC9 ∷ 0xD2 ∷ 
 abbrev ahead : Transcript
 ahead = Got (on_tape frame) ∷ (Got (End ∷ []) ∷ (Sent reply ∷ []))
 
+-- one that listens before it replies
 pub not_ahead : (p : Programmer) → RepliesInTurn p [] [] ahead → ⊥
 not_ahead p in_turn = let none : [] ≡ reply = in_turn.1.0 in absurd (cc)
 
 abbrev short : Transcript
 short = Got (on_tape frame) ∷ (Sent (0x1B ∷ 0x09 ∷ 0x00 ∷ 0x02 ∷ 0x0E ∷ 0x05 ∷ 0xC9 ∷ []) ∷ (Got (End ∷ []) ∷ []))
 
+-- one that keeps a byte
 pub not_short : (p : Programmer) → RepliesInTurn p [] [] short → ⊥
 not_short p in_turn = search rules

@@ -10,6 +10,7 @@ use Rattle.avr_laws.proofs.Asked.Ports.{port_is, port_read}
 use Rattle.avr_laws.proofs.Asked.Updates.{update_is, update_read}
 use Rattle.avr_laws.specs.AskedSettings.{AsksForUpdate, NamesPort}
 
+-- a port of the network
 pub port_named : NamesPort (codes "net:lab:7000") (Network (codes "lab:7000"))
 port_named = port_is (codes "net:lab:7000") (Network (codes "lab:7000")) refl
 
@@ -18,6 +19,7 @@ pub number_large : NamesPort (codes "net:lab:70000") (Network (codes "lab:70000"
 number_large names =
     let named = port_read (codes "net:lab:70000") (Network (codes "lab:70000")) names in absurd (cc named)
 
+-- an update with a format
 pub format_asked : AsksForUpdate (codes "flash:w:a:i")
     (record { memory = Flash; op = Write; format = Ihex; file = codes "a" })
 format_asked =

@@ -58,9 +58,11 @@ use Rattle.avr_laws.specs.Worked.{worked_settings}
 abbrev shown : Record → DeskState
 shown r = showing r 0 0
 
+-- nothing was done yet
 abbrev begun : Devices
 begun = devices new_link (shown nothing_kept)
 
+-- the file is locked
 abbrev holding : Bytes → Record
 holding file = with_held file nothing_kept
 
@@ -89,6 +91,7 @@ abbrev name_of : Opening → Bytes
 name_of (Absent name) = name
 name_of (Found x) = x.name
 
+-- loading a chip opens its file once
 opened_by : (part : Part) (file : Bytes) (old new : DeskState) (chip : Chip) → LoadsLocked part file old new (Ok chip)
     → (opening : Opening) × (name_of opening ≡ file)
     × (all_uses new.kept ≡ all_uses old.kept ++ Opened opening ∷ [])
@@ -146,6 +149,7 @@ Runs s old new status = IsRun s old new status ⊎ IsStopped s old new status
 abbrev refusal : Bytes
 refusal = no_part_line (codes "none")
 
+-- a refused run leaves the desk's files and the link alone
 refused_alone : (new : Devices) (status : ℕ) → Runs unknown begun new status
     → (new.desk.kept.current ≡ Closed) × (sent new.link.transcript ≡ [])
 refused_alone new status (inl ran) = let is = ran.is [] [] in search rules
@@ -157,6 +161,7 @@ pub no_file_after_a_refusal : Runs unknown begun
     (devices new_link (shown (after (CreatesFile (codes "out.h")) (after_err refusal nothing_kept)))) 1 → ⊥
 no_file_after_a_refusal ran = let closed = refused_alone _ 1 ran in search rules
 
+-- a link over which the host signed on
 abbrev signed_on : Transcript → LinkState
 signed_on more = record new_link { transcript = Sent (frame 1 (1 ∷ [])) ∷ more }
 
@@ -168,6 +173,7 @@ no_frame_after_a_refusal ran = let none = refused_alone _ 1 ran in search rules
 abbrev dry : Settings
 dry = record worked_settings { switches = record worked_settings.switches { dry = true } }
 
+-- over an empty tape the run waits
 waits : (openings : List Opening) → (run dry openings []).outcome ≡ None
 unfolding session opening handshake attempts_or_fault attempt exchange answer play operation closing
 waits openings = refl
@@ -179,11 +185,13 @@ dry_run_is_a_run (inr stopped) = search rules
 
 -- ---- a session with status 0 has sent something
 
+-- each session begins with a frame
 signs_on : (plan : Plan) (tape : Tape)
     → (more : List ℕ) × (bytes_sent (played (session plan) 1 tape).events ≡ 0x1B ∷ more)
 unfolding session opening handshake attempts_or_fault attempt exchange answer play operation closing
 signs_on plan tape = (_, refl)
 
+-- so one with status 0 sent something
 sent_some : (plan : Plan) (old new : DeskState) (link : LinkState) (status : ℕ)
     → RunsSession plan (devices new_link old) (devices link new) status → status ≡ 0
     → sent link.transcript ≡ [] → ⊥
@@ -216,6 +224,7 @@ module _ (reads : Reads (List ℕ)) (timed_out : List ℕ → Type 0) (s : Setti
 
 -- ---- a run over the emulator
 
+-- the file was replaced
 left_by : (these : List ℕ) (old new : DeskState) (file bytes : Bytes) (ran : ℕ)
     → IsSavedIfSent these old new file bytes ran 0 → (ran ≡ 0 → these ≡ [] → ⊥)
     → list_any (λ (made : Writing). bytes_eq made.name file) new.kept.tried ≡ bytes_eq file file
@@ -249,6 +258,7 @@ used_chip_is_saved lines ran = false≢true (saved_by _ ran)
 abbrev words : List Bytes
 words = codes "avrstk" ∷ codes "-p" ∷ codes "m328p" ∷ codes "-P" ∷ codes "stdio:" ∷ codes "-Pemu:a.bin" ∷ []
 
+-- the settings of these words
 words_read : settings_from_arguments words ≡ Ok (record worked_settings { port = port.Emulated (codes "a.bin") })
 unfolding avrstk options bundle_met walked chars encode
 words_read = refl
@@ -262,10 +272,12 @@ last_word_counts peers desk ran = search (rules, words_read)
 abbrev bad_words : List Bytes
 bad_words = codes "avrstk" ∷ codes "-p" ∷ codes "m328p" ∷ codes "-P" ∷ codes "a.bin" ∷ []
 
+-- these words are a command line
 bad_words_taken : takes avrstk bad_words ≡ true
 unfolding avrstk options bundle_met walked chars encode walk_passes flags_pass
 bad_words_taken = refl
 
+-- which is refused
 bad_words_read : settings_from_arguments bad_words ≡ Err (BadPort (Some (codes "a.bin")))
 unfolding avrstk options bundle_met walked chars encode
 bad_words_read = refl

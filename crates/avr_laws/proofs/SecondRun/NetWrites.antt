@@ -30,24 +30,28 @@ same_memories part m n each =
 
 -- ---- two images are one
 
-abbrev both : Option ℕ → Option ℕ → Option ℕ
-both None b = b
-both (Some a) None = Some a
-both (Some a) (Some b) = Some (bit_and a b)
+-- two bytes of a memory that takes zeros only
+abbrev anded : Option ℕ → Option ℕ → Option ℕ
+anded None b = b
+anded (Some a) None = Some a
+anded (Some a) (Some b) = Some (bit_and a b)
 
-abbrev joined : Bool → Image → Image → Image
-joined zeros [] b = b
-joined zeros (x ∷ a) [] = x ∷ a
-joined zeros (x ∷ a) (y ∷ b) = (if zeros then both x y else option_or y x) ∷ joined zeros a b
+-- an image over another
+abbrev images_joined : Bool → Image → Image → Image
+images_joined zeros [] b = b
+images_joined zeros (x ∷ a) [] = x ∷ a
+images_joined zeros (x ∷ a) (y ∷ b) = (if zeros then anded x y else option_or y x) ∷ images_joined zeros a b
 
+-- an empty image changes nothing
 laid_nothing : (zeros : Bool) (xs : List ℕ) → laid zeros [] xs ≡ xs
 laid_nothing true [] = refl
 laid_nothing true (x ∷ xs) = refl
 laid_nothing false [] = refl
 laid_nothing false (x ∷ xs) = refl
 
+-- two images, one after the other, are one
 laid_joined : (zeros : Bool) (a b : Image) (xs : List ℕ)
-    → laid zeros b (laid zeros a xs) ≡ laid zeros (joined zeros a b) xs
+    → laid zeros b (laid zeros a xs) ≡ laid zeros (images_joined zeros a b) xs
 laid_joined zeros [] b xs = ap (laid zeros b) (laid_nothing zeros xs)
 laid_joined zeros (p ∷ a) [] xs = laid_nothing zeros (laid zeros (p ∷ a) xs)
 laid_joined true (p ∷ a) (q ∷ b) [] = refl
@@ -57,20 +61,23 @@ laid_joined false (p ∷ a) (q ∷ b) (x ∷ xs) = ap₂ (λ y ys. y ∷ ys) (se
 
 -- ---- a lock that is set stays set
 
-stays : (o : Option ℕ) (lock : ℕ) → (bit_at lock 0 == 0) ≡ true → (bit_at (and_with o lock) 0 == 0) ≡ true
-stays None lock e = e
-stays (Some b) lock e = search (rules, bit_at_and lock b 0)
+-- a byte over the lock
+stays : (byte : Option ℕ) (lock : ℕ) → (bit_at lock 0 == 0) ≡ true → (bit_at (and_with byte lock) 0 == 0) ≡ true
+stays None lock locked = locked
+stays (Some b) lock locked = search (rules, bit_at_and lock b 0)
 
 module _ (part : Part) where
+  -- a chip that is locked stays so while nothing erases
   ends_locked : (items : List Item) (m : Memories) → has_erase items ≡ false → are_locked m ≡ true
       → are_locked (effects part items m) ≡ true
   ends_locked [] m w e = e
   ends_locked (Erase ∷ items) m w e = absurd (true≢false w)
   ends_locked (Write mem image ∷ items) m w e = ends_locked items (write_effect mem image m) w (search (rules, stays))
 
+  -- so one that isn't locked at the end never was
   begins_open : (items : List Item) (m : Memories) → has_erase items ≡ false
       → are_locked (effects part items m) ≡ false → are_locked m ≡ false
-  begins_open items m w e = search (rules, ends_locked)
+  begins_open items m w unlocked = search (rules, ends_locked)
 
   -- ---- writes alone, in one memory
 
@@ -81,8 +88,9 @@ module _ (part : Part) where
     net (Erase ∷ items) m = []
     net (Write other image ∷ items) m =
         let more = net items (write_effect other image m) in
-        if leaves_memory other mem (are_locked m) then more else joined (keeps_zeros mem) image more
+        if leaves_memory other mem (are_locked m) then more else images_joined (keeps_zeros mem) image more
 
+    -- the writes of a memory come to one
     net_is : (items : List Item) (m : Memories) → has_erase items ≡ false
         → memory_in part mem (effects part items m) ≡ laid (keeps_zeros mem) (net items m) (memory_in part mem m)
     net_is [] m w = sym (laid_nothing (keeps_zeros mem) (memory_in part mem m))
@@ -95,7 +103,7 @@ module _ (part : Part) where
       where
         unless : (b : Bool) (more : Image) (xs : List ℕ)
             → laid (keeps_zeros mem) more (if b then xs else laid (keeps_zeros mem) image xs)
-            ≡ laid (keeps_zeros mem) (if b then more else joined (keeps_zeros mem) image more) xs
+            ≡ laid (keeps_zeros mem) (if b then more else images_joined (keeps_zeros mem) image more) xs
         unless true more xs = refl
         unless false more xs = laid_joined (keeps_zeros mem) image more xs
 
@@ -105,12 +113,14 @@ module _ (part : Part) where
     Alike (item ∷ items) m n = (is_barred mem (are_locked m) ≡ is_barred mem (are_locked n))
         × Alike items (effect part item m) (effect part item n)
 
+    -- if both chips bar them alike, they come to the same
     same_net : (items : List Item) (m n : Memories) → Alike items m n → net items m ≡ net items n
     same_net [] m n alike = refl
     same_net (Erase ∷ items) m n alike = refl
     same_net (Write other image ∷ items) m n alike =
         search (rules, same_net items (write_effect other image m) (write_effect other image n) alike.1)
 
+    -- chips with the same lock bar them alike
     by_lock : (items : List Item) (m n : Memories) → has_erase items ≡ false → m.lock ≡ n.lock → Alike items m n
     by_lock [] m n w e = tt
     by_lock (Erase ∷ items) m n w e = absurd (true≢false w)
@@ -119,6 +129,7 @@ module _ (part : Part) where
       by_lock items (write_effect other image m) (write_effect other image n) w (search rules),
     )
 
+    -- so do chips that are never locked
     open_alike : (items : List Item) (m n : Memories) → has_erase items ≡ false
         → are_locked (effects part items m) ≡ false → are_locked (effects part items n) ≡ false → Alike items m n
     open_alike [] m n w e f = tt
@@ -129,6 +140,7 @@ module _ (part : Part) where
       open_alike items (write_effect other image m) (write_effect other image n) w e f,
     )
 
+    -- so do all chips, in a memory that no lock bars
     never_barred : (items : List Item) (m n : Memories) → ((b c : Bool) → is_barred mem b ≡ is_barred mem c)
         → Alike items m n
     never_barred [] m n e = tt
@@ -137,9 +149,9 @@ module _ (part : Part) where
     -- under a lock nothing changes
     locked_keeps : (items : List Item) (m : Memories) → is_barred mem true ≡ true → has_erase items ≡ false
         → are_locked m ≡ true → memory_in part mem (effects part items m) ≡ memory_in part mem m
-    locked_keeps [] m barred w e = refl
-    locked_keeps (Erase ∷ items) m barred w e = absurd (true≢false w)
-    locked_keeps (Write other image ∷ items) m barred w e =
+    locked_keeps [] m barred w locked = refl
+    locked_keeps (Erase ∷ items) m barred w locked = absurd (true≢false w)
+    locked_keeps (Write other image ∷ items) m barred w locked =
         search (rules, locked_keeps items (write_effect other image m) barred w (search (rules, stays)))
 
     -- if what they leave bars them alike, writing twice is writing once
@@ -147,14 +159,17 @@ module _ (part : Part) where
         → memory_in part mem (effects part items (effects part items m)) ≡ memory_in part mem (effects part items m)
     net_again items m w alike = search (rules, net_is, same_net, and_in_twice, laid_twice)
 
+  -- the lock
   lock_again : (items : List Item) (m : Memories) → has_erase items ≡ false
       → memory_in part Lock (effects part items (effects part items m)) ≡ memory_in part Lock (effects part items m)
   lock_again items m w = net_again Lock items m w (never_barred Lock items (effects part items m) m (λ b c. refl))
 
+  -- each memory
   each_again : (items : List Item) (m : Memories) → has_erase items ≡ false → (mem : Mem)
       → memory_in part mem (effects part items (effects part items m)) ≡ memory_in part mem (effects part items m)
   each_again items m w mem = search (rules, lock_again, locked_keeps, net_again, open_alike)
 
+  -- so writing twice is writing once
   pub written_again : (items : List Item) (m : Memories) → has_erase items ≡ false
       → effects part items (effects part items m) ≡ effects part items m
   written_again items m w = same_memories part _ _ (each_again items m w)
@@ -169,6 +184,7 @@ module _ (part : Part) where
     abbrev left : Memories
     left = effects part items blanked
 
+    -- after another erase the same writes make the same bytes
     back : (mem : Mem) → laid (keeps_zeros mem) (net mem items blanked) (memory_in part mem (effect part Erase left))
         ≡ laid (keeps_zeros mem) (net mem items blanked) (memory_in part mem blanked)
     back Flash = ap (λ (k : ℕ). and_in (net Flash items blanked) (replicate k 255))
@@ -178,31 +194,36 @@ module _ (part : Part) where
     back Lock = refl
     back mem = search (rules, net_is mem items blanked w)
 
+    -- an erase and writes, twice
     pub erased_again : effects part (Erase ∷ items) left ≡ left
     erased_again = same_memories part _ _ (grind (arith, common_steps, net_is, same_net, by_lock, back))
 
   -- ---- some first ones, and then all
 
+  -- the first items of writes are writes
   writes_of : (k : ℕ) (items : List Item) → has_erase items ≡ false → has_erase (take k items) ≡ false
   writes_of zero items w = refl
   writes_of (suc k) [] w = w
   writes_of (suc k) (Erase ∷ items) w = absurd (true≢false w)
   writes_of (suc k) (Write mem image ∷ items) w = writes_of k items w
 
-  in_two : (k : ℕ) (items : List Item) (m : Memories)
+  -- the first items, and then the others
+  split_first : (k : ℕ) (items : List Item) (m : Memories)
       → effects part items m ≡ effects part (drop k items) (effects part (take k items) m)
-  in_two zero items m = refl
-  in_two (suc k) [] m = refl
-  in_two (suc k) (item ∷ items) m = in_two k items (effect part item m)
+  split_first zero items m = refl
+  split_first (suc k) [] m = refl
+  split_first (suc k) (item ∷ items) m = split_first k items (effect part item m)
 
+  -- some of the writes, and then all
   pub first_writes_again : (k : ℕ) (items : List Item) (m : Memories) → has_erase items ≡ false
       → effects part items (effects part (take k items) m) ≡ effects part items m
-  first_writes_again k items m w = in_two k items (effects part (take k items) m)
-      ∙ (search (rules, written_again, writes_of, in_two))
+  first_writes_again k items m w = split_first k items (effects part (take k items) m)
+      ∙ (search (rules, written_again, writes_of, split_first))
 
+  -- some of an erase and writes, and then all
   pub first_again : (k : ℕ) (items : List Item) (m : Memories) → has_erase items ≡ false
       → (erase_keeps_eeprom part m ≡ true → erase_keeps_eeprom part (effects part (take k (Erase ∷ items)) m) ≡ true)
       → effects part (Erase ∷ items) (effects part (take k (Erase ∷ items)) m) ≡ effects part (Erase ∷ items) m
   first_again zero items m w kept = refl
-  first_again (suc k) items m w kept = in_two k items (effect part Erase (effects part (Erase ∷ take k items) m))
-      ∙ (search (rules, erased_again, writes_of, in_two))
+  first_again (suc k) items m w kept = split_first k items (effect part Erase (effects part (Erase ∷ take k items) m))
+      ∙ (search (rules, erased_again, writes_of, split_first))

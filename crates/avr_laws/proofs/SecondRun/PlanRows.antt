@@ -51,6 +51,7 @@ clears : statuses (Write Flash (Some 0x3F ∷ None ∷ None ∷ None ∷ []) ∷
     ∷ []) ≡ 0 ∷ 0 ∷ []
 clears = refl
 
+-- a second image that sets bits
 sets : statuses (Write Flash (Some 0x0F ∷ None ∷ None ∷ None ∷ []) ∷ Write Flash (Some 0x3F ∷ None ∷ None ∷ None ∷ [])
     ∷ []) ≡ 1 ∷ 1 ∷ []
 sets = refl
@@ -59,9 +60,11 @@ sets = refl
 unwritten_00 : statuses (Verify Eeprom (Some 0 ∷ None ∷ []) ∷ []) ≡ 0 ∷ 1 ∷ []
 unwritten_00 = refl
 
+-- the same with FF
 unwritten_ff : statuses (Verify Eeprom (Some 255 ∷ None ∷ []) ∷ []) ≡ 1 ∷ 0 ∷ []
 unwritten_ff = refl
 
+-- so is a fuse that isn't written
 unwritten_fuse : statuses (Verify Lfuse (Some 0x62 ∷ []) ∷ []) ≡ 1 ∷ 1 ∷ []
 unwritten_fuse = refl
 
@@ -91,5 +94,6 @@ zeros_agree = refl
 ones_agree : (expected_run unerased (chip_filled_with tiny 255)).status ≡ 0
 ones_agree = refl
 
+-- a locked chip of FF doesn't agree
 locked_differs : (expected_run unerased (record (chip_filled_with tiny 255) { lock = 0xFE })).status ≡ 1
 locked_differs = refl

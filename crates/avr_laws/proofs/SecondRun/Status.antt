@@ -17,37 +17,40 @@ use Rattle.avr_laws.proofs.SecondRun.ErasesTwice.{plan_again}
 use Rattle.avr_tool.proofs.Memories.ExpectedAgrees.{expected_status, expected_memories}
 use Rattle.avr_tool.proofs.OverFaultyLink.FirstSteps.{effects_sizes}
 
-chip_fits : (part : Part) (byte : ℕ) → byte < 256 → FitsPart part (chip_filled_with part byte)
-chip_fits part byte l = grind (arith, common_steps, length-replicate)
+-- a chip filled with one byte fits its part
+filled_fits : (part : Part) (byte : ℕ) → byte < 256 → FitsPart part (chip_filled_with part byte)
+filled_fits part byte l = grind (arith, common_steps, length-replicate)
 
 -- a plan that agrees on every chip agrees on the two
 pub two_of_all : (plan : Plan) → ((m : Memories) → FitsPart plan.part m → ComparisonsAgree plan m)
     → AgreesOnTwoChips plan
-two_of_all plan all = search (rules, chip_fits)
+two_of_all plan all = search (rules, filled_fits)
 
+-- a second run over any first write operations has the outcome of one run
 pub run_repairs : (plan : Plan) (k : ℕ) (m : Memories) → IsPart plan.part → All (IsFitted plan.part) plan.tasks
     → FitsPart plan.part m → has_erase (items plan) ≡ true → AgreesOnTwoChips plan
     → (erase_keeps_eeprom plan.part m ≡ true → ItemsKeepEeprom plan.part (items plan))
     → RunRepairs plan m (effects plan.part (take k (write_operations plan)) m)
-run_repairs plan k m sound fitted f erases both kept =
+run_repairs plan k m sound fitted sizes erases two kept =
     search (rules, agrees_anyway, effects_sizes, expected_status, expected_memories, plan_again)
 
+-- so it is over what a run left
 pub first_writes_repaired : (plan : Plan) (before after : Memories) → IsPart plan.part
     → All (IsFitted plan.part) plan.tasks → FitsPart plan.part before → has_erase (items plan) ≡ true
     → AgreesOnTwoChips plan → (erase_keeps_eeprom plan.part before ≡ true → ItemsKeepEeprom plan.part (items plan))
     → HasFirstOperations plan before after → RunRepairs plan before after
-first_writes_repaired plan before after sound fitted f erases both kept touched =
+first_writes_repaired plan before after sound fitted f erases two kept touched =
     subst (RunRepairs plan before) (sym touched.memories) (run_repairs plan touched.count before sound fitted f erases
-    both kept)
+    two kept)
 
 -- a second run that did everything has the outcome that the first one would have had
 pub done_again : (plan : Plan) (before left after : Memories) → IsPart plan.part → All (IsFitted plan.part) plan.tasks
     → FitsPart plan.part before → (has_erase (items plan) ≡ true → erase_keeps_eeprom plan.part before ≡ true
     → ItemsKeepEeprom plan.part (items plan)) → HasFirstOperations plan before left → IsDone plan left after → after
     ≡ effects plan.part (items plan) before
-done_again plan before left after sound fitted f kept touched all = search (rules, plan_again)
+done_again plan before left after sound fitted sizes kept touched all = search (rules, plan_again)
 
 -- an expected run that succeeds, whatever the chip was
-pub succeeds : (plan : Plan) (before : Memories) (status : ℕ) → FitsPart plan.part before
+pub repair_succeeds : (plan : Plan) (before : Memories) (status : ℕ) → FitsPart plan.part before
     → has_erase (items plan) ≡ true → AgreesOnTwoChips plan → status ≡ (expected_run plan before).status → status ≡ 0
-succeeds plan before status f erases both status_is = search (rules, expected_status, agrees_anyway)
+repair_succeeds plan before status sizes erases two status_is = search (rules, expected_status, agrees_anyway)

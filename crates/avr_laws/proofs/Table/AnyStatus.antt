@@ -26,6 +26,7 @@ use Rattle.avr_laws.proofs.Outcomes.Begun.{first_made}
 use Rattle.avr_laws.proofs.Outcomes.Spared.{spared}
 use Rattle.avr_laws.proofs.Reports.Truth.{session_reports}
 
+-- the plan's first write operations
 pub begun_by_any : {P : Type 0} (part : Part) (m : Device P) (view : P → Memories) (IsIn IsReady : P → Type 0)
     (becomes : Mem → ℕ → ℕ) (plan : Plan) → All (IsFitted plan.part) plan.tasks → (passed : Transcript)
     → IsBytePrefixOf (sent passed) (bytes_sent (played (session plan) 1 (heard passed)).events)
@@ -41,6 +42,7 @@ begun_by_any part m view IsIn IsReady becomes plan fitted passed prefix sound fi
     (actions_work part sound m view IsIn IsReady V meets (work (on_part part plan)) (view p)
     (plan_works becomes (on_part part plan) (view p) suits)) executions none
 
+-- without -F a chip of another signature
 pub spared_by_any : {P : Type 0} (part : Part) (m : Device P) (view : P → Memories) (IsIn IsReady : P → Type 0)
     (becomes : Mem → ℕ → ℕ) (plan : Plan) → All (IsFitted plan.part) plan.tasks → (passed : Transcript)
     → IsBytePrefixOf (sent passed) (bytes_sent (played (session plan) 1 (heard passed)).events)
@@ -54,6 +56,7 @@ spared_by_any part m view IsIn IsReady becomes plan fitted passed prefix here so
     (steps_work part sound m view IsIn IsReady V meets signature_steps (view p)
     (signature_works becomes part (view p))) executions none
 
+-- the reports
 pub reports_by_any : {P : Type 0} (part : Part) (m : Device P) (view : P → Memories) (IsIn IsReady : P → Type 0)
     (becomes : Mem → ℕ → ℕ) (plan : Plan) (k : ℕ) (p : P) (exchanges : List Exchange) → IsPart part
     → part ≡ plan.part → All (IsFitted plan.part) plan.tasks

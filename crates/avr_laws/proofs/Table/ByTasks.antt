@@ -42,8 +42,9 @@ abbrev byte_in : List (List ℕ) → ℕ
 byte_in ((c ∷ d ∷ e ∷ f ∷ byte ∷ bytes) ∷ more) = byte
 byte_in sent = 0
 
+-- fuses with the same address
 same_fuse : (f g : Fuse) → write_address f ≡ write_address g → f ≡ g
-same_fuse f g e = grind arith
+same_fuse f g is = grind arith
 
 module _ (becomes : Mem → ℕ → ℕ) (part : Part) where
   -- the lock takes this byte
@@ -60,13 +61,15 @@ module _ (becomes : Mem → ℕ → ℕ) (part : Part) where
         → TakesLock byte x × (becomes Lock byte ≡ byte)
     known : sent ≡ (0x1C ∷ 4 ∷ 0x38 ∷ 0x00 ∷ 0x00 ∷ 0x00 ∷ []) ∷ [] → ⊥
 
+  -- what is asked of these bodies is asked of their row
   vouched_row : (sent : List (List ℕ)) (x : Memories) → IsVouchedSent sent x → (row : Row) (is : IsRow part row)
       → sent ≡ bodies row → IsVouched becomes part row is x
-  vouched_row sent e v row is same = grind (arith, bodies)
+  vouched_row sent vouched v row is same = grind (arith, bodies)
 
   abbrev Works : List (List Command) → Memories → Type 0
   Works steps x = StepsWork part (IsVouched becomes part) steps x
 
+  -- a step that is vouched for before it and after it
   works_by : (commands : List Command) (x : Memories) → IsVouchedSent (map body commands) x
       → IsVouchedSent (map body commands) (memories_after_step part commands x)
       → WorksBy part (IsVouched becomes part) commands x
@@ -82,6 +85,7 @@ module _ (becomes : Mem → ℕ → ℕ) (part : Part) where
     kept : (x : Memories) → (memories_after_step part commands x).lock ≡ x.lock
     vouched : (x : Memories) → Such x.lock → IsVouchedSent (map body commands) x
 
+  -- calm steps work
   calm_steps : (Such : ℕ → Type 0) (steps : List (List Command)) → Each (Calm Such) steps → (x : Memories)
       → Such x.lock → Works steps x
   calm_steps Such [] calm x such = tt
@@ -95,9 +99,9 @@ module _ (becomes : Mem → ℕ → ℕ) (part : Part) where
       )
 
   -- of two commands
-  calm_two : (l c : Command) → ((x : Memories) → (memories_after_step part (l ∷ c ∷ []) x).lock ≡ x.lock)
-      → Calm IsShown (l ∷ c ∷ [])
-  calm_two l c kept = record {
+  calm_two : (l command : Command) → ((x : Memories) → (memories_after_step part (l ∷ command ∷ []) x).lock ≡ x.lock)
+      → Calm IsShown (l ∷ command ∷ [])
+  calm_two l command kept = record {
     kept = kept;
     vouched = λ x such. record {
       flash = λ load count e. such;
@@ -111,9 +115,10 @@ module _ (becomes : Mem → ℕ → ℕ) (part : Part) where
   abbrev Any : ℕ → Type 0
   Any lock = Unit {0}
 
-  one_sent : (c : Command) (n : ℕ) → code c ≡ n → (n ≡ 0x17 → ⊥) → (n ≡ 0x19 → ⊥) → (n ≡ 0x1C → ⊥) → (x : Memories)
+  -- one command that is no write of a fuse or lock, and no read of the calibration
+  by_code : (c : Command) (n : ℕ) → code c ≡ n → (n ≡ 0x17 → ⊥) → (n ≡ 0x19 → ⊥) → (n ≡ 0x1C → ⊥) → (x : Memories)
       → IsVouchedSent (map body (c ∷ [])) x
-  one_sent c n is not_fuse not_lock not_known x = record {
+  by_code c n is not_fuse not_lock not_known x = record {
     flash = λ load count e. absurd (cc e);
     eeprom = λ load count e. absurd (cc e);
     fuse = λ f byte e. absurd (not_fuse (sym is ∙ ap code_in e));
@@ -121,6 +126,7 @@ module _ (becomes : Mem → ℕ → ℕ) (part : Part) where
     known = λ e. not_known (sym is ∙ ap code_in e);
   }
 
+  -- a write of a fuse
   calm_fuse : (f : Fuse) (v : ℕ) → becomes (fuse_memory f) v ≡ v
       → ((x : Memories) → (memories_after_step part (program_fuse f v ∷ []) x).lock ≡ x.lock)
       → Calm Any (program_fuse f v ∷ [])
@@ -138,6 +144,7 @@ module _ (becomes : Mem → ℕ → ℕ) (part : Part) where
 
   -- ---- the step that writes the lock
 
+  -- a write of the lock
   lock_sent : (v : ℕ) (x : Memories) → becomes Lock v ≡ v → TakesLock v x
       → IsVouchedSent (map body (program_lock v ∷ [])) x
   lock_sent v x stays takes = record {
@@ -151,6 +158,7 @@ module _ (becomes : Mem → ℕ → ℕ) (part : Part) where
     known = λ e. let c = ap code_in e in omega (arith, c);
   }
 
+  -- so it works
   lock_works : (byte : Option ℕ) (x : Memories) → SuitsWriting becomes Lock byte x
       → Works (byte_steps program_lock byte) x
   lock_works None x suits = tt
@@ -161,6 +169,7 @@ module _ (becomes : Mem → ℕ → ℕ) (part : Part) where
     tt,
   )
 
+  -- so does a write of a fuse
   fuse_works : (f : Fuse) (byte : Option ℕ) (x : Memories) → ((v : ℕ) (y : Memories)
       → (memories_after_step part (program_fuse f v ∷ []) y).lock ≡ y.lock)
       → ((v : ℕ) → byte ≡ Some v → becomes (fuse_memory f) v ≡ v) → Works (byte_steps (program_fuse f) byte) x
@@ -168,15 +177,18 @@ module _ (becomes : Mem → ℕ → ℕ) (part : Part) where
 
   -- ---- images
 
+  -- a step that a test leaves out
   if_any : (Such : ℕ → Type 0) (b : Bool) (commands : List Command) → Calm Such commands
       → Each (Calm Such) (cond b (commands ∷ []) [])
   if_any Such e commands calm = grind arith
 
+  -- a fuse whose byte the sheet vouches for
   suits_fuse : (mem : Mem) (byte : Option ℕ) (x : Memories)
       → ((v : ℕ) → SuitsWriting becomes mem (Some v) x → becomes mem v ≡ v) → SuitsWriting becomes mem byte x
       → (v : ℕ) → byte ≡ Some v → becomes mem v ≡ v
-  suits_fuse mem byte x each suits v is = each v (subst (λ b. SuitsWriting becomes mem b x) is suits)
+  suits_fuse mem byte x vouched suits v is = vouched v (subst (λ b. SuitsWriting becomes mem b x) is suits)
 
+  -- a write that suits the sheet works
   write_works : (mem : Mem) (image : Image) (x : Memories) → SuitsWriting becomes mem (byte_at image 0) x
       → Works (write_steps part mem image) x
   write_works Flash image x suits = calm_steps IsShown (write_steps part Flash image)
@@ -198,38 +210,44 @@ module _ (becomes : Mem → ℕ → ℕ) (part : Part) where
   reads_calmly Such mem each x =
       calm_steps Such (read_steps part mem) (each_of (Calm Such) (read_step part mem) 0 (read_count part mem) each) x
 
-  apart : (n : ℕ) → 0x17 < n → n < 0x1C → (n ≡ 0x19 → ⊥) → (c : Command) → code c ≡ n
-      → ((x : Memories) → (memories_after_step part (c ∷ []) x).lock ≡ x.lock) → Calm Any (c ∷ [])
-  apart n more less other c is kept = record {
+  -- one command with a code between these
+  calmly : (n : ℕ) → 0x17 < n → n < 0x1C → (n ≡ 0x19 → ⊥) → (command : Command) → code command ≡ n
+      → ((x : Memories) → (memories_after_step part (command ∷ []) x).lock ≡ x.lock) → Calm Any (command ∷ [])
+  calmly n more less other command is kept = record {
     kept = kept;
-    vouched = λ x such. one_sent c n is (λ e. omega (arith, e, more)) other (λ e. omega (arith, e, less)) x;
+    vouched = λ x such. by_code command n is (λ e. omega (arith, e, more)) other (λ e. omega (arith, e, less)) x;
   }
 
-  fuse_read : (f : Fuse) → Calm Any (read_fuse f ∷ [])
-  fuse_read f = apart 0x18 (omega arith) (omega arith) (λ e. omega (arith, e)) (read_fuse f) refl (λ y. refl)
+  -- a read of a fuse
+  calm_fuse_read : (f : Fuse) → Calm Any (read_fuse f ∷ [])
+  calm_fuse_read f = calmly 0x18 (omega arith) (omega arith) (λ e. omega (arith, e)) (read_fuse f) refl (λ y. refl)
 
-  signature_read : (i : ℕ) → Calm Any (read_signature i ∷ [])
-  signature_read i = apart 0x1B (omega arith) (omega arith) (λ e. omega (arith, e)) (read_signature i) refl (λ y. refl)
+  -- a read of a byte of the signature
+  calm_signature : (i : ℕ) → Calm Any (read_signature i ∷ [])
+  calm_signature i = calmly 0x1B (omega arith) (omega arith) (λ e. omega (arith, e)) (read_signature i) refl (λ y. refl)
 
+  -- a read that suits the sheet works
   read_works : (mem : Mem) (x : Memories) → SuitsReading mem x → Works (read_steps part mem) x
   read_works Flash x suits = reads_calmly IsShown Flash (λ i. (calm_two _ _ (λ y. refl), tt)) x suits
   read_works Eeprom x suits = reads_calmly IsShown Eeprom (λ i. (calm_two _ _ (λ y. refl), tt)) x suits
-  read_works Lfuse x suits = reads_calmly Any Lfuse (λ i. (fuse_read Low, tt)) x tt
-  read_works Hfuse x suits = reads_calmly Any Hfuse (λ i. (fuse_read High, tt)) x tt
-  read_works Efuse x suits = reads_calmly Any Efuse (λ i. (fuse_read Extended, tt)) x tt
+  read_works Lfuse x suits = reads_calmly Any Lfuse (λ i. (calm_fuse_read Low, tt)) x tt
+  read_works Hfuse x suits = reads_calmly Any Hfuse (λ i. (calm_fuse_read High, tt)) x tt
+  read_works Efuse x suits = reads_calmly Any Efuse (λ i. (calm_fuse_read Extended, tt)) x tt
   read_works Lock x suits = reads_calmly Any Lock (λ i. (
-    apart 0x1A (omega arith) (omega arith)
+    calmly 0x1A (omega arith) (omega arith)
         (λ e. omega (arith, e)) _ refl (λ y. refl),
     tt,
   )) x tt
-  read_works Signature x suits = reads_calmly Any Signature (λ i. (signature_read i, tt)) x tt
+  read_works Signature x suits = reads_calmly Any Signature (λ i. (calm_signature i, tt)) x tt
   read_works Calibration x suits = absurd suits
 
+  -- so do reads of the signature
   pub signature_works : (x : Memories) → Works signature_steps x
-  signature_works x = calm_steps Any signature_steps (signature_read 0, (signature_read 1, (signature_read 2, tt))) x tt
+  signature_works x = calm_steps Any signature_steps (calm_signature 0, (calm_signature 1, (calm_signature 2, tt))) x tt
 
+  -- so does an erase
   erase_works : (x : Memories) → Works ((erase ∷ []) ∷ []) x
-  erase_works x = grind (arith, works_by, one_sent)
+  erase_works x = grind (arith, works_by, by_code)
 
   -- ---- tasks
 
@@ -241,6 +259,7 @@ module _ (becomes : Mem → ℕ → ℕ) (part : Part) where
   abbrev Acts : List Action → Memories → Type 0
   Acts actions x = ActionsWorkBy part (IsVouched becomes part) actions x
 
+  -- a write, by the switches `-n` and `-V`
   by_write : (dry no_verify : Bool) (mem : Mem) (image : Image) (rest : List Action) (x : Memories)
       → (dry ≡ false → SuitsWriting becomes mem (byte_at image 0) x)
       → Acts rest (if dry then x else effect part (Write mem image) x)
@@ -248,6 +267,7 @@ module _ (becomes : Mem → ℕ → ℕ) (part : Part) where
       else WriteImage mem image ∷ (if no_verify then [] else CompareImage mem image ∷ [])) ++ rest) x
   by_write dry no_verify e is rest h given other = grind (arith, write_works, read_works, read_back)
 
+  -- so do tasks that suit the sheet
   tasks_work : (s : Switches) (tasks : List Task) (x : Memories) → SuitTasks becomes part s tasks x
       → Acts (tasks_actions s tasks) x
   tasks_work s [] x suits = tt
@@ -257,12 +277,14 @@ module _ (becomes : Mem → ℕ → ℕ) (part : Part) where
   tasks_work s (task.Verify mem image ∷ tasks) x (suits, more) = (read_works mem x suits, tasks_work s tasks x more)
   tasks_work s (task.Read mem format file ∷ tasks) x (suits, more) = (read_works mem x suits, tasks_work s tasks x more)
 
+  -- an erase, by the switches `-n` and `-e`
   by_erase : (dry asked due : Bool) (rest : List Action) (x : Memories)
       → Acts rest (if not dry && due then effect part Erase x else x)
       → Acts ((if dry then (if asked then SkipAction SkippedErase ∷ [] else [])
       else if due then EraseChip ∷ [] else []) ++ rest) x
   by_erase dry asked due rest e more = grind (arith, erase_works)
 
+-- so does a plan
 pub plan_works : (becomes : Mem → ℕ → ℕ) (plan : Plan) (x : Memories) → SuitsPlan becomes plan x
     → ActionsWorkBy plan.part (IsVouched becomes plan.part) (work plan) x
 plan_works becomes plan x suits = grind (arith, by_erase, tasks_work)

@@ -23,13 +23,14 @@ use Rattle.avr_laws.proofs.Outcomes.Promise.{keeps_plan, made}
 
 module _ {P : Type 0} (part : Part) (m : Device P) (view : P → Memories) (IsIn IsReady : P → Type 0)
     (becomes : Mem → ℕ → ℕ) where
-  pub kept_by_any : (s : Settings) (plan : Plan) (x y : Devices) (r : IsRun s x y 0)
-      → (planned s r.openings).stage_outcome ≡ Produced plan → x.link.transcript ≡ []
-      → IsKeptByAny part m view IsIn IsReady becomes plan y.link.transcript x.desk.kept y.desk.kept
+  -- so the plan is kept at any programmer
+  pub kept_by_any : (s : Settings) (plan : Plan) (old new : Devices) (r : IsRun s old new 0)
+      → (planned s r.openings).stage_outcome ≡ Produced plan → old.link.transcript ≡ []
+      → IsKeptByAny part m view IsIn IsReady becomes plan new.link.transcript old.desk.kept new.desk.kept
   unfolding real_of
-  kept_by_any s plan x y r made_is silent sound fits meets p executions is_in sizes suits none =
+  kept_by_any s plan old new r made_is silent sound fits meets p executions is_in sizes suits none =
       let V = IsVouched becomes part in
-      kept_on_part s plan x y r made_is silent part sound fits (real_of part sound m view IsIn IsReady V meets) p
+      kept_on_part s plan old new r made_is silent part sound fits (real_of part sound m view IsIn IsReady V meets) p
       executions sizes (record { memories = refl; is = is_in })
       (steps_work part sound m view IsIn IsReady V meets signature_steps (view p)
       (signature_works becomes part (view p)))

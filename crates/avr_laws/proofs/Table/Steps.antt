@@ -21,32 +21,37 @@ use Rattle.avr_laws.proofs.Table.GoodReplies.{Verdict, first_two, closed_is, byt
 
 -- ---- the good replies
 
-pub nothing : (d : List ℕ) → length d ≡ 0 → d ≡ []
-nothing [] e = refl
-nothing (b ∷ d) e = absurd (omega (arith, e))
+-- a list of no bytes
+pub no_bytes : (d : List ℕ) → length d ≡ 0 → d ≡ []
+no_bytes [] none = refl
+no_bytes (b ∷ d) none = absurd (omega (arith, none))
 
-pub short : (c : Command) → shape c ≡ Bytes 0 → (reply d : List ℕ) → judge c reply ≡ Ok d
+-- a reply without data
+pub bare_reply : (c : Command) → shape c ≡ Bytes 0 → (reply d : List ℕ) → judge c reply ≡ Ok d
     → (reply ≡ code c ∷ 0 ∷ []) × (length d ≡ 0)
-short c is reply d e =
-    let t = first_two c reply d e in
+bare_reply c is reply d judged =
+    let t = first_two c reply d judged in
     let b = bytes_is 0 t.0 d (ap (λ s. data_in_shape s t.0) (sym is) ∙ t.1.1) in
-    (t.1.0 ∙ ap (λ (more : List ℕ). code c ∷ 0 ∷ more) (b.0 ∙ nothing d b.1), b.1)
+    (t.1.0 ∙ ap (λ (more : List ℕ). code c ∷ 0 ∷ more) (b.0 ∙ no_bytes d b.1), b.1)
 
-pub closed : (c : Command) (n : ℕ) → shape c ≡ Closed n → (reply d : List ℕ) → judge c reply ≡ Ok d
+-- a reply whose data end in a byte 0
+pub closed_reply : (c : Command) (n : ℕ) → shape c ≡ Closed n → (reply d : List ℕ) → judge c reply ≡ Ok d
     → (reply ≡ code c ∷ 0 ∷ (d ++ (0 ∷ []))) × (length d ≡ n)
-closed c n is reply d e =
-    let t = first_two c reply d e in
+closed_reply c n is reply d judged =
+    let t = first_two c reply d judged in
     let b = closed_is n t.0 d (ap (λ s. data_in_shape s t.0) (sym is) ∙ t.1.1) in
     (t.1.0 ∙ ap (λ (more : List ℕ). code c ∷ 0 ∷ more) b.0, b.1)
 
+-- such a reply without data
 closed_empty : (c : Command) → shape c ≡ Closed 0 → (reply d : List ℕ) → judge c reply ≡ Ok d
     → (reply ≡ code c ∷ 0 ∷ 0 ∷ []) × (length d ≡ 0)
-closed_empty c is reply d e =
-    let t = closed c 0 is reply d e in
-    (t.0 ∙ ap (λ (more : List ℕ). code c ∷ 0 ∷ (more ++ (0 ∷ []))) (nothing d t.1), t.1)
+closed_empty c is reply d judged =
+    let t = closed_reply c 0 is reply d judged in
+    (t.0 ∙ ap (λ (more : List ℕ). code c ∷ 0 ∷ (more ++ (0 ∷ []))) (no_bytes d t.1), t.1)
 
+-- a reply without data
 no_data : (d : List ℕ) → length d ≡ 0 → ◌≡◌ {A = Verdict} (Ok []) (Ok d)
-no_data d e = ap Ok (sym (nothing d e))
+no_data d e = ap Ok (sym (no_bytes d e))
 
 -- ---- the row of a step
 
@@ -68,6 +73,7 @@ abbrev pub Fits32 : Option ℕ → Type 0
 Fits32 None = Unit {0}
 Fits32 (Some address) = address < 2 ^ 32
 
+-- the row of these commands
 pub record RowFor (part : Part) (commands : List Command) : Type 0 where
   pub command : Command
   pub row : Row
@@ -83,18 +89,19 @@ pub record RowFor (part : Part) (commands : List Command) : Type 0 where
   pub back : (d : List ℕ) → length d ≡ row.count → judge command (row.reply d) ≡ Ok d
 
 module _ (part : Part) (sound : IsPart part) where
-  by_list : (written commands : List Command) → commands ≡ written → RowFor part written → RowFor part commands
-  by_list written commands e r = subst (RowFor part) (sym e) r
+  -- the row of equal commands
+  of_same : (written commands : List Command) → commands ≡ written → RowFor part written → RowFor part commands
+  of_same written commands same row = subst (RowFor part) (sym same) row
 
   -- in the order of the fields
-  made : {commands : List Command} (command : Command) (row : Row) → IsRow part row → body command ≡ row.command
+  built : {commands : List Command} (command : Command) (row : Row) → IsRow part row → body command ≡ row.command
       → IsSent row.address command commands → Fits32 row.address → map body commands ≡ bodies row
       → ((x : Memories) → effects part row.writes x ≡ memories_after_step part commands x)
       → ((x : Memories) → row.reads x ≡ data_of_step part commands x)
       → ((x : Memories) → effects part row.writes (effects part row.writes x) ≡ effects part row.writes x)
       → ((reply d : List ℕ) → judge command reply ≡ Ok d → (reply ≡ row.reply d) × (length d ≡ row.count))
       → ((d : List ℕ) → length d ≡ row.count → judge command (row.reply d) ≡ Ok d) → RowFor part commands
-  made command row is_row body_is is_sent few sent_as writes reads twice good back = record {
+  built command row is_row body_is is_sent few sent_as writes reads twice good back = record {
     command = command;
     row = row;
     is_row = is_row;
@@ -109,16 +116,19 @@ module _ (part : Part) (sound : IsPart part) where
     back = back;
   }
 
+  -- what a write of a fuse does
   fuse_writes : (f : Fuse) (v : ℕ) (x : Memories)
       → effects part (Write (fuse_memory f) (Some v ∷ []) ∷ []) x ≡ memories_after_step part (program_fuse f v ∷ []) x
   fuse_writes Low v x = refl
   fuse_writes High v x = refl
   fuse_writes Extended v x = refl
 
+  -- an erase
   for_erase : RowFor part (erase ∷ [])
-  for_erase = made erase _ (ErasesChip refl) refl refl tt refl (λ x. refl) (λ x. refl) (effect_twice part Erase)
-      (short erase refl) no_data
+  for_erase = built erase _ (ErasesChip refl) refl refl tt refl (λ x. refl) (λ x. refl) (effect_twice part Erase)
+      (bare_reply erase refl) no_data
 
+  -- a page of flash
   for_page : (page : ℕ) (bytes : List ℕ) → IsPage part page bytes
       → RowFor part (load_flash part (page * part.flash_page) ∷ program_page bytes ∷ [])
   for_page page bytes is_page =
@@ -126,29 +136,33 @@ module _ (part : Part) (sound : IsPart part) where
       let inside = is_page.inside in
       let few : page * part.flash_page < 4294967296 = omega (arith, most, inside) in
       let there = flash_address_back part (page * part.flash_page) few (page_even part sound page) in
-      made (program_page bytes) _ (WritesFlashPage page bytes is_page.whole is_page.inside refl) refl refl
+      built (program_page bytes) _ (WritesFlashPage page bytes is_page.whole is_page.inside refl) refl refl
       (address_fits part sound (page * part.flash_page) few) refl
       (λ x. ap (λ (at : ℕ). effects part (Write Flash (image_at at bytes) ∷ []) x) (sym there)) (λ x. refl)
-      (effect_twice part (Write Flash (image_at (page * part.flash_page) bytes))) (short (program_page bytes) refl)
+      (effect_twice part (Write Flash (image_at (page * part.flash_page) bytes))) (bare_reply (program_page bytes) refl)
       no_data
 
+  -- a run of EEPROM
   for_run : (start : ℕ) (bytes : List ℕ) → FitsEepromPage part start bytes
       → RowFor part (load_eeprom start ∷ program_eeprom_block bytes ∷ [])
   for_run start bytes is_run =
       let most = sound.eeprom_most in
       let inside = is_run.inside in
-      made (program_eeprom_block bytes) _ (WritesEepromRun start bytes is_run.some is_run.within is_run.inside refl)
+      built (program_eeprom_block bytes) _ (WritesEepromRun start bytes is_run.some is_run.within is_run.inside refl)
       refl refl (omega (arith, most, inside)) refl (λ x. refl) (λ x. refl)
-      (effect_twice part (Write Eeprom (image_at start bytes))) (short (program_eeprom_block bytes) refl) no_data
+      (effect_twice part (Write Eeprom (image_at start bytes))) (bare_reply (program_eeprom_block bytes) refl) no_data
 
+  -- a fuse
   for_fuse : (f : Fuse) (v : ℕ) → RowFor part (program_fuse f v ∷ [])
-  for_fuse f v = made (program_fuse f v) _ (WritesFuse f v refl) refl refl tt refl (fuse_writes f v) (λ x. refl)
+  for_fuse f v = built (program_fuse f v) _ (WritesFuse f v refl) refl refl tt refl (fuse_writes f v) (λ x. refl)
       (effect_twice part (Write (fuse_memory f) (Some v ∷ []))) (closed_empty (program_fuse f v) refl) no_data
 
+  -- the lock
   for_lock : (v : ℕ) → RowFor part (program_lock v ∷ [])
-  for_lock v = made (program_lock v) _ (WritesLock v refl) refl refl tt refl (λ x. refl) (λ x. refl)
+  for_lock v = built (program_lock v) _ (WritesLock v refl) refl refl tt refl (λ x. refl) (λ x. refl)
       (effect_twice part (Write Lock (Some v ∷ []))) (closed_empty (program_lock v) refl) no_data
 
+  -- reading flash
   for_flash_read : (start count : ℕ) → IsBlock part Flash start count → AreWords start count
       → RowFor part (load_flash part start ∷ read_flash_block count ∷ [])
   for_flash_read start count is_block words =
@@ -156,51 +170,57 @@ module _ (part : Part) (sound : IsPart part) where
       let inside = is_block.inside in
       let few : start < 4294967296 = omega (arith, most, inside) in
       let there = flash_address_back part start few words.start_even in
-      made (read_flash_block count) _
+      built (read_flash_block count) _
       (ReadsFlash start count is_block.some is_block.few is_block.inside words.start_even words.count_even refl) refl
       refl (address_fits part sound start few) refl (λ x. refl)
       (λ x. ap (λ (at : ℕ). take count (drop at x.flash)) (sym there)) (λ x. refl)
-      (closed (read_flash_block count) count refl) (closed_from count)
+      (closed_reply (read_flash_block count) count refl) (closed_from count)
 
+  -- reading EEPROM
   for_eeprom_read : (start count : ℕ) → IsBlock part Eeprom start count
       → RowFor part (load_eeprom start ∷ read_eeprom_block count ∷ [])
   for_eeprom_read start count is_block =
       let most = sound.eeprom_most in
       let inside = is_block.inside in
-      made (read_eeprom_block count) _ (ReadsEeprom start count is_block.some is_block.few is_block.inside refl) refl
+      built (read_eeprom_block count) _ (ReadsEeprom start count is_block.some is_block.few is_block.inside refl) refl
       refl (omega (arith, most, inside)) refl (λ x. refl) (λ x. refl) (λ x. refl)
-      (closed (read_eeprom_block count) count refl) (closed_from count)
+      (closed_reply (read_eeprom_block count) count refl) (closed_from count)
 
+  -- reading a fuse
   for_fuse_read : (f : Fuse) → RowFor part (read_fuse f ∷ [])
-  for_fuse_read f = made (read_fuse f) _ (ReadsFuse f refl) refl refl tt refl (λ x. refl) (λ x. (search rules))
-      (λ x. refl) (closed (read_fuse f) 1 refl) (closed_from 1)
+  for_fuse_read f = built (read_fuse f) _ (ReadsFuse f refl) refl refl tt refl (λ x. refl) (λ x. (search rules))
+      (λ x. refl) (closed_reply (read_fuse f) 1 refl) (closed_from 1)
 
+  -- reading the lock
   for_lock_read : RowFor part (read_lock ∷ [])
-  for_lock_read = made read_lock _ (ReadsLock refl) refl refl tt refl (λ x. refl) (λ x. refl) (λ x. refl)
-      (closed read_lock 1 refl) (closed_from 1)
+  for_lock_read = built read_lock _ (ReadsLock refl) refl refl tt refl (λ x. refl) (λ x. refl) (λ x. refl)
+      (closed_reply read_lock 1 refl) (closed_from 1)
 
+  -- reading a byte of the signature
   for_signature : (place : ℕ) → place < 3 → RowFor part (read_signature place ∷ [])
-  for_signature place few = made (read_signature place) _ (ReadsSignature place few refl) refl refl tt refl (λ x. refl)
-      (λ x. refl) (λ x. refl) (closed (read_signature place) 1 refl) (closed_from 1)
+  for_signature place few = built (read_signature place) _ (ReadsSignature place few refl) refl refl tt refl (λ x. refl)
+      (λ x. refl) (λ x. refl) (closed_reply (read_signature place) 1 refl) (closed_from 1)
 
+  -- reading the calibration
   for_calibration : RowFor part (read_calibration ∷ [])
-  for_calibration = made read_calibration _ (ReadsCalibration refl) refl refl tt refl (λ x. refl) (λ x. refl)
-      (λ x. refl) (closed read_calibration 1 refl) (closed_from 1)
+  for_calibration = built read_calibration _ (ReadsCalibration refl) refl refl tt refl (λ x. refl) (λ x. refl)
+      (λ x. refl) (closed_reply read_calibration 1 refl) (closed_from 1)
 
+  -- the row of each step
   pub row_for : (commands : List Command) → IsStep part commands → RowFor part commands
-  row_for commands (Erases e) = by_list _ commands e for_erase
-  row_for commands (ProgramsPage number bytes is_page e) = by_list _ commands e (for_page number bytes is_page)
-  row_for commands (ProgramsEepromRun address bytes is_run e) = by_list _ commands e (for_run address bytes is_run)
-  row_for commands (ProgramsFuse f v e) = by_list _ commands e (for_fuse f v)
-  row_for commands (ProgramsLock v e) = by_list _ commands e (for_lock v)
+  row_for commands (Erases e) = of_same _ commands e for_erase
+  row_for commands (ProgramsPage number bytes is_page e) = of_same _ commands e (for_page number bytes is_page)
+  row_for commands (ProgramsEepromRun address bytes is_run e) = of_same _ commands e (for_run address bytes is_run)
+  row_for commands (ProgramsFuse f v e) = of_same _ commands e (for_fuse f v)
+  row_for commands (ProgramsLock v e) = of_same _ commands e (for_lock v)
   row_for commands (steps.ReadsFlash start count is_block words e) =
-      by_list _ commands e (for_flash_read start count is_block words)
+      of_same _ commands e (for_flash_read start count is_block words)
   row_for commands (steps.ReadsEeprom start count is_block e) =
-      by_list _ commands e (for_eeprom_read start count is_block)
-  row_for commands (steps.ReadsFuse f e) = by_list _ commands e (for_fuse_read f)
-  row_for commands (steps.ReadsLock e) = by_list _ commands e for_lock_read
-  row_for commands (steps.ReadsSignature place few e) = by_list _ commands e (for_signature place few)
-  row_for commands (steps.ReadsCalibration e) = by_list _ commands e for_calibration
+      of_same _ commands e (for_eeprom_read start count is_block)
+  row_for commands (steps.ReadsFuse f e) = of_same _ commands e (for_fuse_read f)
+  row_for commands (steps.ReadsLock e) = of_same _ commands e for_lock_read
+  row_for commands (steps.ReadsSignature place few e) = of_same _ commands e (for_signature place few)
+  row_for commands (steps.ReadsCalibration e) = of_same _ commands e for_calibration
 
 -- ---- and each row is a step
 
@@ -209,9 +229,10 @@ StepFor part row =
     (commands : List Command) × IsStep part commands × (found : RowFor part commands) × (row ≡ found.row)
 
 module _ (part : Part) (sound : IsPart part) where
+  -- the step of each row
   pub step_for : (row : Row) → IsRow part row → StepFor part row
   unfolding for_erase for_page for_run for_fuse for_lock for_flash_read for_eeprom_read for_fuse_read for_lock_read
-      for_signature for_calibration made
+      for_signature for_calibration built
   step_for row (ErasesChip e) = (_, Erases refl, for_erase part sound, e)
   step_for row (WritesFlashPage page bytes whole inside e) =
       let is_page : IsPage part page bytes = record { whole = whole; inside = inside } in
