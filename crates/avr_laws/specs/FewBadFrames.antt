@@ -9,6 +9,7 @@ badness_of_execution NotExecuted = 1
 badness_of_execution Executed = 1
 badness_of_execution (ThenRestarted execution) = 4
 
+-- For how many bad frames counts what the host reads in place of the reply.
 abbrev pub badness_of_reading : OtherReading → ℕ
 badness_of_reading Refusal = 0
 badness_of_reading NoReply = 0

@@ -80,6 +80,7 @@ before_tasks plan m =
 abbrev pub PlanAgrees : Plan → Memories → Type 0
 PlanAgrees plan m = TasksAgree plan.part plan.switches plan.tasks (before_tasks plan m)
 
+-- The files that a plan reads memories into, with their texts.
 abbrev pub saved_files : Plan → Memories → List Writing
 saved_files plan m = tasks_files plan.part plan.switches plan.tasks (before_tasks plan m)
 

@@ -31,6 +31,7 @@ abbrev pub chip_file_of_part : (part : Part) (file : Bytes) (most_reads : ℕ) (
 chip_file_of_part part file most_reads old new status (inl s) = Some (chip_file s.then_is.left.programmer.chip)
 chip_file_of_part part file most_reads old new status (inr none) = None
 
+-- The same for a service over standard streams.
 abbrev pub chip_file_of_server : (settings : Settings) (file : Bytes) (most_reads : ℕ) (old new : Devices) (status : ℕ)
     → RunsServedFor settings file most_reads old new status → Option Bytes
 chip_file_of_server settings file most_reads old new status (inl s) =

@@ -2,6 +2,7 @@
 use Rattle.std.specs.Prelude.{List, [], ◌∷◌}
 use Rattle.avr_desk.specs.OutputEvents.{OutputEvent, Opens, PrintsLine}
 
+-- Only openings of files, and printed lines.
 abbrev pub OnlyReadsAndPrints : List OutputEvent → Type 0
 OnlyReadsAndPrints [] = Unit {0}
 OnlyReadsAndPrints (Opens opening ∷ events) = OnlyReadsAndPrints events

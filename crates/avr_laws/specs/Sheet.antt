@@ -36,6 +36,7 @@ SuitsReading Eeprom x = IsShown x.lock
 SuitsReading Calibration x = ⊥
 SuitsReading mem x = Unit {0}
 
+-- What a sheet asks of a write: of its memory, its byte, and the memories before it.
 abbrev pub SuitsWriting : (Mem → ℕ → ℕ) → Mem → Option ℕ → Memories → Type 0
 SuitsWriting becomes Flash byte x = IsShown x.lock
 SuitsWriting becomes Eeprom byte x = IsShown x.lock

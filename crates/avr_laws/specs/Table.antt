@@ -36,6 +36,7 @@ writing address command item reply = record {
   reply = λ read. reply;
 }
 
+-- A row that reads these bytes, by this command and code.
 abbrev pub reading : Option ℕ → List ℕ → ℕ → (Memories → List ℕ) → ℕ → Row
 reading address command count reads code = record {
   address = address;
@@ -104,6 +105,7 @@ abbrev pub addressed : {P : Type 0} → Device P → Option ℕ → P → P
 addressed m None p = p
 addressed m (Some address) p = m.after (load_body address) p
 
+-- LOAD_ADDRESS had the good reply, if the row has an address.
 abbrev pub IsLoaded : {P : Type 0} → Device P → Option ℕ → P → Type 0
 IsLoaded m None p = Unit {0}
 IsLoaded m (Some address) p = m.reply (load_body address) p ≡ 0x06 ∷ 0 ∷ []

@@ -61,6 +61,7 @@ boot_reply part body b =
 abbrev pub writes_page : List ℕ → Bootloader → Bool
 writes_page body b = slice_index body 0 == 0x13 && b.programming
 
+-- What a command does to it.
 abbrev pub after_body : Part → List ℕ → Bootloader → Bootloader
 after_body part body b =
     let code = slice_index body 0 in
@@ -71,6 +72,7 @@ after_body part body b =
       memories = if writes_page body b then with_page part (drop 10 body) b else b.memories;
     }
 
+-- It as a device: a restart ends programming mode, and keeps the page that is next.
 abbrev pub bootloader : Part → Device Bootloader
 bootloader part = record {
   reply = boot_reply part;
@@ -110,9 +112,11 @@ boot_before = record {
 abbrev pub first_image : Image
 first_image = Some 0x12 ∷ Some 0x34 ∷ replicate 6 None
 
+-- The second one has the second page.
 abbrev pub second_image : Image
 second_image = replicate 4 None ++ Some 0x56 ∷ Some 0x78 ∷ replicate 2 None
 
+-- The plan writes both, without an erase of the chip.
 abbrev pub boot_plan : Plan
 boot_plan = record {
   part = loss_part;
@@ -125,12 +129,15 @@ abbrev numbered : ℕ → List (List ℕ) → List (List ℕ)
 numbered n [] = []
 numbered n (body ∷ bodies) = frame n body ∷ numbered (n + 1) bodies
 
+-- A read of the signature's byte at this place.
 abbrev reads_signature : ℕ → List ℕ
 reads_signature place = 0x1B ∷ 4 ∷ 0x30 ∷ 0x00 ∷ place ∷ 0x00 ∷ []
 
+-- LOAD_ADDRESS of this address, in words.
 abbrev loads : ℕ → List ℕ
 loads address = 0x06 ∷ 0 ∷ 0 ∷ 0 ∷ address ∷ []
 
+-- READ_FLASH of eight bytes.
 abbrev reads_flash : List ℕ
 reads_flash = 0x14 ∷ 0 ∷ 8 ∷ 0x20 ∷ []
 
@@ -141,9 +148,11 @@ boot_frames =
     ∷ block 0x13 0x40 0x4C 0x20 (0x12 ∷ 0x34 ∷ 0xFF ∷ 0xFF ∷ []) ∷ loads 0 ∷ reads_flash ∷ loads 2
     ∷ block 0x13 0x40 0x4C 0x20 (0x56 ∷ 0x78 ∷ 0xFF ∷ 0xFF ∷ []) ∷ loads 0 ∷ reads_flash ∷ leave_body ∷ [])
 
+-- What became of the frames.
 abbrev pub boot_executions : List Execution
 boot_executions = replicate 14 Executed
 
+-- The replies: each command succeeds.
 abbrev pub boot_replies : Tape
 boot_replies = on_tape (concat (numbered 1 (
     (0x01 ∷ 0 ∷ 8 ∷ codes "STK500_2") ∷ (0x10 ∷ 0 ∷ []) ∷ (0x1B ∷ 0 ∷ 0x1E ∷ 0 ∷ []) ∷ (0x1B ∷ 0 ∷ 0x90 ∷ 0 ∷ [])
