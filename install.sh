@@ -96,7 +96,7 @@ check() {
         while [ ! -e "$folder" ] && [ ! -L "$folder" ]; do
             folder=$(dirname "$folder")
         done
-        [ -d "$folder" ] || fail "$folder is not a folder"
+        [ -d "$folder" ] || fail "$folder is no folder that can be reached"
         [ -w "$folder" ] || fail "$folder cannot be written: run this as a user who may, or install into another folder"
         [ -n "$destination" ] || [ "$file" = "$manifest" ] || [[ ! -e $file && ! -L $file ]] ||
             [[ $known == *$'\n'"${file#"${prefix%/}/"}"$'\n'* ]] ||

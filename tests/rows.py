@@ -491,9 +491,17 @@ def no_trial():
             {},
         ),
         ("the chip's signature can't be read, so nothing is tried", pretends(b"\x1b", b"\x1b\xc0"), {}),
-        ("1A 04 58 00 00 00 was answered B0 C1", pretends(b"\x1a", b"\xb0\xc1"), {}),
-        ("1A 04 58 00 00 00 was answered B0 C1", corrupt_and_silent(b"\x1a", 3), {}),
-        ("no valid reply to 1A 04 58 00 00 00", corrupt_and_silent(b"\x1a", 0), {}),
+        (
+            "no valid reply but B0 C1 (a damaged frame) to 1A 04 58 00 00 00 in four attempts",
+            pretends(b"\x1a", b"\xb0\xc1"),
+            {},
+        ),
+        (
+            "no valid reply but B0 C1 (a damaged frame) to 1A 04 58 00 00 00 in four attempts",
+            corrupt_and_silent(b"\x1a", 3),
+            {},
+        ),
+        ("no valid reply to 1A 04 58 00 00 00 in four attempts", corrupt_and_silent(b"\x1a", 0), {}),
         ("the memories can't be saved in this folder: File too large", lambda body, ask: ask(body), small),
     ]
     for why, act, more in cases:
@@ -562,7 +570,8 @@ def refused():
         f"{at} --try-rows --json report": "--try-rows tries a programmer, and takes no --json",
         "-P emu:chip.bin -p m328p --try-rows": "--try-rows is for a serial device, not -P emu:chip.bin",
         "-P /dev/null -p nosuch --try-rows": "no part nosuch: -p '?' lists the parts; others need a part file",
-        "-P /dev/null --try-rows": "no part given (-p): -p '?' lists the parts, and -p auto finds one whose signature",
+        "-P /dev/null --try-rows": "no part given (-p): -p '?' lists the parts, and -p auto finds the part by "
+        "the chip's signature",
         "-P /dev/null --parts one.toml -p c-chip --try-rows": f"{lacks}c-chip in one.toml: give a file with these in a "
         "table [parts.c-chip]: nothing was sent",
         "-P /dev/null --parts nosuch.toml -p m328p --try-rows": f"{lacks}m328p in nosuch.toml: give a file with these ",

@@ -462,6 +462,8 @@ def refused():
     room.put("257.bin", bytes(257))
     room.put("colon.bin", b":\1\2\3")
     room.put("mark.hex", b"\xef\xbb\xbf" + room.read("blink.hex"))
+    room.put("bare.hex", room.read("blink.hex")[1:])
+    room.put("mixed.hex", room.read("blink.hex").replace(b"\n", b"\nS9030000FC\n", 1))
     room.put("zeros.bin", bytes(2000))
     room.put("above.hex", hex_of([(0x810000, b"x")]))
     room.put("arm.hex", hex_of([(0x8000000, b"x")]))
@@ -684,7 +686,7 @@ def what_is_missing():
                 PYTHONPATH=folder
             )
             finished = subprocess.run(command, capture_output=True, text=True, env=environment, timeout=PATIENCE)
-            lacks = "this Python has no module json: install all of Python (python3-minimal is a part)"
+            lacks = "this Python has no module json: install the whole of Python (python3, not only python3-minimal)"
             check_equal(f"{script}: no json", finished.stderr, f"{script}: {lacks}\n")
         check_equal("no program", ran(), (1, "", f"avrstk-serial: {front} {needed}\n"))
         put_program(front, "#!/bin/sh\necho $0 $1\n")
@@ -1366,6 +1368,7 @@ def over_a_bootloader():
     # (BELOW.hex may be a reading of all flash)
     images = {"BELOW.hex": [(0, b"\1"), (0x1C0, b"\2")], "a.hex": [(0x100, b"x" * 256)], "b.hex": [(0, b"y" * 256)]}
     images["-gap.hex"] = images["gap.hex"] = [(0, b"x"), (256, b"x")]
+    images["twice.hex"] = [(0, b"xy"), (1, b"z"), (256, b"x")]
     room.put("f.elf", elf_with(b"x" * 256, address=0x100))
     for name, runs in images.items():
         room.put(name, hex_of(runs))
@@ -1838,9 +1841,10 @@ FOLLOWED = [
         r"these bits read 1, not 0: ([\d, ]+)\. If the part has none of them, give (\S+)\. If it has any of them, (.*)",
         stays,
     ),
-    (r"only an erase \(-e\) removes a lock, and clears all of", lambda words, *_: [*words, "-e"]),
+    (r"only a programmer's erase \(-e\) removes a lock, and clears all of", lambda words, *_: [*words, "-e"]),
     (
-        r"-U lock comes before other updates: give it last(\. Only an erase \(-e\) removes a lock, and clears)?",
+        r"-U lock comes before other updates: give it last"
+        r"(\. Only a programmer's erase \(-e\) removes a lock, and clears)?",
         lambda words, _, found: [*lock_last(words), *["-e"] * bool(found[1])],
     ),
     (r"give one value$|two images may overlap \(give one of them\)", lambda words, *_: words[:-2]),

@@ -333,6 +333,7 @@ def retried():
     boards.end()
     why = "--rows one.csv has 1 rows, and the next number is greater; the chip may be erased or partly written"
     check_equal("no number for a retry", (status, messages[-1]), (1, f"avrstk-serial: {why}"))
+    check("it isn't announced", not any("trying again" in line for line in messages), messages)
     with Doubles(["first", "second"], {"second": ["--lose", "PROGRAM_EEPROM"]}) as doubles:
         status, _, messages = run(["-p", "m328p", *doubles.ports(), *EACH, "--counter", "alone", "--from", "1"])
     alone = [
@@ -462,12 +463,36 @@ def signals():
             b"device signature",
         )
         boards = Path(f"/proc/{station.pid}/task/{station.pid}/children").read_text().split()
+        os.kill(int(boards[0]), signal.SIGRTMIN + 1)
         os.kill(int(boards[1]), signal.SIGKILL)
         messages = station.communicate(timeout=PATIENCE)[1].decode().splitlines()
     line = "two: avrstk-serial: its process was ended by SIGKILL: the chip is unchanged, and may be in programming mode"
     line += ": power-cycle the board"
     check("a process that only reads is killed", line in messages, messages)
+    nameless = line.replace("two", "one", 1).replace("SIGKILL", f"signal {signal.SIGRTMIN + 1}")
+    check("a signal without a name", nameless in messages, messages)
     check_equal("its report", [board["chip"] for board in report()["runs"]], ["unchanged"] * 3)
+
+
+def later_rows():
+    """A later row that a bootloader can't write is refused before its board gets a command, and takes no number."""
+    far = "--each: a Mega's bootloader reads EEPROM above 255 at other addresses: use a programmer"
+    gap = "-p m328p -D -U flash:w:one.hex --each flash@0x40={a} --each flash@0x100={b}"
+    room.put("one.hex", hex_of([(0, b"x" * 64)]))
+    cases = [
+        ("-p m328p --each eeprom@250={a}", "a\nA\nABCDEFGHIJ\n", far),
+        (gap, f"a,b\n{'y' * 128},z\ny,z\n", "a Mega's bootloader erases pages from 0 on"),
+    ]
+    for number, (words, rows, why) in enumerate(cases):
+        names = [f"a{number}", f"b{number}"]
+        room.put("rows.csv", rows.encode())
+        with Doubles(names) as doubles:
+            each = ["--rows", "rows.csv", "--counter", f"later{number}", "--from", "1", "--json", "report.json"]
+            status, _, messages = run([*words.split(), "-c", "wiring", *each, *doubles.ports()])
+        held = sorted((board["status"], board["number"] or 0, board["chip"]) for board in report()["runs"])
+        check_equal(f"{words}: one board", (status, held), (1, [(0, 1, "done"), (1, 0, "unchanged")]))
+        check(f"{words}: the line", any(f"avrstk-serial: {why}" in line for line in messages), messages)
+        check_equal(f"{words}: the counter", room.read(f"later{number}"), b"2\n")
 
 
 def waits_for_a_number():
@@ -605,7 +630,7 @@ def ordinary_user():
 
 CASES = named(
     *(twenty_doubles, refused, into_images, numbers_given_once, one_command, a_full_output, all_devices),
-    *(retried, signals, waits_for_a_number, numbers_without_room, with_a_restore),
+    *(retried, signals, later_rows, waits_for_a_number, numbers_without_room, with_a_restore),
     *(progress, ordinary_user),
 )
 

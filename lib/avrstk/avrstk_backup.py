@@ -3,7 +3,7 @@
 from __future__ import annotations
 
 from avrstk_common import HERE, NAME, Fault, print_line, show
-from avrstk_words import DATA, END, FUSES, UNOPENED, Update, Words, parts_of, records_of
+from avrstk_words import DATA, ENDS, FUSES, UNOPENED, Update, Words, parts_of, records_of
 
 import contextlib
 import copy
@@ -92,7 +92,7 @@ def restored(words: Words, folder: str) -> list[Update]:
         raise Fault(f"{folder} is of a chip with the signature {signature}, and {words.part} has {own}")
     if sorted(eeprom) != list(range(len(eeprom))) or has_more(words, signature, len(eeprom)):
         raise Fault(f"{folder}/eeprom.hex is not the whole EEPROM")
-    if not END.search(text_of(folder, "flash").encode()):
+    if not ENDS[b":"].search(text_of(folder, "flash").encode()):
         raise Fault(f"{folder}/flash.hex has no end record, so it may be cut short")
     # (if all of flash is FF, the erase restores it)
     flash = f"{folder}/flash.hex:i" if DATA.search(text_of(folder, "flash").encode()) else "0xFF:m"

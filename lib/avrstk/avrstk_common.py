@@ -96,6 +96,14 @@ def heed_signals() -> None:
             came.heed(number)
 
 
+def name_of_signal(number: int) -> str:
+    """Returns the name of a signal; its number if it has none."""
+    try:
+        return signal.Signals(number).name
+    except ValueError:
+        return f"signal {number}"
+
+
 def ended_by() -> int | None:
     """Returns the number of the first signal received; None if none was."""
     return came.first() if ready({came: READ}, time.monotonic()) else None
@@ -257,7 +265,8 @@ def asked(*command: str, messages_to: int | None = None) -> str:
 def built(messages_to: int | None = None) -> str:
     """Returns the path of avrstk, without links. In a clone it is a built program, not the script ./avrstk."""
     found = program()
-    if IS_CLONE and not os.environ.get("AVRSTK"):
+    own = os.path.join(HERE, "avrstk")
+    if IS_CLONE and os.path.realpath(shutil.which(found) or found) == os.path.realpath(own):
         # (if no program is built, ./avrstk has reported it)
         return os.path.realpath(asked(found, "--which", messages_to=messages_to) or sys.exit(1))
     return os.path.realpath(shutil.which(found) or found)

@@ -176,6 +176,13 @@ class Each:
             return MOST, f"--counter {self.counter.given}: the next number is above {MOST}"
         return len(self.rows), f"--rows {self.file} has {len(self.rows)} rows, and the next number is greater"
 
+    def has_next(self) -> bool:
+        """Whether a number is left, as far as the counter can be read."""
+        try:
+            return self.counter.next() <= self.last()[0]
+        except (Fault, OSError):
+            return False
+
     def judge(self, words: Words) -> None:
         """Puts the next number into the images, so that they can be judged. It isn't taken yet."""
         (most, why), number = self.last(), self.counter.next()
@@ -185,15 +192,19 @@ class Each:
             raise Fault("the number is 0: the first row of --rows is 1")
         self.put(words, number)
 
-    def give(self, words: Words) -> None:
-        """Takes the next number, and puts it into the images."""
+    def give(self, words: Words, judge: Callable[[], None]) -> None:
+        """Takes the next number, and puts it into the images, which `judge` may refuse before it is taken."""
+
+        def fits(number: int) -> None:
+            self.put(words, number)
+            judge()
+
         try:
-            self.number = self.counter.take(*self.last(), lambda number: self.pieces(words, number))
+            self.number = self.counter.take(*self.last(), fits)
         except OSError as fault:
             # (if only the last sync failed, the file has a later number already)
             why = f"{fault.filename or self.counter.given}: {fault.strerror}"
             raise Fault(f"--counter {why}: the next number was not used")
-        self.put(words, self.number)
         filled = "; ".join(f"{spec.memory}@0x{spec.address:X}={text}" for spec, text in self.texts(self.number))
         words.note(f"number {self.number}: {filled}")
 

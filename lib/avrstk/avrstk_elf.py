@@ -128,7 +128,7 @@ def sections_of(elf: bytes) -> tuple[list[Section], str | None]:
     try:
         segments, sections = headers_of(elf)
     except (struct.error, IndexError):
-        raise ValueError("is damaged, or no linked ELF file for AVR with sections")
+        raise ValueError("is damaged, or no linked ELF file for AVR (machine 83) with sections")
     found: list[Section] = []
     left = len(elf)
     for name, header in sections:

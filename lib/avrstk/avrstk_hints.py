@@ -1,17 +1,16 @@
-"""What avrstk-serial says after a failed run. A hint says what is sure, and asks where it can't know."""
+"""What avrstk-serial advises after a failed run. A hint states what is certain, and says what else to check."""
 
 from __future__ import annotations
 
-from avrstk_common import parts
+from avrstk_common import name_of_signal, parts
 from avrstk_elf import AREAS, SIGNATURE
 from avrstk_words import FORMATS, FUSES, MEMORIES, RECORD, UNOPENED, Update, Words, form_of, long_name, parts_of
-from avrstk_words import rows_of
+from avrstk_words import overlaps, rows_of
 
 import itertools
 import os
 import re
 import shlex
-import signal
 from dataclasses import dataclass, field
 from typing import Callable, Dict, Match, Union
 
@@ -34,10 +33,11 @@ NOISE = "or the line changed a byte"
 FAR = "a Mega's bootloader reads other addresses above 255 (use a programmer)"
 # (a command that leaves out what was done doesn't have all)
 ALL = "give all that is to be written"
-REMOVES = f"only an erase (-e) removes a lock, and clears all of {TAKES}. With -e {ALL}, the lock last"
+REMOVES = f"only a programmer's erase (-e) removes a lock, and clears all of {TAKES}. With -e {ALL}, the lock last"
 LOCKED = f"a lock may protect it: {REMOVES}"
 CLEARS = "The next erase clears EEPROM, too, unless the fuse bit EESAVE is 0"
 LOADER = "a bootloader can't erase the chip"
+DAMAGED = "the file seems damaged, cut short or edited: build or download it again"
 LACKS = "may refuse to write fuses and the lock, and to read the calibration"
 
 
@@ -162,7 +162,7 @@ def hint(run: Outcome, number: int | None) -> str:
     if number:
         if is_done and words.backup is None:
             state = "everything was done" + f"; the chip may be in programming mode: {POWER_CYCLE}" * run.is_held
-        return f"ended by {signal.Signals(number).name}: {state}"
+        return f"ended by {name_of_signal(number)}: {state}"
     if CHANGING & run.earlier and not CHANGING & run.commands:
         return state
     if not run.was_opened:
@@ -202,11 +202,14 @@ def loaders(words: Words) -> list[str]:
     if memories - {"flash", "signature"} or {"-e", "--backup", "--restore", "--try-rows"} & set(words.last):
         return []
     chip = "auto" if words.last.get("-p") == "auto" else words.chip()
+    # (an Uno's bootloader erases each page that it writes, and a Mega's erases pages from 0 on)
+    writes, shares = [update for update in words.updates if update.writes_flash()], overlaps(words.flash_pages() or [])
+    is_one = len(writes) < 2 and words.is_whole() is not False
     uno = "To write an Uno or Nano itself give -c arduino -D"
     mega = "To write a Mega 2560 itself give -c wiring -D"
-    return [uno] * (words.programmer.lower() != "arduino" and chip in ("auto", "atmega328p")) + [mega] * (
-        not words.is_wiring and chip in ("auto", "atmega2560")
-    )
+    is_uno = words.programmer.lower() != "arduino" and chip in ("auto", "atmega328p") and not shares
+    is_mega = not words.is_wiring and chip in ("auto", "atmega2560") and is_one
+    return [uno] * is_uno + [mega] * is_mega
 
 
 def noisy(words: Words, error: str) -> str:
@@ -245,7 +248,8 @@ def no_part(words: Words, _: Match[str] | None) -> str:
     if re.match(r"(uno|nano|pro|mega(2560)?|leonardo|micro)(?!\d|.*(every|wifi|r4|esp|rp2040))", name):
         boards = "mostly m328p for Uno, Nano and Pro Mini, m2560 for Mega 2560, m32u4 for Leonardo, Micro and Pro Micro"
         return f"-p takes the chip's name, not the board's: {boards}"
-    auto = "" if words.part or words.has_port else ", and -p auto finds one whose signature no other has"
+    auto = ", and -p auto finds the part by the chip's signature, if no other part has it"
+    auto = "" if words.part or words.has_port else auto
     return f"-p '?' lists the parts{auto}; others need a part file (--parts) or avrdude"
 
 
@@ -260,8 +264,10 @@ def unread(run: Outcome, found: Match[str]) -> str:
         return too_far(words, update, int(address, 16))
     held = update.held(65_536) if update else b""
     form, is_at_begin = form_of(held), line == "1" and fault in ("no record mark", "line too long")
-    if not update or form and update.format in (None, "a", form) or not is_at_begin and form != "e":
-        return "the file seems damaged, cut short or edited: build or download it again"
+    # (a first record without its mark, or with another byte in its place)
+    is_bare = is_at_begin and re.match(rb"\s*[^:S]?[0-9A-Fa-f]{10,}\s*$", held, re.M)
+    if not update or form and update.format in (None, "a", form) or not is_at_begin and form != "e" or is_bare:
+        return DAMAGED
     if form and (form != "e" or update.memory in AREAS):
         return f"it has {FORMATS[form]}: give {update.given_as(form)}"
     if re.search(rb"^" + RECORD.pattern, held, re.M):

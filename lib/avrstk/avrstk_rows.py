@@ -101,7 +101,7 @@ class Programmer:
                 # (another program has read the bytes)
                 continue
             if not piece:
-                raise Ended("the device is gone")
+                raise Ended("the connection to the device broke")
             held += len(piece)
             for reply in filter(is_frame, pieces.pieces(piece)):
                 if reply[1] == self.number and not xor(reply):
@@ -109,8 +109,8 @@ class Programmer:
         return None
 
     def ask(self, *step: bytes) -> bytes:
-        """Sends a step at most four times, as avrstk does. Returns the last reply, or an earlier bad one."""
-        bad: Optional[bytes] = None
+        """Sends a step at most four times, as avrstk does. Returns the reply, unless it reports a damaged frame."""
+        is_corrupt = False
         for attempt in range(4):
             self.repeated += attempt > 0
             for body in step:
@@ -119,8 +119,9 @@ class Programmer:
                     break
             if reply is not None and reply != CORRUPT:
                 return reply
-            bad = reply or bad
-        raise Ended(f"{hexed(*step)} was answered {hexed(bad)}" if bad else f"no valid reply to {hexed(*step)}")
+            is_corrupt |= reply == CORRUPT
+        but = " but B0 C1 (a damaged frame)" * is_corrupt
+        raise Ended(f"no valid reply{but} to {hexed(*step)} in four attempts")
 
 
 def sizes_of(words: Words) -> Dict[str, int]:

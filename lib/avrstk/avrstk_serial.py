@@ -26,7 +26,7 @@ from avrstk_hints import (
 )
 from avrstk_station import made, station
 from avrstk_version1 import SPEEDS, Bridge
-from avrstk_words import FORMATS, FUSES, MEMORIES, UNOPENED, Update, Words, is_port, long_name, parts_of
+from avrstk_words import FORMATS, FUSES, MEMORIES, UNOPENED, Update, Words, is_port, long_name, overlaps, parts_of
 
 import contextlib
 import copy
@@ -159,12 +159,6 @@ def unrepaired(words: Words) -> str | None:
     return (
         "a second one may find the chip locked" if may_lock(words.updates) and is_used and not erases(words) else None
     )
-
-
-def overlaps(pages: list[tuple[int, int]]) -> bool:
-    """Whether two of these pages overlap, each with its place and length."""
-    pages = sorted(pages)
-    return any(at + count > later for (at, count), (later, _) in zip(pages, pages[1:]))
 
 
 def judge_device(device: str | None) -> str:
@@ -610,8 +604,9 @@ def judge_options(words: Words) -> None:
         raise Fault(f"-c {words.programmer} is for a serial device, not -P {words.device}")
 
 
-def check(words: Words) -> None:
-    """Lets avrstk_session judge the command line and the images, before several runs begin or a number is taken."""
+def check(words: Words, earlier: frozenset[int] = frozenset()) -> None:
+    """Lets avrstk_session judge the command line and the images, before several runs begin or a number is taken.
+    `earlier` are the commands that were sent before."""
     if words.part == "auto":
         return
     only, quiet = copy.copy(words), subprocess.DEVNULL
@@ -625,7 +620,7 @@ def check(words: Words) -> None:
         for text in texts:
             words.report.note(text)
         error = next((text[7:] for text in texts if text.startswith("error: ")), "")
-        raise Fault(hint(Outcome(only, error=error), None))
+        raise Fault(hint(Outcome(only, earlier, error=error), None))
 
 
 def judge_rows(words: Words) -> None:
@@ -717,6 +712,8 @@ def judge_pieces(words: Words, end: str) -> None:
     """Refuses flash that a bootloader can't write as the command does."""
     why = why_pieces(words)
     if why:
+        # (srec_cat takes no faulty image. A session that asked has signed on)
+        check(words, frozenset({SIGN_ON} if end != UNOPENED else ()))
         raise Fault(f"{why}; {end}")
 
 
@@ -745,11 +742,12 @@ def joined(writes: list[Update], pages: list[tuple[int, int]]) -> str:
     words = ["BELOW.hex", "-Intel", "-crop", "0", f"0x{begin:X}"] * bool(begin) + words
     fill = ["-fill", "0xFF", "0", f"0x{max(at + count for at, count in pages):X}"] if pages else []
     words = ["(", *words, ")"] if len(words) > 2 and fill else words
-    # (srec_cat joins no images that have different bytes at an address)
-    over = ["-contradictory-bytes=ignore"] * (len(writes) > 1 and (not pages or overlaps(pages)))
+    # (else srec_cat takes no two values at an address, also of one image)
+    over = ["-contradictory-bytes=ignore"]
+    joins = len(writes) > 1 and (not pages or overlaps(pages))
     made = next(name for name in (f"joined{count or ''}.hex" for count in range(1 << 20)) if not os.path.lexists(name))
     line = " ".join(map(shlex.quote, ["srec_cat", *over, *words, *fill, "-o", made, "-Intel"]))
-    notes = ["whose gaps are FF"] * bool(fill) + ["in which the last of overlapping images counts"] * bool(over)
+    notes = ["whose gaps are FF"] * bool(fill) + ["in which the last of overlapping images counts"] * joins
     below = "; BELOW.hex stands for the file of what is to stay below" * bool(begin)
     advice = f"Type {line}, and give {made}{', ' * bool(notes)}{', and '.join(notes)}{below}"
     return advice if all(kinds) else ONE_IMAGE.capitalize()
@@ -848,18 +846,28 @@ def ran(words: Words, put: Callable[[bytes], None] = messages.put, earlier: froz
         repairs = re.match(r"no answer$|link |\w+: address \w+: \w+ expected, \w+ found$", outcome.error)
         if words.tries > count or ended_by() or not outcome.status or not repairs:
             return outcome
-        words.note(f"{outcome.error}: trying again, {words.tries} of {count}")
+        if words.each is None or words.each.has_next():
+            words.note(f"{outcome.error}: trying again, {words.tries} of {count}")
         wait_for(words.device)
         if ended_by():
             # (no number is taken for a run that isn't made)
             return outcome
 
 
+def judge_numbered(words: Words, end: str) -> None:
+    """Refuses what a bootloader can't do with the text of a number, before the number is taken."""
+    far = why_far(words) if words.is_wiring else None
+    if far:
+        raise Fault(f"{far}: {end}")
+    if words.is_bootloader:
+        judge_pieces(words, end)
+
+
 def give(words: Words, each: Each, earlier: frozenset[int], is_held: bool) -> None:
     """Takes the number of a run. If that fails after a first run or a signal, the error describes the chip, too."""
     each.end = each.end if words.tries == 1 else "the command is not run again"
     try:
-        each.give(words)
+        each.give(words, lambda: judge_numbered(words, each.end))
     except (Fault, OSError) as fault:
         if words.tries == 1 and not ended_by():
             raise
@@ -900,7 +908,7 @@ def ask(
         # (-p auto takes any part to ask)
         messages.put(b"".join(line for line in lines if not line.startswith(b"avrstk: warning: signature is ")))
         if outcome.left_at_error and outcome.error == "no answer" and not ended_by() and not words.has_port:
-            why = "the session before the run got no reply to its last command; nothing was written"
+            why = "the session before the run got no valid reply to its last command; nothing was written"
             raise Fault(f"{why}. {POWER_CYCLE.capitalize()}, and {same(words)}")
         if not words.has_port:
             outcome.is_before = True
@@ -922,7 +930,7 @@ def detect(words: Words) -> set[int]:
     if signature in NO_SIGNATURES:
         raise Fault(f"-p auto: {NO_CHIP}; nothing was written")
     if not names:
-        raise Fault(f"{has} no part here has; nothing was written")
+        raise Fault(f"{has} no part of classic.toml has; nothing was written")
     if len(names) > 1:
         raise Fault(f"{has} several parts have: give one of them by -p: {', '.join(names)}; nothing was written")
     words.note(f"-p auto takes {names[0]}, whose signature is {signature}")

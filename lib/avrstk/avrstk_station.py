@@ -4,7 +4,7 @@ lines have its device in front, and a table comes at the end."""
 from __future__ import annotations
 
 from avrstk_common import ENDING, NAME, READ, WRITE, Fault, Source, came, ended_by, heed_signals, messages, ready
-from avrstk_common import print_line, readable, show, text_of, version
+from avrstk_common import name_of_signal, print_line, readable, show, text_of, version
 from avrstk_hints import MAYBE_CHANGED, POWER_CYCLE, UNCHANGED
 from avrstk_report import Report, write
 from avrstk_words import UNOPENED, Update, Words, is_port
@@ -96,7 +96,7 @@ class Board:
         if self.outcome is None:
             report, how = Report(), "ended too early"
             if os.WIFSIGNALED(status):
-                how = f"was ended by {signal.Signals(os.WTERMSIG(status)).name}"
+                how = f"was ended by {name_of_signal(os.WTERMSIG(status))}"
             report.stage, report.fault = "interrupted", f"its process {how}"
             changes = self.words.changes()
             state = MAYBE_CHANGED if changes else UNCHANGED

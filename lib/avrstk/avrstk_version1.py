@@ -87,7 +87,7 @@ class Line:
                 # (another program has read the bytes)
                 continue
             if not piece:
-                raise OSError("the device is gone")
+                raise OSError("the connection to the device broke")
             held += piece
         return held
 

@@ -39,7 +39,7 @@ RECORD = re.compile(rb"(?:[ \t\r]*\n)*(?::[0-9A-Fa-f]{10}|S[0-9][0-9A-Fa-f]{8})"
 DATA = re.compile(rb"^(?::(?!00)..(?:....)00|S1(?!03)|S2(?!04)|S3(?!05))", re.M)
 # the beginning of a record after a blank, or after a line that ends in CR alone
 MARKED = re.compile(rb"[ \t\r](?::|S[123])")
-END = re.compile(rb"^(?::00....01|S[789])", re.M)
+ENDS = {b":": re.compile(rb"^:00....01", re.M), b"S": re.compile(rb"^S[789]", re.M)}
 
 # how files begin that are neither firmware nor text. (cpio's old form has binary numbers, and a name below 256 bytes)
 PACKED = {
@@ -273,6 +273,12 @@ class Words:
         return [at for at, _ in pages] == ends[:-1]
 
 
+def overlaps(pages: list[tuple[int, int]]) -> bool:
+    """Whether two of these pages overlap, each with its place and length."""
+    pages = sorted(pages)
+    return any(at + count > later for (at, count), (later, _) in zip(pages, pages[1:]))
+
+
 def judge_words(options: Sequence[tuple[str, str]], others: Sequence[str]) -> None:
     """Refuses options without a value, and words without an option."""
     for option, value in options:
@@ -396,7 +402,7 @@ class Update:
         # (avrstk reports where records are that it can't read)
         if not held or begins and self.format != "r" and not (DATA.search(held) or MARKED.search(held)):
             return "has no data (did its build fail?)"
-        end = END.search(held) if begins and self.format != "r" else None
+        end = ENDS[begins[0].split()[0][:1]].search(held) if begins and self.format != "r" else None
         # (a note may be after the end, too)
         if end and any(RECORD.match(held, found.start()) for found in DATA.finditer(held, end.end())):
             return "has data after its end record, which would not be read; to join files use srec_cat"
