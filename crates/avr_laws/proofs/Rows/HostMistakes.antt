@@ -159,7 +159,7 @@ pub difference_is_a_fault : (played (actions_dialog m328p worked_settings.switch
 unfolding answer exchange attempt attempts_or_fault operation play
 difference_is_a_fault = refl
 
--- `done` is printed only if LEAVE succeeded (avr_session's `report_closing`)
+-- `done` is printed only if LEAVE succeeded (avr_session's `report_step`)
 pub failed_end_is_not_done : closing_output 0 m328p (Err NoAnswer) ≡ PrintsLine (fault_line m328p NoAnswer) ∷ []
 failed_end_is_not_done = refl
 

@@ -235,7 +235,7 @@ module _ {P : Type 0} (part : Part) (sound : IsPart part) (m : Device P) (view :
 
     -- the memories after the step fit the part
     sizes_after : FitsPart part after
-    sizes_after = changed_sizes part commands x sound sizes
+    sizes_after = changed_sizes part commands x sound f
 
     -- LOAD_ADDRESS changes no memory
     loads_at : (y : Memories) → FitsPart part y → IsVouched y → (p : P) → Ready y p → Ready y (at p)
