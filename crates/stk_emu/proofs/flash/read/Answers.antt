@@ -34,7 +34,4 @@ returns-in-Some c =
     search (rules, block_is_looks) in
     let put : c.try_extend_from_slice.new.self.items ≡ c.args.out.now.items ++ c.in-Some.bytes.now =
     search (rules, block_length) in
-    record {
-      bytes = put ∙ ap (λ z. c.args.out.now.items ++ z.0) (sym whole);
-      chip = ap (λ z. z.1) (sym whole);
-    }
+    search (rules, put, whole)
