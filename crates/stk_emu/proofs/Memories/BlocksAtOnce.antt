@@ -65,15 +65,10 @@ looks_again : (wide : Bool) (cmd a n : ℕ) (s new : chip.ChipState) → a < 214
     → new ≡ after_instructions (extension wide a) s → flash_reads wide cmd a 0 n new ≡ flash_reads wide cmd a 0 n s
 looks_again wide cmd a n s new few some ext = search rules
 
-in_flash : (test : Bool) (bytes whole : List ℕ) → Some bytes ≡ cond test (Some whole) None
-    → (test ≡ true) × (bytes ≡ whole)
-in_flash test bytes whole e = search rules
-
 pub block_is_looks : (wide : Bool) (cmd a word n : ℕ) (bytes : List ℕ) (s new : chip.ChipState) → cmd ≡ 0x20
     → a < 2147483648 → 0 < n → word ≡ a % 65536 → new ≡ after_instructions (extension wide a) s
     → Some bytes ≡ flash_block word n new → flash_reads wide cmd a 0 n s ≡ (bytes, new)
 block_is_looks wide cmd a word n bytes s new c few some w ext given =
-    let got = in_flash (is_in_flash word n new) bytes (read_one_by_one word 0 n new) given in
     let fits : word * 2 + n ≤ 131072 = search rules in
     let right : cond wide (a / 65536 % 256) new.extended ≡ new.extended = search rules in
     search (rules, ← looks_again wide 0x20 a n s new few some ext, all_looks)

@@ -143,7 +143,4 @@ module _ (part : Part) (sound : IsPart part) where
       let q : Programmer = record p { address = a; wide = wide } in
       let paged =
       page_chip p.chip n page s.part_is s.flash_buffer (λ w. s.extended (ltb-false 131072 part.flash_size w)) is_page in
-      search (rules, flash_loaded_at, words_twice, page_changed)
-    where
-      narrow_test : NeedsNoExtendedAddress part → is_wide part ≡ false
-      narrow_test is_narrow = le-ltb 131072 part.flash_size is_narrow
+      search (rules, flash_loaded_at, words_twice, page_changed, le-ltb)

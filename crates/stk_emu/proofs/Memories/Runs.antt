@@ -36,9 +36,7 @@ eeprom_loaded : (a i off page : ℕ) (ds : List ℕ) (s : chip.ChipState) → s.
     → after_instructions (eeprom_loads 0xC1 a i ds) s ≡ record s { eeprom_buffer = put Some off ds s.eeprom_buffer }
 eeprom_loaded a i off page [] s e each = refl
 eeprom_loaded a i off page (d ∷ ds) s e each =
-    let here : byte_address a i % 256 % s.part.eeprom_page ≡ off =
-    ap (λ q. byte_address a i % 256 % q) e ∙
-    (ap (λ j. byte_address a j % 256 % page) (omega arith) ∙ (each 0 (omega arith) ∙ omega arith)) in
+    let here : byte_address a i % 256 % s.part.eeprom_page ≡ off = grind (arith, each 0) in
     let next : chip.ChipState = record s { eeprom_buffer = set s.eeprom_buffer off (Some d) } in
     let more = eeprom_loaded a (suc i) (suc off) page ds next e
     (λ k l. ap (λ j. byte_address a j % 256 % page) (omega arith) ∙ (each (suc k) (omega arith) ∙ omega arith)) in
