@@ -2,6 +2,7 @@
 use Rattle.std.proofs.lemmas.Grind.{common_steps}
 use Rattle.std.proofs.Common.{◌≡◌, ℕ, ◌+◌, List, [], ◌∷◌, ◌++◌, ◌<◌, ◌≤◌, length, take, drop, refl, sym, append_assoc, arith, length-drop, rules}
 use Rattle.std.specs.Prelude.{filter}
+use Rattle.std.proofs.lemmas.List.{append-nil}
 use Rattle.std.proofs.lemmas.List.Elements.{filter-append}
 use Rattle.std.proofs.Math.Seq.{take-add}
 use Rattle.stk_frame.specs.declared.reader.Event.{Event}
@@ -68,3 +69,14 @@ pub appends_all : (old new : EmulatorState) (bytes a b : List ℕ) (p : Programm
     → AppendsReplies old bytes new a b → WasFedText p text old → given ++ a ≡ emulate p text
     → given ++ b ≡ emulate p (text ++ bytes)
 appends_all old new bytes a b p text given appends f all = search (rules, append_assoc, replies_append)
+
+pub is_fed : (old new : EmulatorState) (used out : List ℕ) (p : Programmer) (text : List ℕ)
+    → RepliesToFrame old used new out → WasFedText p text old → WasFedText p (text ++ used) new
+is_fed old new used out p text a f =
+    appends_fed old new used [] out p text (appends_one old new used out [] out a refl) f
+
+pub emulated : (old new : EmulatorState) (used out : List ℕ) (p : Programmer) (text : List ℕ)
+    → RepliesToFrame old used new out → WasFedText p text old → emulate p (text ++ used) ≡ emulate p text ++ out
+emulated old new used out p text a f =
+    sym (appends_all old new used [] out p text (emulate p text) (appends_one old new used out [] out a refl) f
+    (append-nil (emulate p text)))
