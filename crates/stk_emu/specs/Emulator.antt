@@ -1,5 +1,5 @@
 -- The state of an emulator, what it was fed, and its replies.
-use Rattle.std.specs.Prelude.{ℕ, List, ◌≡◌, ◌<◌, ◌≤◌, ◌++◌, length, filter}
+use Rattle.std.specs.Prelude.{ℕ, List, ◌≡◌, ◌<◌, ◌≤◌, ◌++◌, length, take, filter}
 use Rattle.stk_frame.specs.Cut.{frames, is_frame}
 use Rattle.stk_frame.specs.Reader.{HoldsFrame, MayHaveBeenFed, Fed}
 use Rattle.stk_emu.specs.Programmer.{Programmer}
@@ -41,8 +41,6 @@ pub record AppendsReplies (old : EmulatorState) (bytes : List ℕ) (new : Emulat
 -- It was fed a proper prefix of these bytes, and all replies to that prefix were appended.
 pub record AppendsRepliesToPrefix (old : EmulatorState) (bytes : List ℕ) (new : EmulatorState)
     (before after : List ℕ) : Type 0 where
-  pub used : List ℕ
-  pub unused : List ℕ
-  pub bytes_are : bytes ≡ used ++ unused
-  pub some_left : 0 < length unused
-  pub appends : AppendsReplies old used new before after
+  pub count : ℕ
+  pub some_left : count < length bytes
+  pub appends : AppendsReplies old (take count bytes) new before after

@@ -141,28 +141,24 @@ program_eeprom f p =
           ++ page_writes false f.cmd2 p.address (is_paged f && is_written f)) p),
     )
 
--- Bytes that were read, and the chip after that.
-abbrev pub BytesAndChip : Type 0
-BytesAndChip = List ℕ × ChipState
-
--- The fourth output byte of an instruction, and then what is read from the chip after it.
-abbrev pub read_then : List ℕ → ChipState → (ChipState → BytesAndChip) → BytesAndChip
+-- The fourth output byte of an instruction, and then what is read from the chip after it; and the chip after that.
+abbrev pub read_then : List ℕ → ChipState → (ChipState → List ℕ × ChipState) → List ℕ × ChipState
 read_then x chip more = (slice_index (spi_of x chip).0 3 ∷ (more (spi_of x chip).1).0, (more (spi_of x chip).1).1)
 
 -- The bytes of flash from byte `i` of a block on; below, of EEPROM.
-abbrev pub flash_reads : Bool → ℕ → ℕ → ℕ → ℕ → ChipState → BytesAndChip
+abbrev pub flash_reads : Bool → ℕ → ℕ → ℕ → ℕ → ChipState → List ℕ × ChipState
 flash_reads wide cmd address i zero chip = ([], chip)
 flash_reads wide cmd address i (suc n) chip =
     read_then (at_address (for_half cmd i) (word_at address i) 0)
     (after_instructions (extension wide (word_at address i)) chip) (flash_reads wide cmd address (suc i) n)
 
-abbrev pub eeprom_reads : ℕ → ℕ → ℕ → ℕ → ChipState → BytesAndChip
+abbrev pub eeprom_reads : ℕ → ℕ → ℕ → ℕ → ChipState → List ℕ × ChipState
 eeprom_reads cmd address i zero chip = ([], chip)
 eeprom_reads cmd address i (suc n) chip =
     read_then (at_address cmd (byte_address address i) 0) chip (eeprom_reads cmd address (suc i) n)
 
 -- The reply with the bytes of a block.
-abbrev pub block_response : ℕ → BytesAndChip → Programmer → Response
+abbrev pub block_response : ℕ → List ℕ × ChipState → Programmer → Response
 block_response code read p = (code ∷ 0 ∷ (read.0 ++ 0 ∷ []), record p { chip = read.1 })
 
 -- Reads a block of flash. A count that is 0, odd or too large fails.

@@ -16,13 +16,6 @@ module _ (wide : Bool) (cmd address i : ℕ) where
       → after_instructions (flash_loads wide cmd address (i + 1) (drop (i + 1) bytes)) after ≡ whole
   flash_load bytes out chip after whole h so_far spi = search (rules, drop-cons, sent-append)
 
-  -- the instruction as the code makes and sends it
-  pub flash_sent : (word half byte : ℕ) (x : List ℕ) (chip extended : ChipState) → word ≡ word_at address i
-      → half ≡ for_half cmd i → x ≡ at_address half word byte → extended ≡ after_instructions (extension wide word) chip
-      → spi_of x extended ≡ spi_of (at_address (for_half cmd i) (word_at address i) byte)
-      (after_instructions (extension wide (word_at address i)) chip)
-  flash_sent word half byte x chip extended w h is ext = search rules
-
 pub record LooksOn (before : List ℕ) (whole : List ℕ × ChipState) (out : List ℕ) (more : List ℕ × ChipState) : Type
     0 where
   pub bytes : out ++ more.0 ≡ before ++ whole.0

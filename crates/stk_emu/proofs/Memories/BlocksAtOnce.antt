@@ -13,14 +13,12 @@ loads_apart : (word i x y : ℕ) (bytes : List ℕ) (s : chip.ChipState)
     → record (loaded_one_by_one word i bytes (record s { extended = x })) { extended = y }
     ≡ record (loaded_one_by_one word i bytes s) { extended = y }
 loads_apart word i x y [] s = refl
-loads_apart word i x y (d ∷ ds) s = loads_apart word (suc i) x y ds
-    (chip.after_instruction (LoadFlash (half_at i) ((word + i / 2) % 256) d) s)
+loads_apart word i x y (d ∷ ds) s = search (rules, loads_apart word (suc i) x y ds)
 
 keeps_extended : (word i : ℕ) (bytes : List ℕ) (s : chip.ChipState)
     → (loaded_one_by_one word i bytes s).extended ≡ s.extended
 keeps_extended word i [] s = refl
-keeps_extended word i (d ∷ ds) s = keeps_extended word (suc i) ds
-    (chip.after_instruction (LoadFlash (half_at i) ((word + i / 2) % 256) d) s)
+keeps_extended word i (d ∷ ds) s = search (rules, keeps_extended word (suc i) ds)
 
 one_load : (wide : Bool) (a i d : ℕ) (ds : List ℕ) (s : chip.ChipState)
     → after_instructions (flash_loads wide 0x40 a i (d ∷ ds)) s
@@ -37,13 +35,11 @@ all_loads wide a i d [] s = search rules
 all_loads wide a i d (b ∷ bs) s =
     let x = cond wide (word_at a i / 65536 % 256) s.extended in
     let s₁ : chip.ChipState = chip.after_instruction (LoadFlash (half_at i) ((a % 256 + i / 2) % 256) d) s in
-    let s₂ : chip.ChipState = record s₁ { extended = x } in
     let y = cond wide (word_at a (suc i + length bs) / 65536 % 256) x in
     one_load wide a i d (b ∷ bs) s
-    ∙ (all_loads wide a (suc i) b bs s₂
+    ∙ (all_loads wide a (suc i) b bs (record s₁ { extended = x })
     ∙ (loads_apart (a % 256) (suc i) x y (b ∷ bs) s₁
-    ∙ ap (λ e. record (loaded_one_by_one (a % 256) (suc i) (b ∷ bs) s₁) { extended = e })
-    (search rules)))
+    ∙ ap (λ e. record (loaded_one_by_one (a % 256) (suc i) (b ∷ bs) s₁) { extended = e }) (search rules)))
 
 -- the block was loaded, and the extended address of its last word is sent
 pub block_is_loads : (wide : Bool) (cmd a last : ℕ) (bytes : List ℕ) (s loaded new : chip.ChipState) (done : Bool)
@@ -69,21 +65,13 @@ looks_again : (wide : Bool) (cmd a n : ℕ) (s new : chip.ChipState) → a < 214
     → new ≡ after_instructions (extension wide a) s → flash_reads wide cmd a 0 n new ≡ flash_reads wide cmd a 0 n s
 looks_again wide cmd a n s new few some ext = search rules
 
-in_flash : (test : Bool) (bytes whole : List ℕ) → Some bytes ≡ cond test (Some whole) None
-    → (test ≡ true) × (bytes ≡ whole)
-in_flash test bytes whole e = search rules
-
 pub block_is_looks : (wide : Bool) (cmd a word n : ℕ) (bytes : List ℕ) (s new : chip.ChipState) → cmd ≡ 0x20
     → a < 2147483648 → 0 < n → word ≡ a % 65536 → new ≡ after_instructions (extension wide a) s
     → Some bytes ≡ flash_block word n new → flash_reads wide cmd a 0 n s ≡ (bytes, new)
 block_is_looks wide cmd a word n bytes s new c few some w ext given =
-    let got = in_flash (is_in_flash word n new) bytes (read_one_by_one word 0 n new) given in
     let fits : word * 2 + n ≤ 131072 = search rules in
-    let right : cond wide (a / 65536 % 256) new.extended ≡ new.extended =
-    search rules in
-    ap (λ k. flash_reads wide k a 0 n s) c
-    ∙ (sym (looks_again wide 0x20 a n s new few some ext)
-    ∙ (search (rules, all_looks)))
+    let right : cond wide (a / 65536 % 256) new.extended ≡ new.extended = search rules in
+    search (rules, ← looks_again wide 0x20 a n s new few some ext, all_looks)
 
 reads_length : (word i n : ℕ) (s : chip.ChipState) → length (read_one_by_one word i n s) ≡ n
 reads_length word i zero s = refl

@@ -46,16 +46,12 @@ flash_looked wide a i (suc n) size s is long most even fits narrow =
     let place = flash_place wide a i size s is (omega arith) (omega arith) (omega arith)
     (λ e. ((narrow e).0, (let l = (narrow e).1 in omega arith))) in
     let byte = get_or s.flash (a * 2 + i) 0 in
-    let spi : chip.spi_of (at_address (for_half 0x20 i) (word_at a i) 0)
-    (after_instructions (extension wide (word_at a i)) s)
-    ≡ (0 ∷ for_half 0x20 i ∷ word_at a i / 256 % 256 ∷ byte ∷ [], s₁) =
-    rw (extended_is wide (word_at a i) s, look_byte i (word_at a i / 256 % 256) (word_at a i % 256) s₁, place) refl in
     let more : BytesAndChip wide (a * 2 + suc i) n s₁ (flash_reads wide 0x20 a (suc i) n s₁) =
     flash_looked wide a (suc i) n size s₁ is long most even (omega arith)
     (λ e. (cond-false wide (word_at a i / 65536 % 256) s.extended e ∙ (narrow e).0, (narrow e).1)) in
     let looks : flash_reads wide 0x20 a i (suc n) s
     ≡ (byte ∷ (flash_reads wide 0x20 a (suc i) n s₁).0, (flash_reads wide 0x20 a (suc i) n s₁).1) =
-    search (rules, look_by) in grind (arith, common_steps)
+    search (rules, extended_is, look_byte, place) in grind (arith, common_steps)
 
 eeprom_place : (a i size : ℕ) (s : chip.ChipState) → s.part.eeprom_size ≡ size → a + i < size → size ≤ 4096
     → (byte_address a i / 256 % 256 * 256 + byte_address a i % 256) % s.part.eeprom_size ≡ a + i
@@ -66,10 +62,6 @@ pub eeprom_looked : (a i n size : ℕ) (s : chip.ChipState) → s.part.eeprom_si
 eeprom_looked a i zero size s is long most fits = refl
 eeprom_looked a i (suc n) size s is long most fits =
     let place = eeprom_place a i size s is (omega arith) most in
-    let byte = get_or s.eeprom (a + i) 0 in
-    let spi : chip.spi_of (at_address 0xA0 (byte_address a i) 0) s
-    ≡ (0 ∷ 0xA0 ∷ byte_address a i / 256 % 256 ∷ byte ∷ [], s) =
-    rw place refl in
     let more = eeprom_looked a (suc i) n size s is long most (omega arith) in
     grind (arith, common_steps)
 
@@ -83,12 +75,8 @@ pub flash_left : (wide : Bool) (a i n : ℕ) (s : chip.ChipState) → Left wide 
 flash_left wide a i zero s = record { value = s.extended; kept = λ e. refl; is = refl }
 flash_left wide a i (suc n) s =
     let s₁ : chip.ChipState = record s { extended = cond wide (word_at a i / 65536 % 256) s.extended } in
-    let after : (chip.spi_of (at_address (for_half 0x20 i) (word_at a i) 0)
-    (after_instructions (extension wide (word_at a i)) s)).1 ≡ s₁ =
-    rw (extended_is wide (word_at a i) s)
-    (ap (λ z. z.1) (look_byte i (word_at a i / 256 % 256) (word_at a i % 256) s₁)) in
     let more : Left wide s₁ (flash_reads wide 0x20 a (suc i) n s₁).1 = flash_left wide a (suc i) n s₁ in
-    search rules
+    search (rules, extended_is, look_byte)
 
 pub eeprom_left : (a i n : ℕ) (s : chip.ChipState) → (eeprom_reads 0xA0 a i n s).1 ≡ s
 eeprom_left a i zero s = refl

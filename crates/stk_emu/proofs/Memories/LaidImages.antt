@@ -91,13 +91,7 @@ pub put_is : {A : Type 0} (f : ℕ → A) (e : A) (ds : List ℕ) (prefix : List
 put_is f e [] prefix place k at = ap (λ n. prefix ++ replicate n e) (omega arith)
 put_is f e (d ∷ ds) prefix place k at =
     let count : suc (length ds) + k ≡ suc (length ds + k) = omega arith in
-    search (
-      rules,
-      set_at,
-      append_assoc,
-      put_is f e ds (prefix ++ f d ∷ []) (suc place) k (rw length-append (omega arith)) ∙ append_assoc prefix (f d
-          ∷ []) (map f ds ++ replicate k e),
-    )
+    search (rules, set_at, append_assoc, length-append, put_is f e ds (prefix ++ f d ∷ []) (suc place) k)
 
 -- the bytes loaded for a run within a page, laid over a memory
 pub run_laid : (start off : ℕ) (run : List ℕ) (page : ℕ) (xs : List ℕ) → off + length run ≤ page
@@ -109,10 +103,8 @@ run_laid start off run page xs fits =
     ap (put Some off run) (search (rules, replicate-append-replicate))
     ∙ put_is Some None run (replicate off None) off (page - (off + length run))
     (length-replicate {A = Option ℕ} off None) in
-    ap (λ b. map_indexed_from 0 (overlaid_byte start b) xs) buffer
-    ∙ (overlaid_laid start (replicate off None ++ (map Some run ++ replicate (page - (off + length run)) None)) xs
-    ∙ (ap (λ b. with_image b xs) (simp (append_assoc, ← replicate-append-replicate {A = Option ℕ} start off None))
-    ∙ laid_nothing (image_at (start + off) run) (page - (off + length run)) xs))
+    rw (buffer, overlaid_laid, ← append_assoc, ← append_assoc, replicate-append-replicate {A = Option ℕ} start off None)
+    (laid_nothing (image_at (start + off) run) (page - (off + length run)) xs)
 
 pub length_put : {A : Type 0} (f : ℕ → A) (place : ℕ) (ds : List ℕ) (buffer : List A)
     → length (put f place ds buffer) ≡ length buffer

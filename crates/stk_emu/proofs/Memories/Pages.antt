@@ -64,29 +64,21 @@ flash_loaded : (wide : Bool) (a i half : ℕ) (ds : List ℕ) (s : chip.ChipStat
 flash_loaded wide a i half [] s e each = record { value = s.extended; kept = λ n. refl; is = refl }
 flash_loaded wide a i half (d ∷ ds) s e each =
     let x = cond wide (word_at a i / 65536 % 256) s.extended in
-    let s₁ : chip.ChipState = record s { extended = x } in
     let here : word_at a i % 256 % (s.part.flash_page / 2) * 2 + i % 2 ≡ i =
     ap (λ h. word_at a i % 256 % h * 2 + i % 2) e
     ∙ (ap (λ j. word_at a j % 256 % half * 2 + j % 2) (omega arith) ∙ (each 0 (omega arith) ∙ omega arith)) in
     let s₂ : chip.ChipState = record s { flash_buffer = set s.flash_buffer i d; extended = x } in
-    let one : after_instructions (flash_loads wide 0x40 a i (d ∷ ds)) s
-    ≡ after_instructions (flash_loads wide 0x40 a (suc i) ds) s₂ =
-    sent-append (extension wide (word_at a i)) _ s ∙ rw (extended_is wide (word_at a i) s)
-    (rw (load_byte i (word_at a i / 256 % 256) (word_at a i % 256) d s₁, here) refl) in
     let more : Loaded wide (suc i) ds s₂ (after_instructions (flash_loads wide 0x40 a (suc i) ds) s₂) =
     flash_loaded wide a (suc i) half ds s₂ e
     (λ k l. ap (λ j. word_at a j % 256 % half * 2 + j % 2) (omega arith)
-    ∙ (each (suc k) (omega arith) ∙ omega arith)) in search rules
+    ∙ (each (suc k) (omega arith) ∙ omega arith)) in search (rules, sent-append, extended_is, load_byte)
 
 -- the place of byte j of a page
 word_place : (n half j : ℕ) → 256 % (half * 2) ≡ 0 → j < half * 2 → n * half + j / 2 < 2147483648
     → (n * half + j / 2) % 2147483648 % 256 % half * 2 + j % 2 ≡ j
 word_place n half j whole within few =
-    let small : j / 2 < half = omega arith in
-    rw (mod-eq_of_lt few)
-    (rw (mod-mod_of_dvd half (n * half + j / 2) (dvd_trans half (dvd-mul_right half 2)
-    (dvd_of_mod-eq-zero (half * 2) whole)))
-    (rw (mod-mul-add n half (j / 2) small) (omega arith)))
+    let whole_half = dvd_trans half (dvd-mul_right half 2) (dvd_of_mod-eq-zero (half * 2) whole) in
+    search (rules, mod-eq_of_lt, mod-mod_of_dvd, mod-mul-add)
 
 -- a word's address, from the extended address and the two bytes of an instruction
 pub word_whole : (wide : Bool) (s : chip.ChipState) (w : ℕ) → w < 16777216
@@ -123,10 +115,6 @@ module _ (part : Part) (sound : IsPart part) where
       let wide = is_wide part in
       let halves : part.flash_page ≡ part.flash_page / 2 * 2 = let h = sound.flash_halves in omega arith in
       let twice = words_twice n part.flash_page sound.flash_halves in
-      let p_some = sound.flash_page in
-      let p_most = sound.flash_most in
-      let inside = is_page.inside in
-      let count = is_page.whole in
       let few : a < 16777216 = omega arith in
       let loads : Loaded wide 0 page s (after_instructions (flash_loads wide 0x40 a 0 page) s) =
       search (rules, flash_loaded, word_place) in
@@ -151,16 +139,8 @@ module _ (part : Part) (sound : IsPart part) where
   page_does n page m p is_page s =
       let a = n * (part.flash_page / 2) in
       let wide = is_wide part in
-      let p_some = sound.flash_page in
-      let p_most = sound.flash_most in
-      let p_halves = sound.flash_halves in
-      let inside = is_page.inside in
-      let count = is_page.whole in
       let short = page_most part.flash_page (omega arith) sound.flash_fits in
       let q : Programmer = record p { address = a; wide = wide } in
       let paged =
       page_chip p.chip n page s.part_is s.flash_buffer (λ w. s.extended (ltb-false 131072 part.flash_size w)) is_page in
-      search (rules, flash_loaded_at, words_twice, page_changed)
-    where
-      narrow_test : NeedsNoExtendedAddress part → is_wide part ≡ false
-      narrow_test is_narrow = le-ltb 131072 part.flash_size is_narrow
+      search (rules, flash_loaded_at, words_twice, page_changed, le-ltb)

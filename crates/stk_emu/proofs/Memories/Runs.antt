@@ -36,15 +36,11 @@ eeprom_loaded : (a i off page : ℕ) (ds : List ℕ) (s : chip.ChipState) → s.
     → after_instructions (eeprom_loads 0xC1 a i ds) s ≡ record s { eeprom_buffer = put Some off ds s.eeprom_buffer }
 eeprom_loaded a i off page [] s e each = refl
 eeprom_loaded a i off page (d ∷ ds) s e each =
-    let here : byte_address a i % 256 % s.part.eeprom_page ≡ off =
-    ap (λ q. byte_address a i % 256 % q) e ∙
-    (ap (λ j. byte_address a j % 256 % page) (omega arith) ∙ (each 0 (omega arith) ∙ omega arith)) in
-    search (
-      rules,
-      eeprom_loaded a (suc i) (suc off) page ds (record s {
-        eeprom_buffer = set s.eeprom_buffer off (Some d);
-      }) e (λ k l. ap (λ j. byte_address a j % 256 % page) (omega arith) ∙ (each (suc k) (omega arith) ∙ omega arith)),
-    )
+    let here : byte_address a i % 256 % s.part.eeprom_page ≡ off = grind (arith, each 0) in
+    let next : chip.ChipState = record s { eeprom_buffer = set s.eeprom_buffer off (Some d) } in
+    let more = eeprom_loaded a (suc i) (suc off) page ds next e
+    (λ k l. ap (λ j. byte_address a j % 256 % page) (omega arith) ∙ (each (suc k) (omega arith) ∙ omega arith)) in
+    search (rules, more)
 
 module _ (part : Part) (sound : IsPart part) where
   -- the chip after a run
@@ -57,11 +53,6 @@ module _ (part : Part) (sound : IsPart part) where
       }
   run_chip s a run e empty is_run =
       let size_is : s.part.eeprom_size ≡ part.eeprom_size = ap (λ (x : Part). x.eeprom_size) e in
-      let r_some = is_run.some in
-      let r_within = is_run.within in
-      let r_inside = is_run.inside in
-      let most = sound.eeprom_most in
-      let some = sound.eeprom_page in
       let off = a % part.eeprom_page in
       let loaded = put Some off run s.eeprom_buffer in
       let loads : after_instructions (eeprom_loads 0xC1 a 0 run) s ≡ record s { eeprom_buffer = loaded } =

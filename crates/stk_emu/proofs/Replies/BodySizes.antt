@@ -18,23 +18,16 @@ two x y = record { some = omega arith; few = omega arith }
 when : (b : Bool) (x y : Response) → (b ≡ true → IsFrameBody x.0) → IsFrameBody y.0 → IsFrameBody (if b then x else y).0
 when b x y f g = search rules
 
-either : (b : Bool) (x y : Response) → IsFrameBody x.0 → IsFrameBody y.0 → IsFrameBody (if b then x else y).0
-either b x y f g = when b x y (λ e. f) g
-
 pub flash_length : (wide : Bool) (cmd address i n : ℕ) (chip : ChipState)
     → length (flash_reads wide cmd address i n chip).0 ≡ n
 flash_length wide cmd address i zero chip = refl
 flash_length wide cmd address i (suc n) chip =
-    search (
-      rules,
-      flash_length wide cmd address (suc i) n (spi_of (at_address (for_half cmd i) (word_at address i) 0)
-          (after_instructions (extension wide (word_at address i)) chip)).1,
-    )
+    search (rules, flash_length wide cmd address (suc i) n)
 
 pub eeprom_length : (cmd address i n : ℕ) (chip : ChipState) → length (eeprom_reads cmd address i n chip).0 ≡ n
 eeprom_length cmd address i zero chip = refl
 eeprom_length cmd address i (suc n) chip =
-    ap suc (eeprom_length cmd address (suc i) n (spi_of (at_address cmd (byte_address address i) 0) chip).1)
+    search (rules, eeprom_length cmd address (suc i) n)
 
 flash_body : (f : ReadBlock) (p : Programmer) → IsFrameBody (read_flash f p).0
 flash_body f p = grind (arith, common_steps, and_parts, length-append, flash_length, two)
@@ -44,7 +37,7 @@ eeprom_body f p = grind (arith, common_steps, and_parts, length-append, eeprom_l
 
 multi_body : (send receive start : ℕ) (bytes : List ℕ) (p : Programmer)
     → IsFrameBody (spi_multi send receive start bytes p).0
-multi_body send receive start bytes p = grind (arith, common_steps, either, when, leb-true)
+multi_body send receive start bytes p = grind (arith, common_steps, when, leb-true)
 
 command_body : (c : Command) (p : Programmer) → IsFrameBody (execute_command c p).0
 command_body c p = search (rules, flash_body, eeprom_body, multi_body)

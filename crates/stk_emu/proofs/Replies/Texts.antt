@@ -2,7 +2,7 @@
 use Rattle.std.proofs.lemmas.Grind.{common_steps}
 use Rattle.std.proofs.Common.{◌≡◌, ℕ, ◌+◌, List, [], ◌∷◌, ◌++◌, ◌<◌, ◌≤◌, length, take, drop, refl, sym, append_assoc, arith, length-drop, rules}
 use Rattle.std.specs.Prelude.{filter}
-use Rattle.std.proofs.lemmas.List.{append-nil, take-append-drop}
+use Rattle.std.proofs.lemmas.List.{append-nil}
 use Rattle.std.proofs.lemmas.List.Elements.{filter-append}
 use Rattle.std.proofs.Math.Seq.{take-add}
 use Rattle.stk_frame.specs.declared.reader.Event.{Event}
@@ -11,7 +11,7 @@ use Rattle.stk_frame.specs.Cut.{frames, is_frame}
 use Rattle.stk_frame.specs.Reader.{HoldsFrame, MayHaveBeenFed, Fed, EventMatchesHeld, frames_of_event}
 use Rattle.stk_emu.specs.Programmer.{Programmer}
 use Rattle.stk_emu.specs.Device.{Device, device, replies, after_frames, after_frame}
-use Rattle.stk_emu.specs.Emulator.{EmulatorState, WasFedText, RepliesToFrame, AppendsReplies, AppendsRepliesToPrefix, emulate}
+use Rattle.stk_emu.specs.Emulator.{EmulatorState, WasFedText, RepliesToFrame, AppendsReplies, emulate}
 
 pub replies_append : {P : Type 0} (m : Device P) (xs ys : List (List ℕ)) (p : P)
     → replies m (xs ++ ys) p ≡ replies m xs p ++ replies m ys (after_frames m xs p)
@@ -59,12 +59,6 @@ pub appends_on : (bytes : List ℕ) (n used : ℕ) (old mid new : EmulatorState)
     → AppendsReplies old (take n bytes) mid a b → AppendsReplies mid (take used (drop n bytes)) new b c
     → AppendsReplies old (take (n + used) bytes) new a c
 appends_on bytes n used old mid new a b c f then = search (rules, take-add, append_assoc, replies_append, after_more)
-
--- a prefix of the bytes, after which some are left
-pub appends_prefix : (bytes : List ℕ) (n : ℕ) (old new : EmulatorState) (a b : List ℕ)
-    → AppendsReplies old (take n bytes) new a b → n < length bytes → AppendsRepliesToPrefix old bytes new a b
-appends_prefix bytes n old new a b appends some =
-    search (rules, length-drop, drop n bytes, sym (take-append-drop n bytes))
 
 pub appends_fed : (old new : EmulatorState) (bytes a b : List ℕ) (p : Programmer) (text : List ℕ)
     → AppendsReplies old bytes new a b → WasFedText p text old → WasFedText p (text ++ bytes) new

@@ -6,14 +6,8 @@ use Rattle.stk_emu.specs.Effect.{Memories, Erase, Write, effect}
 
 -- two bytes of flash, two of EEPROM, by the high fuse and the lock
 abbrev small : ℕ → ℕ → Memories
-small hfuse lock = record {
-  flash = 0xFF ∷ 0x0F ∷ [];
-  eeprom = 0x12 ∷ 0x34 ∷ [];
-  lfuse = 0x62;
-  hfuse = hfuse;
-  efuse = 0xFF;
-  lock = lock;
-}
+small high lock =
+    record { flash = 0xFF ∷ 0x0F ∷ []; eeprom = 0x12 ∷ 0x34 ∷ []; lfuse = 0x62; hfuse = high; efuse = 255; lock = lock }
 
 -- high fuse D9 has the EESAVE bit at 1, and D1 at 0
 erases_all : effect m328p Erase (small 0xD9 0xFC)

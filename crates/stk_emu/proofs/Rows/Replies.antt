@@ -1,6 +1,7 @@
 -- The limits, and what a programmer with a small part refuses or loses.
 use Rattle.std.proofs.Common.{◌≡◌, ℕ, List, [], ◌∷◌, refl}
 use Rattle.avr_part.specs.Part.{Part}
+use Rattle.avr_part.specs.BuiltIn.{m328p}
 use Rattle.avr_part.specs.State.{fresh_state}
 use Rattle.stk_frame.specs.Commands.{body}
 use Rattle.stk_frame.specs.Frame.{frame}
@@ -16,15 +17,7 @@ pub limits : (LARGEST_READ ≡ 272) × (LARGEST_NOISE ≡ 2048) × (ROOM ≡ 289
 limits = (refl, refl, refl)
 
 abbrev pub small : Part
-small = record {
-  id = [];
-  signature = 0x1E ∷ 0x95 ∷ 0x0F ∷ [];
-  flash_size = 16;
-  flash_page = 8;
-  eeprom_size = 8;
-  eeprom_page = 4;
-  eesave_bit = 3;
-}
+small = record m328p { id = []; flash_size = 16; flash_page = 8; eeprom_size = 8 }
 
 abbrev pub start : Programmer
 start = fresh_programmer (fresh_state small)

@@ -58,22 +58,17 @@ reads_frame : (n : ℕ) (prefix bytes : List ℕ) (more : Tape) → Skipped n pr
 reads_frame n prefix bytes more skipped short b =
     let found : first_reply n (cut (prefix ++ frame n bytes)) ≡ Some (bytes, length (prefix ++ frame n bytes)) =
     rw (skipped.first (frame n bytes), found_frame n bytes b, length-append prefix (frame n bytes)) refl in
-    let few : length (prefix ++ frame n bytes) ≤ reply_byte_limit =
-    search (rules, length-append) in
-    ap (λ t. answer n (t ++ more)) (sym (on_tape_append prefix (frame n bytes)))
-    ∙ reading_found n (prefix ++ frame n bytes) more bytes found few
+    let few : length (prefix ++ frame n bytes) ≤ reply_byte_limit = search (rules, length-append) in
+    rw (← on_tape_append) (reading_found n (prefix ++ frame n bytes) more bytes found few)
 
 reads_silence : (n : ℕ) (prefix noise : List ℕ) (more : Tape) → Skipped n prefix → length prefix ≤ 3 * LARGEST_FRAME
     → IsLawful noise → answer n ((on_tape prefix ++ (on_tape noise ++ Silence ∷ [])) ++ more) ≡ Some (Silent, more)
 reads_silence n prefix noise more skipped short lawful =
     let none : first_reply n (cut (prefix ++ noise)) ≡ None =
     skipped.first noise ∙ ap (past_skipped (length prefix)) (none_good n (cut noise) lawful.no_frame) in
-    let few : length (prefix ++ noise) < reply_byte_limit =
-    search (rules, length-append) in
-    rw (append_assoc (on_tape prefix) (on_tape noise ++ Silence ∷ []) more)
-    (rw (append_assoc (on_tape noise) (Silence ∷ []) more)
-    (rw (← append_assoc (on_tape prefix) (on_tape noise) (Silence ∷ more), ← on_tape_append prefix noise)
-    (reading_silent n (prefix ++ noise) more none few)))
+    let few : length (prefix ++ noise) < reply_byte_limit = search (rules, length-append) in
+    let silent = reading_silent n (prefix ++ noise) more none few in
+    simp append_assoc (simp (on_tape_append, append_assoc) at silent)
 
 no_noise : IsLawful []
 no_noise = record { few = omega arith; no_frame = refl }
@@ -87,7 +82,7 @@ reads_back n HeldAnswer late bytes more clear lawful b =
     reads_silence n [] [] more (none_skipped n) (omega arith) no_noise
 reads_back n CommandRefused late bytes more clear lawful b = search (rules, reads_frame, clear_skipped, clear_length)
 reads_back n (AnswerSpoiled noise) late bytes more clear lawful b =
-    reads_silence n (waiting late) noise.items more (clear_skipped n late clear) (clear_length n late clear) lawful
+    search (rules, reads_silence, clear_skipped, clear_length)
 reads_back n _ late bytes more clear lawful b =
     reads_silence n (waiting late) [] more (clear_skipped n late clear) (clear_length n late clear) no_noise
 

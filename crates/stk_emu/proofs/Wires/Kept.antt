@@ -25,14 +25,11 @@ wire_more m (x ∷ xs) ys w = wire_more m xs ys (wire_after_frame m x w)
 pub keeps_sending : (old new : WiredState) (used : List ℕ) (p : Programmer) (fates : List Fate)
     → PassesBytes old new used → FollowsFates p fates old → FollowsFates p fates new
 keeps_sending old new used p fates passes keeps =
-    let sent_is : sent new.transcript ≡ sent old.transcript ++ used =
-    search (rules, sent_append) in
-    let received_is : heard new.transcript ≡ heard old.transcript =
-    ap heard passes.transcript ∙ (got_append old.transcript (Sent used ∷ []) ∙ append-nil (heard old.transcript)) in
+    let sent_is : sent new.transcript ≡ sent old.transcript ++ used = search (rules, sent_append) in
+    let received_is : heard new.transcript ≡ heard old.transcript = search (rules, got_append, append-nil) in
     let frames_are : frames (sent new.transcript) ≡ frames (sent old.transcript) ++ passes.found =
-    ap frames sent_is ∙ frames_fed old.held used new.held passes.found
-    (sent old.transcript) passes.fed passes.are_frames
-    keeps.held in search (rules, wire_more, tape_more, append_assoc)
+    rw sent_is (frames_fed old.held used new.held _ (sent old.transcript) passes.fed passes.are_frames keeps.held) in
+    search (rules, wire_more, tape_more, append_assoc)
 
 pub keeps_receiving : (old : WiredState) (items : Tape) (p : Programmer) (fates : List Fate)
     → IsReceivedNext items old.waits → FollowsFates p fates old → FollowsFates p fates (after_receiving items old)

@@ -29,10 +29,8 @@ pub noise_next : (old new noise : List ℕ) (at used : ℕ) (event : Event)
 noise_next old new noise at used event part is_reported bad stands none =
     let fs = frames_of_event event new in
     let fed = fed_rest old new noise at used fs part in
-    rw (take-add at used noise) (
-      fed.stands (take at noise) stands,
-      good_fed old (take used (drop at noise)) new fs (take at noise) fed stands none ∙ (search rules),
-    )
+    let good_is = good_fed old (take used (drop at noise)) new fs (take at noise) fed stands none in
+    rw (take-add at used noise) (fed.stands (take at noise) stands, good_is ∙ (search rules))
 
 pub good_next : (old new noise : List ℕ) (at used : ℕ)
     → Fed old (take used (take (length noise - at) (drop at noise))) new (new ∷ []) → is_good new ≡ true
@@ -42,6 +40,5 @@ good_next old new noise at used part good stands none e =
     let here : filter is_good (cut prefix) ≡ new ∷ [] =
     good_fed old _ new (new ∷ []) (take at noise) (fed_rest old new noise at used (new ∷ []) part) stands none
     ∙ cond-true (is_good new) (new ∷ []) [] good in
-    let all : prefix ++ drop (at + used) noise ≡ noise =
-    ap (λ x. x ++ drop (at + used) noise) (sym (take-add at used noise)) ∙ take-append-drop (at + used) noise in
+    let all : prefix ++ drop (at + used) noise ≡ noise = rw (← take-add) (take-append-drop (at + used) noise) in
     search (rules, cut_append, filter-append)

@@ -43,23 +43,14 @@ pub bytes_put : (at : ℕ) (bytes more places : List ℕ) → at ≤ length byte
     → tape_in at (bytes ++ more) places ≡ tape_in at bytes places ++ on_tape more
 bytes_put at bytes more [] le w = search (rules, drop-append-le, map-append)
 bytes_put at bytes more (place ∷ places) le w =
-    let few : place - at ≤ length (drop at bytes) = rw (length-drop at bytes) (omega (arith, w.1)) in
-    let next = on_tape (take (place - at) (drop at bytes)) in
-    rw (
-      drop-append-le at bytes more le,
-      take-append-le (place - at) (drop at bytes) more few,
-      bytes_put place bytes more places w.1 w.2,
-    )
-    (sym (append_assoc next (Silence ∷ tape_in place bytes places) (on_tape more)))
+    search (rules, drop-append-le, take-append-le, length-drop, append_assoc, bytes_put place bytes more places)
 
 -- one more timeout waits
 pub timeout_put : (at : ℕ) (bytes places : List ℕ) → AreWithin at places (length bytes)
     → tape_in at bytes (places ++ length bytes ∷ []) ≡ tape_in at bytes places ++ Silence ∷ []
 timeout_put at bytes [] w = rw (take_rest bytes at, drop_all (length bytes) bytes (omega arith)) refl
 timeout_put at bytes (place ∷ places) w =
-    let next = on_tape (take (place - at) (drop at bytes)) in
-    rw (timeout_put place bytes places w.2)
-    (sym (append_assoc next (Silence ∷ tape_in place bytes places) (Silence ∷ [])))
+    search (rules, append_assoc, timeout_put place bytes places)
 
 pub bytes_dropped : (at count : ℕ) (bytes places : List ℕ) → count ≤ length (leading_bytes (tape_in at bytes places))
     → tape_in (at + count) bytes places ≡ drop count (tape_in at bytes places)
@@ -71,26 +62,20 @@ bytes_dropped at count bytes (place ∷ places) le =
     let is : place - at ≡ count + (place - (at + count)) = omega (arith, here, size) in
     let left : drop count xs ≡ take (place - (at + count)) (drop (at + count) bytes) =
     rw (is, drop-take count (place - (at + count)) (drop at bytes), drop-drop count at bytes) refl in
-    sym (drop-append-le count (on_tape xs) (Silence ∷ tape_in place bytes places) (rw (length-map xs Byte) here)
-    ∙ ap (λ t. t ++ Silence ∷ tape_in place bytes places) (drop-map Byte count xs ∙ ap on_tape left))
+    search (rules, drop-append-le, length-map, drop-map, left)
 
 pub at_dropped : (at count : ℕ) (bytes places : List ℕ) → at ≤ length bytes → AreWithin at places (length bytes)
     → count ≤ length (leading_bytes (tape_in at bytes places)) → at + count ≤ length bytes
 at_dropped at count bytes [] from w le =
-    let few : count ≤ length (drop at bytes) = rw (bytes_all (drop at bytes)) at le in
-    omega (arith, few, length-drop at bytes, from)
+    grind (arith, bytes_all, length-drop)
 at_dropped at count bytes (place ∷ places) from w le =
-    let few : count ≤ length (take (place - at) (drop at bytes)) =
-    rw (bytes_before (take (place - at) (drop at bytes)) (tape_in place bytes places)) at le in
-    omega (arith, few, length-take (place - at) (drop at bytes), w.0, w.1)
+    grind (arith, bytes_before, length-take)
 
 pub within_dropped : (at count : ℕ) (bytes places : List ℕ) → AreWithin at places (length bytes)
     → count ≤ length (leading_bytes (tape_in at bytes places)) → AreWithin (at + count) places (length bytes)
 within_dropped at count bytes [] w le = w
 within_dropped at count bytes (place ∷ places) w le =
-    let few : count ≤ length (take (place - at) (drop at bytes)) =
-    rw (bytes_before (take (place - at) (drop at bytes)) (tape_in place bytes places)) at le in
-    (omega (arith, few, length-take (place - at) (drop at bytes), w.0), w.1, w.2)
+    grind (arith, bytes_before, length-take)
 
 -- a timeout is received, or nothing waits
 silent_before : (xs : List ℕ) (tape : Tape) → HasNoLeadingByte (on_tape xs ++ Silence ∷ tape) → xs ≡ []
@@ -106,8 +91,7 @@ pub timeout_dropped : (at : ℕ) (bytes places : List ℕ) → AreWithin at plac
 timeout_dropped at bytes [] w silent = rw (silent_all (drop at bytes) silent) refl
 timeout_dropped at bytes (place ∷ places) w silent =
     let none = silent_before (take (place - at) (drop at bytes)) (tape_in place bytes places) silent in
-    let is : place ≡ at =
-    omega (arith, w.0, w.1, ap length none, length-take (place - at) (drop at bytes), length-drop at bytes) in
+    let is : place ≡ at = grind (arith, ap length none, length-take, length-drop) in
     rw (none, is) refl
 
 pub next_place : (at place : ℕ) (bytes places : List ℕ) → 0 < length places → place ≡ slice_index_or places 0 place

@@ -1,6 +1,6 @@
-use Rattle.std.proofs.Common.{rules, ◌≡◌, ◌<◌, ◌∙◌, length, arith}
+use Rattle.std.proofs.Common.{rules, ◌≡◌, ◌<◌, length, arith}
 use Rattle.std.proofs.lemmas.Bool.Decides.{nat_tests}
-use Rattle.stk_emu.proofs.Memories.Blocks.{flash_load, flash_sent}
+use Rattle.stk_emu.proofs.Memories.Blocks.{flash_load}
 use Rattle.stk_emu.proofs.Memories.BlocksAtOnce.{block_is_loads}
 use Rattle.stk_emu.proofs.flash.load_page.Goals as goal
 
@@ -9,10 +9,7 @@ loop-i-preserved c =
     let b = c.args.block in
     flash_load b.wide b.command b.address c.loop-i.i c.args.bytes.now c.spi.result c.loop-i.chip
     c.spi.new.self _ (omega arith) c.loop-i.invariant
-    (c.spi.ensures
-    ∙ flash_sent b.wide b.command b.address c.loop-i.i c.word_at-word.result c.for_half.result _
-    c.at_address.result c.loop-i.chip c.extend-in-loop-i.new.chip c.word_at-word.ensures c.for_half.ensures
-    c.at_address.ensures c.extend-in-loop-i.ensures)
+    (search rules)
 
 pub returns-then-load_block : goal.returns-then-load_block
 returns-then-load_block c =

@@ -1,7 +1,7 @@
-use Rattle.std.proofs.Common.{rules, ◌≡◌, ◌<◌, ◌++◌, ◌+◌, ◌-◌, ◌∙◌, sym, ap, arith, length-append}
+use Rattle.std.proofs.Common.{rules, ◌≡◌, ◌<◌, ◌++◌, ◌+◌, ◌-◌, arith, length-append}
 use Rattle.std.proofs.lemmas.Bool.Decides.{nat_tests}
 use Rattle.stk_emu.specs.Programmer.{flash_reads}
-use Rattle.stk_emu.proofs.Memories.Blocks.{flash_look, flash_sent}
+use Rattle.stk_emu.proofs.Memories.Blocks.{flash_look}
 use Rattle.stk_emu.proofs.Memories.BlocksAtOnce.{block_is_looks, block_length}
 use Rattle.stk_emu.proofs.flash.read.Goals as goal
 
@@ -14,11 +14,7 @@ loop-place-preserved c = record {
       c.spi-bytes.new.self c.loop-place.out.items c.push.new.self.items (omega arith) c.loop-place.invariant.on
       (record {
         spi_out = c.spi-bytes.result;
-        executed =
-            c.spi-bytes.ensures
-            ∙ flash_sent b.wide b.command b.address c.loop-place.place c.word_at-word.result
-            c.for_half.result 0 c.at_address.result c.loop-place.chip c.extend-in-loop-place.new.chip
-            c.word_at-word.ensures c.for_half.ensures c.at_address.ensures c.extend-in-loop-place.ensures;
+        executed = search rules;
         put = c.push.ensures.items;
       });
   len = rw (c.push.ensures.items, length-append) (omega (arith, c.loop-place.invariant.len));
@@ -34,7 +30,4 @@ returns-in-Some c =
     search (rules, block_is_looks) in
     let put : c.try_extend_from_slice.new.self.items ≡ c.args.out.now.items ++ c.in-Some.bytes.now =
     search (rules, block_length) in
-    record {
-      bytes = put ∙ ap (λ z. c.args.out.now.items ++ z.0) (sym whole);
-      chip = ap (λ z. z.1) (sym whole);
-    }
+    search (rules, put, whole)

@@ -2,7 +2,7 @@ use Rattle.std.proofs.Common.{rules, [], ◌≡◌, ◌++◌, arith, take_all}
 use Rattle.std.proofs.lemmas.List.{take_rest}
 use Rattle.std.proofs.lemmas.Result.{err_from_is_err_and}
 use Rattle.stk_frame.proofs.FedReaders.{within_span}
-use Rattle.stk_emu.proofs.Replies.Texts.{appends_none, appends_one, appends_on, appends_prefix, appends_fed, appends_all}
+use Rattle.stk_emu.proofs.Replies.Texts.{appends_none, appends_one, appends_on, appends_fed, appends_all}
 use Rattle.stk_emu.proofs.emulator.Emulator.reply_to_all.Goals as goal
 
 pub loop-used-init : goal.loop-used-init
@@ -29,4 +29,4 @@ returns-in_err-reserve-clause-prefix c =
     let p = err_from_is_err_and c.from_residual.result c.from_residual.ensures.1 in
     rw p.1
     (rw c.in_err-reserve.ensures.items
-    (appends_prefix c.args.bytes.now c.loop-used.used _ _ _ _ c.loop-used.invariant.appends c.loop-used-test.true))
+    (record { count = _; some_left = c.loop-used-test.true; appends = c.loop-used.invariant.appends }))
