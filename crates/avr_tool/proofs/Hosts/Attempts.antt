@@ -13,15 +13,8 @@ use Rattle.avr_tool.proofs.Hosts.AnyExchange.{step_along}
 abbrev pub along_next_dialog : {E A B P : Type 0} → Device P → (A → Dialog E B) → ℕ → List Exchange → P → Dialog E A
     → StateAfter E B P
 along_next_dialog m next left exchanges p (Done a) = state_after m left (next a) p exchanges
-along_next_dialog m next left exchanges p (Emit e dialog) =
-    record { dialog = Emit e (dialog >>= next); programmer = p; exchanges = exchanges; left = left }
-along_next_dialog m next left exchanges p (Ask bytes go_on) =
-    record {
-      dialog = Ask bytes (λ reading. go_on reading >>= next);
-      programmer = p;
-      exchanges = exchanges;
-      left = left;
-    }
+along_next_dialog m next left exchanges p dialog =
+    record { dialog = dialog >>= next; programmer = p; exchanges = exchanges; left = left }
 
 abbrev pub onwards : {E A B P : Type 0} → Device P → (A → Dialog E B) → StateAfter E A P → StateAfter E B P
 onwards m next s = along_next_dialog m next s.left s.exchanges s.programmer s.dialog

@@ -36,9 +36,8 @@ End P R = R → List OutputEvent → Spot P → Type 0
 
 module _ {P : Type 0} (m : Device P) where
   -- both, after `k` commands along the link
-  pub record Printed {R : Type 0} (Now : Moment P) (After : End P R) (k : ℕ) (d : Dialog OutputEvent R) (z : Spot P) :
-      Type
-      0 where
+  pub record Printed {R : Type 0} (Now : Moment P) (After : End P R) (k : ℕ) (d : Dialog OutputEvent R)
+      (z : Spot P) : Type 0 where
     pub now : Now (outputs_after m k d z.0 z.1) (spot m k d z)
     pub after : (r : R) → (state_after m k d z.0 z.1).dialog ≡ Done r
         → After r (outputs_after m k d z.0 z.1) (spot m k d z)
@@ -104,8 +103,7 @@ module _ {P : Type 0} (m : Device P) where
         → ((a : A) (emitted : List OutputEvent) (y : Spot P) → Between a emitted y
         → Prints (λ x. Now' (emitted ++ x)) (λ b x. After b (emitted ++ x)) (next a) y)
         → Prints Now' After (d >>= next) z
-    prints_then {Now = Now} {Now' = Now'} {Between = Between} {After = After} {next = next} {d = d} {z = z} f l more =
-        record { holds = on_bind Now Now' Between After next f more d z l.holds }
+    prints_then {d = d} f l more = record { holds = on_bind _ _ _ _ _ f more d _ l.holds }
 
     pub prints_wider : {R : Type 0} {Now Now' : Moment P} {After After' : End P R} {d : Dialog OutputEvent R}
         {z : Spot P}
