@@ -39,14 +39,11 @@ module _ {P : Type 0} (m : Device P) where
   -- the data of all commands are those of each
   pub all_replied : (commands : List Command) (before got : List ℕ) (p : P)
       → joined_reply m commands before p ≡ Data got → AreReplied m (length commands) commands p
-  all_replied [] before got p has = tt
-  all_replied (command ∷ []) before got p has = tt
   all_replied (command ∷ next ∷ commands) before got p has =
       let first = data_in (reply_to m command p) (λ bytes. joined_reply m (next ∷ commands) (before ++ bytes)
-      (m.after (body command) p)) got has in (
-        (first.0, first.1.0),
-        all_replied (next ∷ commands) (before ++ first.0) got (m.after (body command) p) first.1.1,
-      )
+      (m.after (body command) p)) got has in
+      ((first.0, first.1.0), all_replied (next ∷ commands) (before ++ first.0) got (m.after (body command) p) first.1.1)
+  all_replied commands before got p has = tt
 
   -- what a dialog upholds holds along each link
   module _ {E R : Type 0} (During : P → Type 0) (MayEmit : E → P → Type 0) (After After' : R → P → Type 0)

@@ -122,11 +122,9 @@ frames_prefix (Frame f ∷ events) bytes back whole e = elim (cases_lt (length b
       sym (take-append-drop (length bytes) f) ∙ ap (λ x. x ++ drop (length bytes) f)
       (sym (take-append-le (length bytes) f (bytes_sent events) (omega arith))
       ∙ (search (rules, take-append-le, take_all))) in
-      let rest : 0 < length (drop (length bytes) f) = search (rules, length-append) in (
-        f ∷ frames_in events,
-        ap (λ x. x ++ f ∷ frames_in events)
-            (sym (part_none bytes (drop (length bytes) f) rest (subst IsPiece split whole.0.piece))),
-      )
+      let rest : 0 < length (drop (length bytes) f) = search (rules, length-append) in
+      let none = part_none bytes (drop (length bytes) f) rest (subst IsPiece split whole.0.piece) in
+      (f ∷ frames_in events, ap (λ x. x ++ f ∷ frames_in events) (sym none))
   | inr ge ↦
       let prefix : take (length f) bytes ≡ f = sym (take-append-le (length f) bytes back ge)
       ∙ (search (rules, take-append-le, take_all)) in

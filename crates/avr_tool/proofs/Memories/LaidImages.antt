@@ -25,22 +25,18 @@ use Rattle.avr_tool.proofs.Plans.Fits.{AllFitActions}
 -- ---- images laid over each other, byte by byte
 
 byte_of_empty : (size i : ℕ) → byte_at (empty size) i ≡ None
-byte_of_empty zero i = refl
-byte_of_empty (suc size) zero = refl
 byte_of_empty (suc size) (suc i) = byte_of_empty size i
+byte_of_empty size i = refl
 
 length-over : (a b : Image) → length (over a b) ≡ length a
-length-over [] b = refl
-length-over (x ∷ a) [] = refl
 length-over (x ∷ a) (y ∷ b) = ap suc (length-over a b)
+length-over a b = refl
 
 byte_of_over : (a b : Image) (i : ℕ) → length b ≤ length a → byte_at (over a b) i
     ≡ option_or (byte_at b i) (byte_at a i)
-byte_of_over [] [] i l = refl
 byte_of_over [] (y ∷ b) i l = absurd (omega (arith, l))
-byte_of_over (x ∷ a) [] i l = refl
-byte_of_over (x ∷ a) (y ∷ b) zero l = refl
 byte_of_over (x ∷ a) (y ∷ b) (suc i) l = byte_of_over a b i (omega (arith, l))
+byte_of_over a b i l = refl
 
 -- ---- a write to bytes
 
