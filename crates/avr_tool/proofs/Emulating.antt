@@ -51,23 +51,10 @@ module _ (settings : Settings) (file : Bytes) (plan : Plan) (chip : Chip) (w v :
       → SessionOverWire plan w v loaded_desk played_desk ran) → IsSavedIfSent (sent v.transcript) played_desk now file
       (chip_file v.wire.programmer.chip) ran status → RunsOverEmulator settings file old now status
   runs_over_emulator old planned_desk loaded_desk played_desk now ran status made takes by_saving runs
-      comes line saved = record {
-        plan = plan;
-        chip = chip;
-        after = v;
-        session_status = ran;
-        planned_desk = planned_desk;
-        loaded_desk = loaded_desk;
-        played_desk = played_desk;
-        made = made;
-        fitted = fitted;
-        apart = takes.0;
-        loaded = takes.1;
-        part = part_is;
-        sound = is_sound;
-        runs = search (rules, is_new);
-        comes = subst (λ (x : WiredState). Preserves ComesOf x v) is_new comes;
-        session = search (rules, is_new);
-        saved = saved;
-        follows = by_saving;
-      }
+      comes line saved =
+      let comes_of_new = subst (λ (x : WiredState). Preserves ComesOf x v) is_new comes in
+      let runs_new : RunsSession plan (devices (wired_link (new_wire chip [])) loaded_desk)
+      (devices (wired_link v) played_desk) ran =
+      search (rules, is_new) in
+      let session : SessionOverWire plan (new_wire chip []) v loaded_desk played_desk ran = search (rules, is_new) in
+      search rules

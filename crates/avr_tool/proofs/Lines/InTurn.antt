@@ -94,10 +94,7 @@ played_goes (Ask bytes go_on) n t u =
     λ o. frame n bytes ∷ frames_in (continue_with_reading (λ reading. played (go_on reading) (next n)) o).events in
     (elim (answer n t) as (λ o. answer n t ≡ o
     → (more : List (List ℕ)) × (sent_by (answer n (t ++ u)) ≡ sent_by o ++ more)) [
-      | None ↦ λ e. (
-        frames_in (continue_with_reading (λ reading. played (go_on reading) (next n)) (answer n (t ++ u))).events,
-        refl,
-      )
+      | None ↦ λ e. (_, refl)
       | Some got ↦ λ e.
           let g = played_goes (go_on got.0) (next n) got.1 u in
           (g.0, ap sent_by (reading_extends n t u got.0 got.1 e) ∙ ap (λ fs. frame n bytes ∷ fs) g.1)
