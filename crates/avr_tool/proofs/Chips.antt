@@ -68,8 +68,8 @@ goes_whole part file bytes ended old mid new result kept whole rose goes =
 pub goes_ended : (part : Part) (file bytes : Bytes) (ended : Bool) (old mid new : DeskState)
     (result : Result ChipState ℕ)
     → ChangesRecord (with_read file bytes ended) old mid
-    → EndsOrExceedsLimit LARGEST_CHIP_FILE (record { bytes = bytes; ended = ended }) → ended ≡ true → HasSameCounts old mid
-    → RunsStage (OnlyAtStart true) (result_stage (chip_or_line part file bytes)) mid new result
+    → EndsOrExceedsLimit LARGEST_CHIP_FILE (record { bytes = bytes; ended = ended }) → ended ≡ true
+    → HasSameCounts old mid → RunsStage (OnlyAtStart true) (result_stage (chip_or_line part file bytes)) mid new result
     → RunsStage AtOpened (chip_stage part file) old new result
 goes_ended part file bytes false old mid new result kept whole is rose goes = cc
 goes_ended part file bytes true old mid new result kept whole is rose goes =
@@ -79,8 +79,8 @@ goes_ended part file bytes true old mid new result kept whole is rose goes =
 -- if it was read past the limit
 pub goes_past : (part : Part) (file bytes : Bytes) (ended : Bool) (old mid new : DeskState) (status : ℕ)
     → ChangesRecord (with_read file bytes ended) old mid
-    → EndsOrExceedsLimit LARGEST_CHIP_FILE (record { bytes = bytes; ended = ended }) → ended ≡ false → HasSameCounts old mid
-    → status ≡ 1 → ReportsLine mid new (too_long_line file LARGEST_CHIP_FILE)
+    → EndsOrExceedsLimit LARGEST_CHIP_FILE (record { bytes = bytes; ended = ended }) → ended ≡ false
+    → HasSameCounts old mid → status ≡ 1 → ReportsLine mid new (too_long_line file LARGEST_CHIP_FILE)
     → RunsStage AtOpened (chip_stage part file) old new (Err status)
 goes_past part file bytes true old mid new status kept whole is rose one notice = cc
 goes_past part file bytes false old mid new status kept whole is rose one notice =
