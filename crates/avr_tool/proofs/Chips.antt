@@ -1,4 +1,4 @@
-use Rattle.std.proofs.Common.{◌≡◌, refl, sym, arith, ℕ, List, ◌∷◌, ◌==◌, length, Bool, true, false, nat_le, inl, inr, Result, Ok, Err, if◌then◌else◌, rules}
+use Rattle.std.proofs.Common.{◌≡◌, refl, arith, ℕ, List, ◌∷◌, ◌==◌, length, Bool, true, false, nat_le, inl, inr, Result, Ok, Err, rules}
 use Rattle.std.proofs.lemmas.Bool.Decides.{nat_tests}
 use Rattle.avr_desk.specs.Fault.{HasSameCounts}
 use Rattle.avr_desk.specs.Files.{EndsOrExceedsLimit, with_read}
@@ -12,7 +12,6 @@ use Rattle.avr_part.specs.ChipFile.{chip_file_size, chip_from_file, state_from_f
 use Rattle.avr_part.specs.Part.{Part}
 use Rattle.avr_part.specs.PartFile.{GivesPartUnlessOutOfMemory}
 use Rattle.avr_part.specs.State.{ChipState, fresh_state}
-use Rattle.avr_part.specs.declared.fault.PartFault.{PartFault}
 use Rattle.avr_part.specs.declared.fault.PartFault.TheVariants.{BadChipFile}
 use Rattle.avr_desk.proofs.Stages.Openings.{runs_open, runs_content}
 use Rattle.avr_desk.proofs.Stages.Played.{went_settled, goes_unsettled}
@@ -31,11 +30,6 @@ went_fresh part chip d (inr memory) = cc
 
 -- ---- the chip of some bytes
 
--- a fault in place of a chip means that the test fails
-none_is : (test : Bool) (good : ChipState) (n : ℕ) (fault : PartFault)
-    → (if test then Ok good else Err (BadChipFile n)) ≡ Err fault → test ≡ false
-none_is test good n fault is = search rules
-
 right_length : (part : Part) (bytes : Bytes) (chip : ChipState) → GivesPartUnlessOutOfMemory (chip_from_file part bytes)
     (Ok chip) → ((length bytes == chip_file_size part) ≡ true) × (chip ≡ state_from_file part bytes)
 right_length part bytes chip gives = search rules
@@ -44,17 +38,14 @@ pub went_chip : (part : Part) (file bytes : Bytes) (chip : ChipState) (d : DeskS
     → GivesPartUnlessOutOfMemory (chip_from_file part bytes) (Ok chip)
     → StageCompleted (result_stage (chip_or_line part file bytes)) d d (Produced chip)
 went_chip part file bytes chip d gives =
-    let right = right_length part bytes chip gives in
-    went_settled (chip_or_line part file bytes) chip d (rw (right.0, right.1) refl)
+    went_settled (chip_or_line part file bytes) chip d (search (rules, right_length))
 
 pub goes_wrong_length : (part : Part) (file bytes : Bytes) (n : ℕ) (old new : DeskState) (status : ℕ)
     → GivesPartUnlessOutOfMemory (chip_from_file part bytes) (Err (BadChipFile n)) → status ≡ 1
     → ReportsLine old new (error (length_pieces file (length bytes) (chip_file_size part)))
     → RunsStage (OnlyAtStart true) (result_stage (chip_or_line part file bytes)) old new (Err status)
-goes_wrong_length part file bytes n old new status (inl gives) one notice =
-    let wrong = none_is _ (state_from_file part bytes) (length bytes) (BadChipFile n) (sym gives) in
-    goes_unsettled (OnlyAtStart true) (chip_or_line part file bytes) _ old new status (rw wrong refl) one notice
-goes_wrong_length part file bytes n old new status (inr memory) one notice = cc
+goes_wrong_length part file bytes n old new status gives one notice =
+    goes_unsettled (OnlyAtStart true) (chip_or_line part file bytes) _ old new status (search rules) one notice
 
 -- ---- the chip of a file that was read
 
@@ -64,10 +55,8 @@ opened_at opening passed emitted allocates = search rules
 
 -- the check of the file's bytes
 goes_whole : (part : Part) (file bytes : Bytes) (ended : Bool) (old mid new : DeskState) (result : Result ChipState ℕ)
-    → ChangesRecord (with_read file bytes ended) old mid → EndsOrExceedsLimit LARGEST_CHIP_FILE (record {
-      bytes = bytes;
-      ended = ended;
-    }) → HasSameCounts old mid
+    → ChangesRecord (with_read file bytes ended) old mid
+    → EndsOrExceedsLimit LARGEST_CHIP_FILE (record { bytes = bytes; ended = ended }) → HasSameCounts old mid
     → RunsStage (OnlyAtStart true) (result_stage (checked_chip part file bytes)) mid new result
     → RunsStage AtOpened (chip_stage part file) old new result
 goes_whole part file bytes ended old mid new result kept whole rose goes =
@@ -78,11 +67,9 @@ goes_whole part file bytes ended old mid new result kept whole rose goes =
 -- if the file was read to its end
 pub goes_ended : (part : Part) (file bytes : Bytes) (ended : Bool) (old mid new : DeskState)
     (result : Result ChipState ℕ)
-    → ChangesRecord (with_read file bytes ended) old mid → EndsOrExceedsLimit LARGEST_CHIP_FILE (record {
-      bytes = bytes;
-      ended = ended;
-    }) → ended ≡ true → HasSameCounts old mid
-    → RunsStage (OnlyAtStart true) (result_stage (chip_or_line part file bytes)) mid new result
+    → ChangesRecord (with_read file bytes ended) old mid
+    → EndsOrExceedsLimit LARGEST_CHIP_FILE (record { bytes = bytes; ended = ended }) → ended ≡ true
+    → HasSameCounts old mid → RunsStage (OnlyAtStart true) (result_stage (chip_or_line part file bytes)) mid new result
     → RunsStage AtOpened (chip_stage part file) old new result
 goes_ended part file bytes false old mid new result kept whole is rose goes = cc
 goes_ended part file bytes true old mid new result kept whole is rose goes =
@@ -91,11 +78,9 @@ goes_ended part file bytes true old mid new result kept whole is rose goes =
 
 -- if it was read past the limit
 pub goes_past : (part : Part) (file bytes : Bytes) (ended : Bool) (old mid new : DeskState) (status : ℕ)
-    → ChangesRecord (with_read file bytes ended) old mid → EndsOrExceedsLimit LARGEST_CHIP_FILE (record {
-      bytes = bytes;
-      ended = ended;
-    }) → ended ≡ false → HasSameCounts old mid
-    → status ≡ 1 → ReportsLine mid new (too_long_line file LARGEST_CHIP_FILE)
+    → ChangesRecord (with_read file bytes ended) old mid
+    → EndsOrExceedsLimit LARGEST_CHIP_FILE (record { bytes = bytes; ended = ended }) → ended ≡ false
+    → HasSameCounts old mid → status ≡ 1 → ReportsLine mid new (too_long_line file LARGEST_CHIP_FILE)
     → RunsStage AtOpened (chip_stage part file) old new (Err status)
 goes_past part file bytes true old mid new status kept whole is rose one notice = cc
 goes_past part file bytes false old mid new status kept whole is rose one notice =

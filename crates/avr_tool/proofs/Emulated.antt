@@ -1,39 +1,22 @@
 -- The emulated programmer and its chip do what the proofs use, from all memories.
 use Rattle.std.proofs.Common.{rules}
-use Rattle.std.specs.Prelude.{◌≡◌, ◌⊎◌, ℕ, List, [], ◌∷◌}
+use Rattle.std.specs.Prelude.{List, [], ◌∷◌}
 use Rattle.avr_part.specs.Part.{Part, IsPart}
 use Rattle.avr_session.specs.Actions.{Action}
 use Rattle.avr_session.specs.PlanSteps.{action_steps}
 use Rattle.stk_frame.specs.declared.command.Command.{Command}
-use Rattle.stk_host.specs.Steps.{Data}
 use Rattle.stk_emu.specs.Device.{device}
 use Rattle.stk_emu.specs.Effect.{Memories, effects, memories_of}
 use Rattle.stk_emu.specs.Programmer.{Programmer}
-use Rattle.stk_emu.specs.Settled.{FitsPart, HasMemories}
-use Rattle.stk_emu.specs.StepData.{data_of_step}
-use Rattle.stk_emu.specs.WriteOperations.{IsStep, memories_after_step}
-use Rattle.stk_emu.proofs.Repeatable.{IsRepeatable, Settled, joined_reply}
+use Rattle.stk_emu.specs.Settled.{HasMemories}
+use Rattle.stk_emu.specs.WriteOperations.{memories_after_step}
+use Rattle.stk_emu.proofs.Repeatable.{Settled}
 use Rattle.stk_emu.proofs.Replies.Commands.{settled_idle}
 use Rattle.avr_tool.specs.Items.{action_items}
 use Rattle.avr_tool.proofs.StepData.EachStep.{data_of_attempt}
 use Rattle.avr_tool.proofs.Real.{ActionsWork, AllWork, Real}
 use Rattle.avr_tool.proofs.WriteOperations.OutsideMode.{step_fits}
 use Rattle.avr_tool.proofs.WriteOperations.Steps.{enter_fits, leave_fits, sign_on_fits}
-
-pub emulated_has : (part : Part) (m : Memories) (p : Programmer) → HasMemories part m p → memories_of p.chip ≡ m
-emulated_has part m p idle = idle.memories
-
-pub emulated_steps : (part : Part) → IsPart part → (commands : List Command) (m : Memories) → IsStep part commands
-    → FitsPart part m → Unit {0}
-    → IsRepeatable device commands (Settled part m) (Settled part (memories_after_step part commands m))
-emulated_steps part sound commands m is f w = step_fits part sound commands m is
-
-pub emulated_gives : (part : Part) → IsPart part
-    → (commands : List Command) (m : Memories) (p : Programmer) (bytes : List ℕ)
-    → IsStep part commands → FitsPart part m → Unit {0}
-    → (Settled part m p ⊎ Settled part (memories_after_step part commands m) p)
-    → joined_reply device commands [] p ≡ Data bytes → bytes ≡ data_of_step part commands m
-emulated_gives part sound commands m p bytes is f w stood has = search (rules, data_of_attempt)
 
 abbrev pub emulated : (part : Part) → IsPart part → Real part
 emulated part sound = record {
@@ -43,13 +26,14 @@ emulated part sound = record {
   Has = HasMemories part;
   HasSettled = Settled part;
   Works = λ commands m. Unit {0};
-  has = emulated_has part;
+  has = λ m p has. has.memories;
   idle = settled_idle part;
   sign_on = sign_on_fits part;
   enters = enter_fits part;
   leaves = leave_fits part;
-  steps = emulated_steps part sound;
-  gives = emulated_gives part sound;
+  steps = λ commands m is fits works. step_fits part sound commands m is;
+  gives = λ commands m p bytes is fits works stood has.
+      data_of_attempt part sound commands m bytes is fits (record { from = p; stood = stood; is = has });
 }
 
 pub all_work : (part : Part) (sound : IsPart part) (steps : List (List Command)) (m : Memories)

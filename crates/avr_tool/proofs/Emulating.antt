@@ -1,7 +1,6 @@
 -- A run over the emulated programmer, from its stages.
-use Rattle.std.proofs.Common.{◌≡◌, ℕ, true, List, [], All, Ok, Err, length, subst, rules}
+use Rattle.std.proofs.Common.{◌≡◌, ℕ, List, [], All, Ok, Err, length, subst, rules}
 use Rattle.std.specs.Prelude.{◌<◌, get_or}
-use Rattle.std.specs.Str.{bytes_eq}
 use Rattle.std.proofs.lemmas.List.Folds.{list_any_at}
 use Rattle.std.proofs.lemmas.Slice.Eq.{bytes_eq-Decides}
 use Rattle.avr_part.specs.declared.part.Mem.{Mem}
@@ -28,16 +27,13 @@ use Rattle.avr_session.specs.Runs.{devices}
 use Rattle.avr_tool.specs.OverFaultyLink.{SessionOverWire}
 use Rattle.avr_tool.specs.Emulated.{ChecksRead, ChecksReads, IsSavedIfSent, TakesChip, new_wire, RunsOverEmulator}
 
-same_name : (one other : Bytes) → one ≡ other → bytes_eq other one ≡ true
-same_name one other same = search (rules, bytes_eq-Decides)
-
 -- the refused name is that of a task
 pub read_refused : (tasks : List Task) (i : ℕ) (task : Task) (memory : Mem) (format : Format) (into file : Bytes)
     (old mid new : DeskState) (status told : ℕ) → i < length tasks → task ≡ get_or tasks i task
     → task ≡ Read memory format file → into ≡ file → mid ≡ old → status ≡ told → ChecksRead into mid new (Err told)
     → ChecksReads tasks old new (Err status)
 read_refused tasks i task memory format into file old mid new status told below is reads same here one checks =
-    rw (← here, one) (into, search (rules, list_any_at, same_name), checks)
+    rw (← here, one) (into, search (rules, list_any_at, bytes_eq-Decides), checks)
 
 module _ (settings : Settings) (file : Bytes) (plan : Plan) (chip : Chip) (w v : WiredState) (held : w.held ≡ [])
     (begun : w.wire ≡ fresh_wire (fresh_programmer chip) []) (waits : w.waits ≡ []) (silent : w.transcript ≡ [])
@@ -55,23 +51,10 @@ module _ (settings : Settings) (file : Bytes) (plan : Plan) (chip : Chip) (w v :
       → SessionOverWire plan w v loaded_desk played_desk ran) → IsSavedIfSent (sent v.transcript) played_desk now file
       (chip_file v.wire.programmer.chip) ran status → RunsOverEmulator settings file old now status
   runs_over_emulator old planned_desk loaded_desk played_desk now ran status made takes by_saving runs
-      comes line saved = record {
-        plan = plan;
-        chip = chip;
-        after = v;
-        session_status = ran;
-        planned_desk = planned_desk;
-        loaded_desk = loaded_desk;
-        played_desk = played_desk;
-        made = made;
-        fitted = fitted;
-        apart = takes.0;
-        loaded = takes.1;
-        part = part_is;
-        sound = is_sound;
-        runs = search (rules, is_new);
-        comes = subst (λ (x : WiredState). Preserves ComesOf x v) is_new comes;
-        session = search (rules, is_new);
-        saved = saved;
-        follows = by_saving;
-      }
+      comes line saved =
+      let comes_of_new = subst (λ (x : WiredState). Preserves ComesOf x v) is_new comes in
+      let runs_new : RunsSession plan (devices (wired_link (new_wire chip [])) loaded_desk)
+      (devices (wired_link v) played_desk) ran =
+      search (rules, is_new) in
+      let session : SessionOverWire plan (new_wire chip []) v loaded_desk played_desk ran = search (rules, is_new) in
+      search rules

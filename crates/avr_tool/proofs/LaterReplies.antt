@@ -64,10 +64,8 @@ replies_prefix : (p : Programmer) (x y : List ℕ) → IsBytePrefixOf (emulate p
 replies_prefix p x y =
     let later : List (List ℕ) = filter is_frame (cut (rest x ++ y)) in
     let all : frames (x ++ y) ≡ frames x ++ later =
-    ap (filter is_frame) (cut_append x y) ∙ filter-append is_frame (cut x) (cut (rest x ++ y)) in (
-      replies device later (after_frames device (frames x) p),
-      sym (ap (λ fs. replies device fs p) all ∙ replies_append device (frames x) later p),
-    )
+    ap (filter is_frame) (cut_append x y) ∙ filter-append is_frame (cut x) (cut (rest x ++ y)) in
+    (_, sym (ap (λ fs. replies device fs p) all ∙ replies_append device (frames x) later p))
 
 pub breaks_prefix : (p : Programmer) (text bytes : List ℕ) (transcript : Transcript) (now : EmulatorState)
     → LastReplyFailed p text bytes transcript now

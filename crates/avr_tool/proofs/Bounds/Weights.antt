@@ -12,9 +12,9 @@ use Rattle.stk_frame.specs.declared.command.Command.TheVariants.{SignOn}
 use Rattle.stk_host.specs.declared.fault.HostFault.{HostFault}
 use Rattle.stk_host.specs.declared.fault.StepFault.TheVariants.{NoAnswer}
 use Rattle.stk_host.specs.Tape.{Reading}
-use Rattle.stk_host.proofs.Dialogs.Logic.{World, HoldsFrom, Upholds, NoOutput, OnReply, done, emit, ask, bind, outcome_mapped, wider, call, attempts}
+use Rattle.stk_host.proofs.Dialogs.Logic.{World, HoldsFrom, Upholds, NoOutput, done, emit, ask, bind, outcome_mapped, wider, call, attempts}
 use Rattle.stk_host.specs.Dialog.{Dialog, Done, ◌>>=◌}
-use Rattle.stk_host.specs.Steps.{exchange, Reply, Data, Again, Stop, reply_from_reading, with_data, attempt, StepOutcome, step, unless_step_fault, play}
+use Rattle.stk_host.specs.Steps.{exchange, Reply, reply_from_reading, with_data, attempt, StepOutcome, step, unless_step_fault, play}
 use Rattle.stk_host.specs.ReadSteps.{signature_steps}
 use Rattle.stk_host.specs.Operations.{handshake, signature_checked, opening, no_result, closing, checked_by, operation}
 use Rattle.stk_host.specs.Bound.{opening_steps, closing_steps}
@@ -88,15 +88,9 @@ module _ (w : Weight) where
       attempts (budget w) (λ asked left. w asked ≤ left) commands (λ more t. more * of_step commands + k ≤ t)
       (λ outcome t. k ≤ t)
       (λ more t e. let size = suc-mul more (of_step commands) in
-      wider (λ asked t e. e) (λ e t f. f) (settled more)
+      wider (λ asked t e. e) (λ e t f. f) (λ reply t e. search rules)
       (attempt_spends commands [] (more * of_step commands + k) t (omega (arith, e, size))))
       (λ fault t e. omega (arith, e)) 4 NoAnswer left le
-    where
-      settled : (more : ℕ) (reply : Reply) (t : ℕ) → more * of_step commands + k ≤ t
-          → OnReply (λ t. more * of_step commands + k ≤ t) (λ outcome t. k ≤ t) reply t
-      settled more (Data bytes) t e = omega (arith, e)
-      settled more (Again fault) t e = e
-      settled more (Stop fault) t e = omega (arith, e)
 
   then_spends : (commands : List Command) (steps : List (List Command)) (go_on : List ℕ → Dialog ⊥ StepOutcome)
       → ((bytes : List ℕ) → Spends (4 * total steps) (go_on bytes))
@@ -171,9 +165,7 @@ module _ (w : Weight) where
         after : Costs (4 * total (actions_steps part actions)) (actions_dialog part s actions) → (at : Standing) (t : ℕ)
             → 4 * total (actions_steps part actions) + k ≤ t
             → OneAction (λ r rest. k ≤ rest) (unless_fault (actions_dialog part s actions) at) t
-        after more NoFault t e = more k t e
-        after more Faulty t e = done (omega (arith, e))
-        after more Over t e = done (omega (arith, e))
+        after more at t e = search (rules, done, more)
 
     ending_costs : (at : Standing) → Costs (4 * total closing_steps) (ending part s at)
     ending_costs NoFault = reported_costs (4 * total closing_steps) closing (closing_output s.quiet part) closing_spends
@@ -184,11 +176,7 @@ module _ (w : Weight) where
   pub session_weighs : (plan : Plan) → WeighsAtMost w (4 * total (run_steps plan)) (session plan)
   unfolding session
   session_weighs plan =
-      let part = plan.part in
-      let s = plan.switches in
-      let n = 4 * total closing_steps in
-      let size = total_on (actions_steps part (actions plan)) closing_steps in
+      let size = total_on (actions_steps plan.part (actions plan)) closing_steps in
       (outcome_mapped {After = λ r rest. Unit {0}} status_of
-      (bind (actions_cost part s (actions plan) n (4 * total (run_steps plan)) (omega (arith, size)))
-      (λ at t e. ending_costs part s at 0 t (omega (arith, e))))
-      (λ at t e. tt)).holds
+      (bind (actions_cost plan.part plan.switches (actions plan) (4 * total closing_steps) _ (omega (arith, size)))
+      (λ at t e. ending_costs plan.part plan.switches at 0 t (omega (arith, e)))) (λ at t e. tt)).holds

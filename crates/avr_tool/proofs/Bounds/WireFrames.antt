@@ -31,5 +31,4 @@ module _ (w : Weight) where
       → SendsValidBodies d → WeighsAtMost w n d → IsBytePrefixOf sent (bytes_sent (played d seq tape).events)
       → total_weight w (map body_of (frames sent)) ≤ n
   prefix_weighs n d seq tape sent asks f prefix =
-      let whole = frames_prefix (played d seq tape).events sent prefix.0 (sends_whole d seq tape asks) prefix.1 in
-      let all = frames_weigh n d seq tape f in search (rules, map-append, weighed_append)
+      let all = frames_weigh n d seq tape f in search (rules, map-append, weighed_append, frames_prefix, sends_whole)

@@ -9,7 +9,7 @@ use Rattle.stk_host.specs.Tape.{Reading}
 use Rattle.stk_host.specs.Dialog.{Dialog, Done, Emit, Ask}
 use Rattle.stk_host.specs.Steps.{Reply, Data, Again, Stop, reply_from_reading, with_data, exchange, attempt, StepOutcome, step}
 use Rattle.stk_host.proofs.Dialogs.Logic.{World, HoldsFrom, Upholds, NoOutput, OnReply, OnOutcome, done, ask, wider, attempts}
-use Rattle.stk_emu.specs.Exchange.{Exchange, Execution, NotExecuted, Executed, ThenRestarted, AsIntended, Disturbed, ThenRestarts, Refusal, NoReply, Babble, Ending}
+use Rattle.stk_emu.specs.Exchange.{Exchange, Execution, NotExecuted, Executed, ThenRestarted, AsIntended, Disturbed, ThenRestarts}
 use Rattle.stk_emu.specs.Exchange.{after_execution, after_exchange, reading_of_exchange, first_exchange, later_exchanges}
 use Rattle.stk_emu.specs.Device.{Device}
 use Rattle.stk_emu.specs.DialogOverExchanges.{state_after}
@@ -39,14 +39,11 @@ module _ {P : Type 0} (m : Device P) where
   -- the data of all commands are those of each
   pub all_replied : (commands : List Command) (before got : List ℕ) (p : P)
       → joined_reply m commands before p ≡ Data got → AreReplied m (length commands) commands p
-  all_replied [] before got p has = tt
-  all_replied (command ∷ []) before got p has = tt
   all_replied (command ∷ next ∷ commands) before got p has =
       let first = data_in (reply_to m command p) (λ bytes. joined_reply m (next ∷ commands) (before ++ bytes)
-      (m.after (body command) p)) got has in (
-        (first.0, first.1.0),
-        all_replied (next ∷ commands) (before ++ first.0) got (m.after (body command) p) first.1.1,
-      )
+      (m.after (body command) p)) got has in
+      ((first.0, first.1.0), all_replied (next ∷ commands) (before ++ first.0) got (m.after (body command) p) first.1.1)
+  all_replied commands before got p has = tt
 
   -- what a dialog upholds holds along each link
   module _ {E R : Type 0} (During : P → Type 0) (MayEmit : E → P → Type 0) (After After' : R → P → Type 0)
@@ -64,11 +61,9 @@ module _ {P : Type 0} (m : Device P) where
   pub leads : {E R : Type 0} {During : P → Type 0} {MayEmit : E → P → Type 0} {After After' : R → P → Type 0}
       {d : Dialog E R} {p : P} {exchanges : List Exchange} → ((r : R) (q : P) → After r q → During q × After' r q)
       → Upholds (over_any_exchange m) (λ bytes q. During q) MayEmit After d p → Leads m d p exchanges During After'
-  leads {During = J} {MayEmit = MayEmit} {After = A} {After' = A'} {d = d} {p = p} {exchanges = exchanges} at_end l =
-      record {
-        during = λ k. (led J MayEmit A A' at_end d k p exchanges l.holds).0;
-        after = λ k. (led J MayEmit A A' at_end d k p exchanges l.holds).1;
-      }
+  leads {d = d} {p = p} {exchanges = exchanges} at_end l =
+      let each = λ (k : ℕ). led _ _ _ _ at_end d k p exchanges l.holds in
+      record { during = λ k. (each k).0; after = λ k. (each k).1 }
 
   -- what a call upholds if one condition holds throughout
   abbrev pub Keeps : {R : Type 0} → (P → Type 0) → (R → P → Type 0) → Dialog ⊥ R → P → Type 0
@@ -120,25 +115,17 @@ module _ {P : Type 0} (m : Device P) where
         → Tries (with_data go_on (reply_from_reading command (reading_of_exchange one_exchange
         (m.reply (body command) p)))) (restarted n (after_exchange one_exchange (m.after (body command) p) p m.reset))
     by_exchange AsIntended n command go_on p o s right = right n
-    by_exchange (Disturbed execution Refusal) n command go_on p o s right = search (rules, done, stands_restarted, lost)
-    by_exchange (Disturbed execution NoReply) n command go_on p o s right = search (rules, done, stands_restarted, lost)
-    by_exchange (Disturbed execution Babble) n command go_on p o s right = search (rules, done, stands_restarted, lost)
-    by_exchange (Disturbed execution Ending) n command go_on p o s right = search (rules, done, stands_restarted, lost)
+    by_exchange (Disturbed execution with) n command go_on p o s right = search (rules, done, stands_restarted, lost)
     by_exchange (ThenRestarts one_exchange) n command go_on p o s right =
         by_exchange one_exchange (suc n) command go_on p o s right
 
     -- a command that fails ends the attempt
-    never : (go_on : List ℕ → Dialog ⊥ Reply) (reply : Reply) (q : P) → Stands q
-        → ((bytes : List ℕ) → reply ≡ Data bytes → ⊥) → Tries (with_data go_on reply) q
-    never go_on reply q s none = search (rules, done)
-
     failing : (command : Command) (commands : List Command) (before : List ℕ) (q : P) → Stands q
         → FailsAt m Stands command q → Tries (attempt (command ∷ commands) before) q
     unfolding attempt exchange
     failing command commands before q s f =
-        let go_on : List ℕ → Dialog ⊥ Reply = λ bytes. attempt commands (before ++ bytes) in
-        ask s (λ one_exchange. by_exchange one_exchange 0 command go_on q f.stands s
-        (λ i. never go_on (reply_to m command q) _ (stands_restarted i _ f.stands) f.none))
+        ask s (λ one_exchange. by_exchange one_exchange 0 command _ q f.stands s
+        (λ i. search (rules, done, stands_restarted, f.none, f.stands)))
 
     -- the rest of an attempt, after any restarts
     rest_goes : (commands : List Command) (before : List ℕ) (q : P) → Stands q → FailOnceRestarted m Stands commands
@@ -153,16 +140,6 @@ module _ {P : Type 0} (m : Device P) where
           | inr f ↦ search (rules, failing, stands_restarted)
         ])
 
-    later_unbroken : (commands : List Command) → FailOnceRestarted m Stands commands → Unbroken m Stands commands
-    later_unbroken [] fails = tt
-    later_unbroken (command ∷ commands) fails = fails.1
-
-    -- the first commands of a list, and those behind its first
-    later_replied : (i : ℕ) (command : Command) (commands : List Command) (p : P)
-        → ((bytes : List ℕ) × (reply_to m command p ≡ Data bytes))
-        → AreReplied m i commands (m.after (body command) p) → AreReplied m (suc i) (command ∷ commands) p
-    later_replied i command commands p first more = search rules
-
     attempt_goes : (commands : List Command) (before : List ℕ) (p : P) → Unbroken m Stands commands
         → ((i : ℕ) → AreReplied m i commands p → Stands (after_commands m i commands p))
         → ((got : List ℕ) → joined_reply m commands before p ≡ Data got
@@ -171,16 +148,13 @@ module _ {P : Type 0} (m : Device P) where
     attempt_goes [] before p unbroken prefixes whole = done (whole before refl)
     attempt_goes (command ∷ commands) before p unbroken prefixes whole =
         let q = m.after (body command) p in
-        let go_on : List ℕ → Dialog ⊥ Reply = λ bytes. attempt commands (before ++ bytes) in
-        let here : Stands p = prefixes 0 tt in
         let next : Stands q = prefixes 1 tt in
-        ask here (λ one_exchange. by_exchange one_exchange 0 command go_on p next here
-        (λ n. replied (reply_to m command p) (λ bytes. joined_reply m commands (before ++ bytes) q) go_on
-        (restarted n q) (λ got. After (Ok got) (after_commands m (length commands) commands q))
-        (stands_restarted n q next)
+        ask (prefixes 0 tt) (λ one_exchange. by_exchange one_exchange 0 command _ p next (prefixes 0 tt)
+        (λ n. replied (reply_to m command p) (λ bytes. joined_reply m commands (before ++ bytes) q) _ (restarted n q)
+        (λ got. After (Ok got) (after_commands m (length commands) commands q)) (stands_restarted n q next)
         (λ bytes is each. rest_goes commands (before ++ bytes) q next unbroken
-        (attempt_goes commands (before ++ bytes) q (later_unbroken commands unbroken)
-        (λ i more. prefixes (suc i) (later_replied i command commands p (bytes, is) more)) each) n)
+        (attempt_goes commands (before ++ bytes) q (search rules)
+        (λ i more. prefixes (suc i) (search rules)) each) n)
         whole))
 
   -- A step leads from its first condition to its second. With data the second holds, otherwise either.
@@ -192,12 +166,8 @@ module _ {P : Type 0} (m : Device P) where
     AfterStep (Ok got) q = After q × IsDataOfAttempt m commands Before After got
     AfterStep (Err fault) q = Either q
 
-    restart_keeps : (q : P) → Either q → Either (m.reset q)
-    restart_keeps q either = search rules
-
     prefixes : (q : P) → Either q → (i : ℕ) → AreReplied m i commands q → Either (after_commands m i commands q)
-    prefixes q (inl b) i replied = fits.prefix q i b replied
-    prefixes q (inr a) i replied = inr (fits.again q i a replied)
+    prefixes q either i replied = search (rules, fits.prefix, fits.again)
 
     wholes : (q : P) → Either q → (got : List ℕ) → joined_reply m commands [] q ≡ Data got
         → After (after_commands m (length commands) commands q)
@@ -206,7 +176,7 @@ module _ {P : Type 0} (m : Device P) where
 
     pub try_goes : (p : P) → Either p → Keeps Either (OnReply Either AfterStep) (attempt commands []) p
     try_goes p stood =
-        attempt_goes Either AfterStep restart_keeps (λ fault q stands. stands)
+        attempt_goes Either AfterStep (λ q either. search rules) (λ fault q stands. stands)
         (λ got q x. (fits.restart_keeps_after q x.0, x.1)) commands [] p fits.unbroken (prefixes p stood)
         (λ got has. (wholes p stood got has, record { from = p; stood = stood; is = has }))
 
@@ -224,7 +194,4 @@ module _ {P : Type 0} (m : Device P) where
 
     pub step_along : (p : P) (exchanges : List Exchange) → Before p → Leads m (step commands) p exchanges Either
         AfterStep
-    step_along p exchanges before = leads at_end (step_goes p before)
-      where
-        at_end : (o : StepOutcome) (q : P) → AfterStep o q → Either q × AfterStep o q
-        at_end o q x = search rules
+    step_along p exchanges before = leads (λ o q at_end. search rules) (step_goes p before)

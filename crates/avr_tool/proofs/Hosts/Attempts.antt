@@ -1,5 +1,5 @@
 -- Dialogs along a link: attempts and steps.
-use Rattle.std.proofs.Common.{◌≡◌, ℕ, zero, suc, List, refl, ◌⊎◌, Ok}
+use Rattle.std.proofs.Common.{◌≡◌, ℕ, suc, List, refl, ◌⊎◌, Ok}
 use Rattle.stk_frame.specs.declared.command.Command.{Command}
 use Rattle.stk_host.specs.Dialog.{Dialog, Done, Emit, Ask, ◌>>=◌}
 use Rattle.stk_host.specs.Steps.{StepOutcome, step}
@@ -13,15 +13,8 @@ use Rattle.avr_tool.proofs.Hosts.AnyExchange.{step_along}
 abbrev pub along_next_dialog : {E A B P : Type 0} → Device P → (A → Dialog E B) → ℕ → List Exchange → P → Dialog E A
     → StateAfter E B P
 along_next_dialog m next left exchanges p (Done a) = state_after m left (next a) p exchanges
-along_next_dialog m next left exchanges p (Emit e dialog) =
-    record { dialog = Emit e (dialog >>= next); programmer = p; exchanges = exchanges; left = left }
-along_next_dialog m next left exchanges p (Ask bytes go_on) =
-    record {
-      dialog = Ask bytes (λ reading. go_on reading >>= next);
-      programmer = p;
-      exchanges = exchanges;
-      left = left;
-    }
+along_next_dialog m next left exchanges p dialog =
+    record { dialog = dialog >>= next; programmer = p; exchanges = exchanges; left = left }
 
 abbrev pub onwards : {E A B P : Type 0} → Device P → (A → Dialog E B) → StateAfter E A P → StateAfter E B P
 onwards m next s = along_next_dialog m next s.left s.exchanges s.programmer s.dialog
@@ -30,10 +23,9 @@ onwards m next s = along_next_dialog m next s.left s.exchanges s.programmer s.di
 pub along_bind : {E A B P : Type 0} (m : Device P) (k : ℕ) (d : Dialog E A) (next : A → Dialog E B) (p : P)
     (exchanges : List Exchange) → state_after m k (d >>= next) p exchanges
     ≡ onwards m next (state_after m k d p exchanges)
-along_bind m k (Done a) next p exchanges = refl
 along_bind m k (Emit e d) next p exchanges = along_bind m k d next p exchanges
-along_bind m zero (Ask bytes go_on) next p exchanges = refl
 along_bind m (suc k) (Ask bytes go_on) next p exchanges = along_bind m k (go_on _) next _ (later_exchanges exchanges)
+along_bind m k d next p exchanges = refl
 
 -- After a step either condition holds; if it was completed, the second.
 pub record Stepped {P : Type 0} (m : Device P) (Before After : P → Type 0) (s : StateAfter ⊥ StepOutcome P) : Type

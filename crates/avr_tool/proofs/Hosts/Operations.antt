@@ -12,7 +12,7 @@ use Rattle.stk_host.specs.Dialog.{Dialog, Done, ◌>>=◌}
 use Rattle.stk_host.specs.Steps.{StepOutcome, step, unless_step_fault, play}
 use Rattle.stk_host.specs.ReadSteps.{signature_steps}
 use Rattle.stk_host.specs.Operations.{host_fault, handshake, no_result, closing, checked_by, operation}
-use Rattle.stk_host.proofs.Dialogs.Logic.{OnOutcome, done, bind, outcome_mapped, wider, on_data}
+use Rattle.stk_host.proofs.Dialogs.Logic.{done, bind, outcome_mapped, wider, on_data}
 use Rattle.stk_emu.specs.Exchange.{Exchange}
 use Rattle.stk_emu.specs.Device.{Device}
 use Rattle.stk_emu.specs.DialogOverExchanges.{StateAfter, state_after}
@@ -64,15 +64,8 @@ module _ (part : Part) (sound : IsPart part) (real : Real part) where
       (on_data (over_any_exchange real.device) (λ bytes q. Reached real (commands ∷ steps) m q)
       (λ bytes. play steps (before ++ bytes))
       (λ bytes q x.
-      search (
-        rules,
-        wider,
-        one_more,
-        stepped,
-        data_of_attempt commands m bytes are.0 f w.0,
-        play_goes steps (memories_after_step part commands m)
-            (before ++ bytes) q are.1 (changed_sizes part commands m sound f) w.1 x.0,
-      )))
+      let more = play_goes steps _ (before ++ bytes) q are.1 (changed_sizes part commands m sound f) w.1 x.0 in
+      search (rules, wider, one_more, stepped, data_of_attempt commands m bytes are.0 f w.0)))
 
   -- after an operation: the check of its data, or the fault of a step
   abbrev pub AfterCall : {A : Type 0} → List (List Command) → Memories → (List ℕ → Result A HostFault)
@@ -86,18 +79,13 @@ module _ (part : Part) (sound : IsPart part) (real : Real part) where
       → Keeps real.device (Reached real steps m) (AfterCall steps m judge) (operation steps judge) p
   unfolding operation
   operation_goes {A = A} steps m judge p are f w s =
-      outcome_mapped (checked_by judge) (play_goes steps m [] p are f w s) verdict
-    where
-      verdict : (o : StepOutcome) (q : real.P) → AfterSteps real steps m [] o q
-          → AfterCall steps m judge (checked_by judge o) q
-      verdict o q a = search rules
+      outcome_mapped (checked_by judge) (play_goes steps m [] p are f w s) (λ o q a. search rules)
 
   idle_reached : (m : Memories) (q : real.P) → Reached real signature_steps m q → HasMemories real m q
   idle_reached m q r = settled_idle real m q (search (rules, quiet_stays, read_quiet))
 
   pub beginning_goes : (m : Memories) (p : real.P) → FitsPart part m → AllWork real signature_steps m
-      → HasMemories real m p
-      → Keeps real.device (HasMemories real m) (AfterBeginning real m) handshake p
+      → HasMemories real m p → Keeps real.device (HasMemories real m) (AfterBeginning real m) handshake p
   unfolding handshake
   beginning_goes m p f w idle =
       bind
@@ -110,28 +98,20 @@ module _ (part : Part) (sound : IsPart part) (real : Real part) where
       (step_leads real.device (enter ∷ []) (HasMemories real m) (Settled real m) (real.enters m) (HasMemories real m)
       (AfterBeginning real m) q (λ r j. j) (λ r j. settled_idle real m r j) (λ fault r j. j) i.0)
       (on_data (over_any_exchange real.device) (λ bytes q. HasMemories real m q) (λ nothing. play signature_steps [])
-      (λ nothing r t. wider (λ bytes z y. idle_reached m z y) (λ e z y. y) begun
+      (λ nothing r t. wider (λ bytes z y. idle_reached m z y) (λ e z y. y)
+      (λ o q a. search (rules, one_by_one, idle_reached))
       (play_goes signature_steps m [] r (read_are_steps part sound Signature) f w t.0)))))
-    where
-      begun : (o : StepOutcome) (q : real.P) → AfterSteps real signature_steps m [] o q → AfterBeginning real m o q
-      begun o q a = search (rules, one_by_one, idle_reached)
 
 -- Closing a session keeps what leaving programming mode keeps; its fault is a step's.
 abbrev pub IsClosed : Result ⊤ HostFault → Type 0
 IsClosed r = (r ≡ Ok tt) ⊎ ((fault : StepFault) × (r ≡ Err (host_fault fault)))
 
 pub closing_goes : {P : Type 0} (m : Device P) (Stands : P → Type 0) → IsRepeatable m (leave ∷ []) Stands Stands
-    → (p : P)
-    → Stands p → Keeps m Stands (λ r q. Stands q × IsClosed r) closing p
+    → (p : P) → Stands p → Keeps m Stands (λ r q. Stands q × IsClosed r) closing p
 unfolding closing
 closing_goes {P = P} m Stands fits p stands =
     outcome_mapped (checked_by no_result) (step_leads m (leave ∷ []) Stands Stands fits Stands (λ o q. Stands q) p
-    (λ q i. i) (λ q i. i) (λ fault q i. i) stands) left
-  where
-    left : (o : StepOutcome) (q : P)
-        → OnOutcome (λ got q. Stands q × IsDataOfAttempt m (leave ∷ []) Stands Stands got)
-        (λ o q. Stands q) o q → Stands q × IsClosed (checked_by no_result o)
-    left o q i = search rules
+    (λ q i. i) (λ q i. i) (λ fault q i. i) stands) (λ o q left. search rules)
 
 -- ---- along a link
 

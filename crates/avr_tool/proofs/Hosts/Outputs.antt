@@ -36,9 +36,8 @@ End P R = R → List OutputEvent → Spot P → Type 0
 
 module _ {P : Type 0} (m : Device P) where
   -- both, after `k` commands along the link
-  pub record Printed {R : Type 0} (Now : Moment P) (After : End P R) (k : ℕ) (d : Dialog OutputEvent R) (z : Spot P) :
-      Type
-      0 where
+  pub record Printed {R : Type 0} (Now : Moment P) (After : End P R) (k : ℕ) (d : Dialog OutputEvent R)
+      (z : Spot P) : Type 0 where
     pub now : Now (outputs_after m k d z.0 z.1) (spot m k d z)
     pub after : (r : R) → (state_after m k d z.0 z.1).dialog ≡ Done r
         → After r (outputs_after m k d z.0 z.1) (spot m k d z)
@@ -90,11 +89,9 @@ module _ {P : Type 0} (m : Device P) where
         → Prints (λ x. Now' (emitted ++ x)) (λ b x. After b (emitted ++ x)) (next a) y)
         → (d : Dialog OutputEvent A) (z : Spot P) → PrintsFrom Now Between d z → PrintsFrom Now' After (d >>= next) z
     on_bind Now Now' Between After next f more (Done a) z h = (more a [] z h).holds
-    on_bind Now Now' Between After next f more (Emit event d) z h = (
-      h.0,
-      on_bind (λ x. Now (event ∷ x)) (λ x. Now' (event ∷ x)) (λ a x. Between a (event ∷ x))
-          (λ b x. After b (event ∷ x)) next (λ x. f (event ∷ x)) (λ a x. more a (event ∷ x)) d z h.1,
-    )
+    on_bind Now Now' Between After next f more (Emit event d) z h =
+        let rest = on_bind (λ x. Now (event ∷ x)) (λ x. Now' (event ∷ x)) (λ a x. Between a (event ∷ x))
+        (λ b x. After b (event ∷ x)) next (λ x. f (event ∷ x)) (λ a x. more a (event ∷ x)) d z h.1 in (h.0, rest)
     on_bind Now Now' Between After next f more (Ask bytes go_on) z h =
         (f [] z h.0, on_bind Now Now' Between After next f more (go_on _) ((this_link m).after bytes z tt) h.1)
 
@@ -104,8 +101,7 @@ module _ {P : Type 0} (m : Device P) where
         → ((a : A) (emitted : List OutputEvent) (y : Spot P) → Between a emitted y
         → Prints (λ x. Now' (emitted ++ x)) (λ b x. After b (emitted ++ x)) (next a) y)
         → Prints Now' After (d >>= next) z
-    prints_then {Now = Now} {Now' = Now'} {Between = Between} {After = After} {next = next} {d = d} {z = z} f l more =
-        record { holds = on_bind Now Now' Between After next f more d z l.holds }
+    prints_then {d = d} f l more = record { holds = on_bind _ _ _ _ _ f more d _ l.holds }
 
     pub prints_wider : {R : Type 0} {Now Now' : Moment P} {After After' : End P R} {d : Dialog OutputEvent R}
         {z : Spot P}
@@ -125,7 +121,7 @@ module _ {P : Type 0} (m : Device P) where
         in record { now = more.now; after = more.after }
     on_moment Now After last zero (Ask bytes go_on) z h = search (rules, asks≢done)
     on_moment Now After last (suc k) (Ask bytes go_on) z h =
-        search (rules, on_moment Now After last k (go_on _) ((this_link m).after bytes z tt) h.1, this_link)
+        search (rules, on_moment Now After last k (go_on _) ((this_link m).after bytes z tt) h.1)
 
     pub at_moment : {R : Type 0} {Now : Moment P} {After : End P R} {d : Dialog OutputEvent R} {z : Spot P}
         → ((r : R) (emitted : List OutputEvent) (y : Spot P) → After r emitted y → Now emitted y) → (k : ℕ)

@@ -46,11 +46,10 @@ pub sends_whole : {E R : Type 0} (d : Dialog E R) (n : ℕ) (t : Tape) → Sends
     → AreWhole (frames_in (played d n t).events)
 sends_whole (Done r) n t asks = tt
 sends_whole (Emit e d) n t asks = sends_whole d n t asks
-sends_whole (Ask bytes go_on) n t asks = (
-  (search (rules, frame_is_piece, and_parts, frame_is_good)),
-  whole_by (λ reading. played (go_on reading) (next n)) (answer n t)
-      (λ reading left. sends_whole (go_on reading) (next n) left (asks.1 reading)),
-)
+sends_whole (Ask bytes go_on) n t asks =
+    let others = whole_by (λ reading. played (go_on reading) (next n)) (answer n t)
+    (λ reading left. sends_whole (go_on reading) (next n) left (asks.1 reading)) in
+    search (rules, frame_is_piece, and_parts, frame_is_good)
 
 -- the frames of all bytes of whole frames are these
 pub frames_sent : {E : Type 0} (events : List (Event E)) → AreWhole (frames_in events)
@@ -76,12 +75,10 @@ pub never_idle : {E R : Type 0} (d : Dialog E R) (n : ℕ) (p : Programmer) (fat
 never_idle d n p fates transcript asks lawful half_duplex before after items split same =
     let due : IsDueToListen d n (heard before) (sent before) =
     due_at d n [] [] before after items (subst (InTurnFrom d n [] []) split half_duplex) in
-    let play = played d n (brought p fates (sent before)) in
-    let gone : frames_in play.events ≡ frames (sent before) =
+    let gone : frames_in (played d n (brought p fates (sent before))).events ≡ frames (sent before) =
     search (rules, frames_sent, sends_whole) in
     let goes = over_wire device replies_fit_frames d n (fresh_wire p fates) (frames (sent before)) [] asks
-    (none_clear n)
-    lawful (gone ∙ sym (append-nil (frames (sent before)))) in
+    (none_clear n) lawful (gone ∙ sym (append-nil (frames (sent before)))) in
     search (rules, waits_played)
 
 -- with more of the tape, more frames after those sent
@@ -97,10 +94,7 @@ played_goes (Ask bytes go_on) n t u =
     λ o. frame n bytes ∷ frames_in (continue_with_reading (λ reading. played (go_on reading) (next n)) o).events in
     (elim (answer n t) as (λ o. answer n t ≡ o
     → (more : List (List ℕ)) × (sent_by (answer n (t ++ u)) ≡ sent_by o ++ more)) [
-      | None ↦ λ e. (
-        frames_in (continue_with_reading (λ reading. played (go_on reading) (next n)) (answer n (t ++ u))).events,
-        refl,
-      )
+      | None ↦ λ e. (_, refl)
       | Some got ↦ λ e.
           let g = played_goes (go_on got.0) (next n) got.1 u in
           (g.0, ap sent_by (reading_extends n t u got.0 got.1 e) ∙ ap (λ fs. frame n bytes ∷ fs) g.1)
@@ -125,11 +119,9 @@ frames_prefix (Frame f ∷ events) bytes back whole e = elim (cases_lt (length b
       sym (take-append-drop (length bytes) f) ∙ ap (λ x. x ++ drop (length bytes) f)
       (sym (take-append-le (length bytes) f (bytes_sent events) (omega arith))
       ∙ (search (rules, take-append-le, take_all))) in
-      let rest : 0 < length (drop (length bytes) f) = search (rules, length-append) in (
-        f ∷ frames_in events,
-        ap (λ x. x ++ f ∷ frames_in events)
-            (sym (part_none bytes (drop (length bytes) f) rest (subst IsPiece split whole.0.piece))),
-      )
+      let rest : 0 < length (drop (length bytes) f) = search (rules, length-append) in
+      let none = part_none bytes (drop (length bytes) f) rest (subst IsPiece split whole.0.piece) in
+      (f ∷ frames_in events, ap (λ x. x ++ f ∷ frames_in events) (sym none))
   | inr ge ↦
       let prefix : take (length f) bytes ≡ f = sym (take-append-le (length f) bytes back ge)
       ∙ (search (rules, take-append-le, take_all)) in
@@ -171,9 +163,7 @@ module _ {E R : Type 0} (d : Dialog E R) (n : ℕ) (p : Programmer) (fates : Lis
       (sends_whole d n (heard w.transcript) asks) prefix.1 in
       let g = played_goes d n (heard w.transcript) w.waits in
       over_wire device replies_fit_frames d n (fresh_wire p fates) (frames (sent w.transcript)) (f.0 ++ g.0) asks
-      (none_clear n)
-      lawful
-      (search (rules, never_idle, append_assoc))
+      (none_clear n) lawful (search (rules, never_idle, append_assoc))
 
   -- the programmer is where the link leads it
   pub stands_along : SendsFirst → w.wire.programmer

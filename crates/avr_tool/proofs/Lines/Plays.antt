@@ -12,10 +12,8 @@ use Rattle.stk_emu.specs.DialogOverExchanges.{state_after, outputs_after}
 abbrev pub played_along : {E R P : Type 0} → Device P → ℕ → Dialog E R → ℕ → P → List Exchange → Tape → Played E R
 played_along m k (Done r) n p exchanges left = record { events = []; outcome = Some (r, n, left) }
 played_along m k (Emit e d) n p exchanges left = prepend_events (Emitted e ∷ []) (played_along m k d n p exchanges left)
-played_along m zero (Ask bytes go_on) n p exchanges left = record {
-  events = Frame (frame n bytes) ∷ [];
-  outcome = None;
-}
+played_along m zero (Ask bytes go_on) n p exchanges left =
+    record { events = Frame (frame n bytes) ∷ []; outcome = None }
 played_along m (suc k) (Ask bytes go_on) n p exchanges left =
     prepend_events (Frame (frame n bytes) ∷ [])
     (played_along m k (go_on (reading_of_exchange (first_exchange exchanges) (m.reply bytes p))) (next n)
@@ -29,24 +27,16 @@ abbrev tape_left : {R : Type 0} → Option (R × ℕ × Tape) → Tape
 tape_left None = []
 tape_left (Some (r, seq, tape)) = tape
 
-pub head_is : {A : Type 0} (x y : A) (xs ys : List A) → x ∷ xs ≡ y ∷ ys → x ≡ y
-head_is x y xs ys e = cc
-
 pub tail_is : {A : Type 0} (x y : A) (xs ys : List A) → x ∷ xs ≡ y ∷ ys → xs ≡ ys
 tail_is x y xs ys e = cc
-
-pub cons_none : {A : Type 0} (x : A) (xs : List A) → [] ≡ x ∷ xs → ⊥
-cons_none x xs e = cc
 
 module _ {E R P : Type 0} (m : Device P) where
   pub emitted_played : (k : ℕ) (d : Dialog E R) (n : ℕ) (p : P) (exchanges : List Exchange) (left : Tape)
       → outputs (played_along m k d n p exchanges left).events ≡ outputs_after m k d p exchanges
-  emitted_played k (Done r) n p exchanges left = refl
   emitted_played k (Emit e d) n p exchanges left = ap (λ emitted. e ∷ emitted) (emitted_played k d n p exchanges left)
-  emitted_played zero (Ask bytes go_on) n p exchanges left = refl
   emitted_played (suc k) (Ask bytes go_on) n p exchanges left =
-      emitted_played k (go_on (reading_of_exchange (first_exchange exchanges) (m.reply bytes p))) (next n)
-      (after_exchange (first_exchange exchanges) (m.after bytes p) p m.reset) (later_exchanges exchanges) left
+      emitted_played k (go_on _) (next n) _ (later_exchanges exchanges) left
+  emitted_played k d n p exchanges left = refl
 
   pub done_played : (k : ℕ) (d : Dialog E R) (n : ℕ) (p : P) (exchanges : List Exchange) (left : Tape) (r : R) (seq : ℕ)
       (rest : Tape) → (played_along m k d n p exchanges left).outcome ≡ Some (r, seq, rest)
@@ -55,9 +45,7 @@ module _ {E R P : Type 0} (m : Device P) where
   done_played k (Emit e d) n p exchanges left r seq rest o = done_played k d n p exchanges left r seq rest o
   done_played zero (Ask bytes go_on) n p exchanges left r seq rest o = absurd (none-some (r, seq, rest) o)
   done_played (suc k) (Ask bytes go_on) n p exchanges left r seq rest o =
-      done_played k (go_on (reading_of_exchange (first_exchange exchanges) (m.reply bytes p))) (next n)
-      (after_exchange (first_exchange exchanges) (m.after bytes p) p m.reset) (later_exchanges exchanges) left r seq
-      rest o
+      done_played k (go_on _) (next n) _ (later_exchanges exchanges) left r seq rest o
 
   pub waits_played : (k : ℕ) (d : Dialog E R) (n : ℕ) (p : P) (exchanges : List Exchange) (left : Tape)
       → (played_along m k d n p exchanges left).outcome ≡ None
@@ -66,5 +54,4 @@ module _ {E R P : Type 0} (m : Device P) where
   waits_played k (Emit e d) n p exchanges left none = waits_played k d n p exchanges left none
   waits_played zero (Ask bytes go_on) n p exchanges left none = refl
   waits_played (suc k) (Ask bytes go_on) n p exchanges left none =
-      ap suc (waits_played k (go_on (reading_of_exchange (first_exchange exchanges) (m.reply bytes p))) (next n)
-      (after_exchange (first_exchange exchanges) (m.after bytes p) p m.reset) (later_exchanges exchanges) left none)
+      ap suc (waits_played k (go_on _) (next n) _ (later_exchanges exchanges) left none)

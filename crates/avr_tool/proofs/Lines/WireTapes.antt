@@ -14,7 +14,7 @@ use Rattle.stk_emu.specs.DialogOverExchanges.{state_after, SendsValidBodies}
 use Rattle.stk_emu.proofs.Replies.BodySizes.{RepliesFitFrames}
 use Rattle.stk_emu.proofs.Wires.Arrivals.{arrival_read, arrival_leaves, arrival_late}
 use Rattle.avr_tool.specs.Authentic.{RepliesAreAuthentic}
-use Rattle.avr_tool.proofs.Lines.Plays.{played_along, head_is, tail_is, cons_none}
+use Rattle.avr_tool.proofs.Lines.Plays.{played_along, tail_is}
 
 first_lawful : (fates : List Fate) → AreLawful fates → IsLawfulFate (first_fate fates)
 first_lawful fates l = search rules
@@ -56,13 +56,12 @@ module _ {P : Type 0} (m : Device P) (replies_fit : RepliesFitFrames m) where
       → NoneHasNumber n w.late → AreLawful w.fates → frames_in (played d n (tape_of m sent w)).events ≡ sent ++ more
       → GoesOver m d n w sent w.programmer (exchanges_of_fates w.fates)
   over_wire (Done r) n w [] more asks clear lawful e = search rules
-  over_wire (Done r) n w (f ∷ sent) more asks clear lawful e = absurd (cons_none f (sent ++ more) e)
+  over_wire (Done r) n w (f ∷ sent) more asks clear lawful e = cc
   over_wire (Emit s d) n w sent more asks clear lawful e = search (rules, over_wire d n w sent more asks clear lawful e)
   over_wire (Ask bytes go_on) n w [] more asks clear lawful e =
-      let waits : answer n [] ≡ None = reading_waits n [] refl (omega arith) in
-      search rules
+      let waits : answer n [] ≡ None = reading_waits n [] refl (omega arith) in search rules
   over_wire {E = E} {R = R} (Ask bytes go_on) n w (f ∷ sent) more asks clear lawful e =
-      let is : frame n bytes ≡ f = head_is (frame n bytes) f _ (sent ++ more) e in
+      let is : frame n bytes ≡ f = cc in
       let a = replies_fit bytes w.programmer asks.0 in
       let after = wire_after_frame m (frame n bytes) w in
       let reading = reading_of_exchange (exchange_of_fate (first_fate w.fates)) (m.reply bytes w.programmer) in

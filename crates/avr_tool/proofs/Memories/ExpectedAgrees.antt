@@ -41,12 +41,9 @@ module _ (part : Part) (s : Switches) where
       (effects part (actions_items actions) m)
   agrees_for_actions [] m = record { if_fine = λ f. tt; is_fine = λ agree. refl; memories = λ f. refl }
   agrees_for_actions (action ∷ actions) m =
-      let after = effects part (action_items action) m in
-      subst (EndsAsActionsAgree (actions_expected part s (action ∷ actions) m) (EachComparisonAgrees part (action
-      ∷ actions) m)) (sym (effects_on part (action_items action) (actions_items actions) m))
-      (agrees_in_sequence (action_expected part s action m) (actions_expected part s actions)
-      (ComparisonAgrees part action m) (EachComparisonAgrees part actions after) after
-      (effects part (actions_items actions) after) (agrees_for_action action m) (agrees_for_actions actions after))
+      subst (EndsAsActionsAgree _ _) (sym (effects_on part (action_items action) (actions_items actions) m))
+      (agrees_in_sequence _ (actions_expected part s actions) _ _ _ _ (agrees_for_action action m)
+      (agrees_for_actions actions _))
 
 -- ---- the whole
 

@@ -1,5 +1,5 @@
 -- What writes leave in a memory: their images laid over each other, and elsewhere the bytes before.
-use Rattle.std.proofs.Common.{◌≡◌, ℕ, zero, suc, ◌≤◌, arith, refl, ap, List, [], ◌∷◌, ◌++◌, length, get_or, Bool, true, false, Option, None, unwrap_or, rules}
+use Rattle.std.proofs.Common.{◌≡◌, ℕ, zero, suc, ◌≤◌, arith, refl, ap, List, [], ◌∷◌, ◌++◌, length, get_or, Bool, true, false, Option, None, rules}
 use Rattle.std.proofs.lemmas.Bool.{true≢false}
 use Rattle.std.proofs.lemmas.List.{length-replicate}
 use Rattle.std.specs.Str.{bytes_eq}
@@ -13,7 +13,7 @@ use Rattle.avr_part.specs.declared.part.Mem.{Mem}
 use Rattle.avr_plan.specs.declared.planned.Task.{Task}
 use Rattle.avr_plan.specs.declared.planned.Task.TheVariants as task
 use Rattle.avr_session.specs.Actions.{SkippedWrite, Action, WriteImage, CompareImage, SkipAction, tasks_actions}
-use Rattle.stk_emu.specs.Effect.{Image, Memories, with_image, and_in, and_with, write_effect, effects, memory_in}
+use Rattle.stk_emu.specs.Effect.{Image, Memories, with_image, and_in, write_effect, effects, memory_in}
 use Rattle.stk_emu.specs.StepData.{HoldsImage}
 use Rattle.stk_emu.proofs.Memories.LaidImages.{length-laid, length-and_in}
 use Rattle.avr_tool.proofs.WriteOperations.EachMemory.{same_memory, write_is, others_stay}
@@ -25,22 +25,18 @@ use Rattle.avr_tool.proofs.Plans.Fits.{AllFitActions}
 -- ---- images laid over each other, byte by byte
 
 byte_of_empty : (size i : ℕ) → byte_at (empty size) i ≡ None
-byte_of_empty zero i = refl
-byte_of_empty (suc size) zero = refl
 byte_of_empty (suc size) (suc i) = byte_of_empty size i
+byte_of_empty size i = refl
 
 length-over : (a b : Image) → length (over a b) ≡ length a
-length-over [] b = refl
-length-over (x ∷ a) [] = refl
 length-over (x ∷ a) (y ∷ b) = ap suc (length-over a b)
+length-over a b = refl
 
 byte_of_over : (a b : Image) (i : ℕ) → length b ≤ length a → byte_at (over a b) i
     ≡ option_or (byte_at b i) (byte_at a i)
-byte_of_over [] [] i l = refl
 byte_of_over [] (y ∷ b) i l = absurd (omega (arith, l))
-byte_of_over (x ∷ a) [] i l = refl
-byte_of_over (x ∷ a) (y ∷ b) zero l = refl
 byte_of_over (x ∷ a) (y ∷ b) (suc i) l = byte_of_over a b i (omega (arith, l))
+byte_of_over a b i l = refl
 
 -- ---- a write to bytes
 
@@ -49,24 +45,18 @@ pub record Keeps (image : Image) (old new : List ℕ) : Type 0 where
   pub size : length new ≡ length old
   pub rest : (i : ℕ) → byte_at image i ≡ None → get_or new i 0 ≡ get_or old i 0
 
-kept_byte : (o : Option ℕ) (x : ℕ) → o ≡ None → unwrap_or o x ≡ x
-kept_byte o x e = search rules
-
-kept_bits : (o : Option ℕ) (x : ℕ) → o ≡ None → and_with o x ≡ x
-kept_bits o x e = search rules
-
 rest_laid : (image : Image) (xs : List ℕ) (i : ℕ) → byte_at image i ≡ None
     → get_or (with_image image xs) i 0 ≡ get_or xs i 0
 rest_laid image [] i e = refl
 rest_laid [] (x ∷ xs) i e = refl
-rest_laid (b ∷ image) (x ∷ xs) zero e = kept_byte b x e
+rest_laid (b ∷ image) (x ∷ xs) zero e = search rules
 rest_laid (b ∷ image) (x ∷ xs) (suc i) e = rest_laid image xs i e
 
 rest_anded : (image : Image) (xs : List ℕ) (i : ℕ) → byte_at image i ≡ None
     → get_or (and_in image xs) i 0 ≡ get_or xs i 0
 rest_anded image [] i e = refl
 rest_anded [] (x ∷ xs) i e = refl
-rest_anded (b ∷ image) (x ∷ xs) zero e = kept_bits b x e
+rest_anded (b ∷ image) (x ∷ xs) zero e = search rules
 rest_anded (b ∷ image) (x ∷ xs) (suc i) e = rest_anded image xs i e
 
 pub write_keeps : (part : Part) (mem : Mem) (image : Image) (m : Memories)
@@ -99,9 +89,8 @@ module _ (part : Part) where
   length-written_to : (mem : Mem) (actions : List Action) → AllFitActions part actions
       → length (written_to part mem (actions_items actions)) ≡ size_of mem part
   length-written_to mem [] fit = length-replicate {A = Option ℕ} (size_of mem part) None
-  length-written_to mem (WriteImage other image ∷ actions) fit =
+  length-written_to mem (action ∷ actions) fit =
       search (rules, length-over, same_memory, length-written_to mem actions fit.1)
-  length-written_to mem (action ∷ actions) fit = length-written_to mem actions fit.1
 
   write_left : (mem other : Mem) (image more : Image) (m new : Memories) (same : Bool)
       → bytes_eq (name_of other) (name_of mem) ≡ same → length image ≡ size_of other part
@@ -125,18 +114,11 @@ module _ (part : Part) where
   write_leaves true left_out mem other image more m e rest fit agree = rest m fit.1 agree.1
   write_leaves false true mem other image more m e rest fit agree = absurd (true≢false e)
   write_leaves false false mem other image more m e rest fit agree =
-      let after = write_effect other image m in
-      write_left mem other image (written_to part mem (actions_items more)) m (effects part (actions_items more) after)
-      (bytes_eq (name_of other) (name_of mem)) refl
-      fit.0.0 (length-written_to mem more fit.1.1) agree.1.0 (rest after fit.1.1 agree.1.1)
+      write_left mem other image _ m _ _ refl fit.0.0 (length-written_to mem more fit.1.1) agree.1.0
+      (rest _ fit.1.1 agree.1.1)
 
   -- if writes are read back
   pub tasks_left : (s : Switches) → s.no_verify ≡ false → (mem : Mem) (tasks : List Task) (m : Memories)
       → Leave mem (tasks_actions s tasks) m
   tasks_left s verified mem [] m fit agree = left_as_it_is mem (size_of mem part) m
-  tasks_left s verified mem (task.Write other image ∷ tasks) m fit agree =
-      search (rules, write_leaves, tasks_left s verified mem tasks)
-  tasks_left s verified mem (task.Verify other image ∷ tasks) m fit agree =
-      tasks_left s verified mem tasks m fit.1 agree.1
-  tasks_left s verified mem (task.Read other format file ∷ tasks) m fit agree =
-      tasks_left s verified mem tasks m fit.1 agree.1
+  tasks_left s verified mem (task ∷ tasks) m fit agree = search (rules, write_leaves, tasks_left s verified mem tasks)

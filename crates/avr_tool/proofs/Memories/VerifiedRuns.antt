@@ -1,9 +1,9 @@
 -- What a verified run leaves in each memory, and that a further comparison agrees.
-use Rattle.std.proofs.Common.{◌≡◌, ℕ, ◌<◌, arith, refl, sym, ap, ◌∙◌, subst, List, [], ◌∷◌, map, length, get_or, Bool, false, rules}
+use Rattle.std.proofs.Common.{◌≡◌, refl, sym, ap, ◌∙◌, subst, List, [], ◌∷◌, map, Bool, false, rules}
 use Rattle.std.proofs.lemmas.Bool.{true≢false}
 use Rattle.std.proofs.lemmas.List.{get_or-replicate}
 use Rattle.std.specs.List.{list_any}
-use Rattle.std.specs.Prelude.{not, if◌then◌else◌, All}
+use Rattle.std.specs.Prelude.{not, All}
 use Rattle.avr_plan.specs.declared.settings.Switches.{Switches}
 use Rattle.avr_part.specs.Memory.{blank}
 use Rattle.avr_part.specs.Part.{Part, IsPart}
@@ -12,7 +12,7 @@ use Rattle.avr_part.specs.declared.part.Mem.TheVariants.{Flash, Eeprom, Lfuse, H
 use Rattle.avr_plan.specs.Plan.{Plan, IsFitted}
 use Rattle.avr_plan.specs.declared.planned.Task.TheVariants as task
 use Rattle.avr_session.specs.Actions.{writes_flash, tasks_actions}
-use Rattle.stk_emu.specs.Effect.{Image, Memories, Erase, effect, effects, memory_in}
+use Rattle.stk_emu.specs.Effect.{Image, Memories, effects, memory_in}
 use Rattle.stk_emu.specs.StepData.{HoldsImage}
 use Rattle.stk_emu.specs.Settled.{FitsPart}
 use Rattle.avr_tool.proofs.WriteOperations.Pages.{effects_on}
@@ -28,18 +28,6 @@ use Rattle.avr_tool.proofs.Memories.LaidImages.{Left, tasks_left}
 use Rattle.avr_tool.proofs.OverFaultyLink.FirstSteps.{effects_sizes}
 
 -- ---- after the erase
-
-flash_erased : (part : Part) (due : Bool) (m : Memories) (addr : ℕ) → addr < length m.flash
-    → get_or (effects part (erase_if due) m).flash addr 0 ≡ (if due then 255 else get_or m.flash addr 0)
-flash_erased part due m addr l = search (rules, get_or-replicate)
-
-fuse_kept : (part : Part) (fuse : Memories → ℕ) (due : Bool) (m : Memories) → fuse (effect part Erase m) ≡ fuse m
-    → fuse (effects part (erase_if due) m) ≡ fuse m
-fuse_kept part fuse due m kept = search rules
-
-lock_erased : (part : Part) (due : Bool) (m : Memories)
-    → (effects part (erase_if due) m).lock ≡ (if due then 255 else m.lock)
-lock_erased part due m = search rules
 
 -- ---- the whole run
 
@@ -70,13 +58,12 @@ module _ (plan : Plan) (before after : Memories) (all : All (IsFitted plan.part)
         flash_size = sizes.flash;
         eeprom_size = sizes.eeprom;
         images = λ mem. (memory_left mem).shows;
-        rest_of_flash = λ addr l none. (memory_left Flash).rest addr none
-            ∙ flash_erased part due before addr (omega (arith, l, fits.flash));
+        rest_of_flash = λ addr l none. (memory_left Flash).rest addr none ∙ (search (rules, get_or-replicate));
         rest_of_eeprom = λ addr l none. (memory_left Eeprom).rest addr none ∙ (search (rules, get_or-replicate));
-        lfuse = λ none. (memory_left Lfuse).rest 0 none ∙ fuse_kept part (λ m. m.lfuse) due before refl;
-        hfuse = λ none. (memory_left Hfuse).rest 0 none ∙ fuse_kept part (λ m. m.hfuse) due before refl;
-        efuse = λ none. (memory_left Efuse).rest 0 none ∙ fuse_kept part (λ m. m.efuse) due before refl;
-        lock = λ none. (memory_left Lock).rest 0 none ∙ lock_erased part due before;
+        lfuse = λ none. (memory_left Lfuse).rest 0 none ∙ (search rules);
+        hfuse = λ none. (memory_left Hfuse).rest 0 none ∙ (search rules);
+        efuse = λ none. (memory_left Efuse).rest 0 none ∙ (search rules);
+        lock = λ none. (memory_left Lock).rest 0 none ∙ (search rules);
       }
 
   pub run_written : IsPart plan.part → FitsPart plan.part before → IsWritten plan.part (asked_items plan) before after
@@ -99,10 +86,8 @@ none_writes image_of (mem ∷ mems) = none_writes image_of mems
 pub shown_succeeds : (part : Part) (s : Switches) (image_of : Mem → Image) (m : Memories) (mems : List Mem)
     → s.erase ≡ false → ((mem : Mem) → HoldsImage (image_of mem) (memory_in part mem m))
     → (expected_run (record { part = part; tasks = map (λ mem. task.Verify mem (image_of mem)) mems; switches = s })
-    m).status
-    ≡ 0
+    m).status ≡ 0
 shown_succeeds part s image_of m mems kept shown =
     let tasks = map (λ mem. task.Verify mem (image_of mem)) mems in
     let plan : Plan = record { part = part; tasks = tasks; switches = s } in
-    (expected_status plan m).1
-    (search (rules, true≢false, none_writes, shown_agree))
+    (expected_status plan m).1 (search (rules, true≢false, none_writes, shown_agree))
