@@ -12,14 +12,14 @@ use Rattle.avr_plan.specs.Plan.{Plan}
 use Rattle.avr_plan.specs.Planning.{planned}
 use Rattle.avr_desk.specs.declared.record.Opening.{Opening}
 use Rattle.stk_host.specs.Play.{IsPrefixOfEvents}
-use Rattle.avr_desk.specs.StageRuns.{AllocatesThere, StageCompleted, StageRefused, RestOfStage, BreakCause, LineNotPrinted, NotOpened, NotRead, NoMemory, ReportsBreakAs, events_of_break}
+use Rattle.avr_desk.specs.StageRuns.{AllocatesThere, StageCompleted, StageRefused, RestOfStage, BreakCause, LineNotPrinted, NoMemory, ReportsBreakAs, events_of_break}
 use Rattle.avr_desk.specs.Stage.{Produced, StageOutcome, StageResult, events_with_refusal}
 use Rattle.stk_host.specs.Dialog.{Event, Played, Emitted, played, prepend_events, bytes_sent, outputs}
 use Rattle.stk_host.specs.Transcript.{LinkState, Transcript, heard, Grows}
 use Rattle.stk_host.specs.Tape.{Tape}
 use Rattle.stk_host.proofs.Transcripts.Laws.{grows_none}
 use Rattle.avr_session.specs.Run.{RunsSession, RunsSettings, StopsSession}
-use Rattle.avr_session.specs.Runs.{Devices, devices, Cause, StopsAt, NotCreated, NotWritten, SendingFailed, ReceivingFailed, FileFailed, AllocationFailed, ReportsCause, cause_line}
+use Rattle.avr_session.specs.Runs.{Devices, devices, Cause, StopsAt, NotWritten, FileFailed, AllocationFailed, ReportsCause, cause_line}
 use Rattle.avr_session.specs.Session.{session}
 use Rattle.avr_session.specs.Stopping.{RanToStatus}
 use Rattle.avr_tool.specs.Headline.{run, run_after_planning, FitsNext, IsInTurn, IsRun, IsPrefixOfRun, Reason, StopsAtAllocation, StopsThere, InSession, InPlanning, stop_line, opened_at, StoppedInSession, StoppedPlanning, IsStopped}
@@ -137,8 +137,6 @@ cause_part has_reported cause notice x y is_reported = search (rules, line_part,
 break_part : (break : BreakCause) (notice : Bytes) (x y : DeskState)
     → ReportsBreakAs break notice x y → IsBytePrefixOf notice (stop_line (InPlanning break))
 break_part (LineNotPrinted line) notice x y is_reported = is_reported.0
-break_part (NotOpened name) notice x y is_reported = search (rules, line_part)
-break_part (NotRead name bytes) notice x y is_reported = search (rules, line_part)
 break_part break notice x y is_reported = search (rules, line_part)
 
 emitted_append : (whole later : List OutputEvent) (events : List (Event OutputEvent))
@@ -151,9 +149,6 @@ emitted_append (event ∷ whole) later events = ap (λ rest. Emitted event ∷ r
 -- in a session, behind what planning did
 same_place : (before whole begun later : List (Event OutputEvent)) (cause : Cause) (during : Transcript)
     → StopsAt cause during whole begun later → StopsAt cause during (before ++ whole) begun later
-same_place before whole begun later SendingFailed during place = place
-same_place before whole begun later ReceivingFailed during place = place
-same_place before whole begun later (FileFailed file NotCreated) during place = place
 same_place before whole begun later (FileFailed file NotWritten) during (inl place) = inl (
   (
     before ++ place.0.0,
@@ -188,17 +183,14 @@ module _ (settings : Settings) (x y : Devices) (stopped : StoppedPlanning settin
     begun = [];
     later = behind;
     shown_is = refl;
-    events_are = ap (λ (done : List OutputEvent). map Emitted done
-        ++ (run_after_planning (planned settings (stopped.broke.passed ++ openings)).stage_outcome []).events)
-        rest.output_events_are ∙ emitted_append stopped.broke.whole rest.later _;
+    events_are = rw rest.output_events_are (emitted_append stopped.broke.whole rest.later _);
     part = tt;
   }
 
   place_planned : FitsNext stopped.broke.break openings behind
   place_planned =
-      let outcome = (planned settings (stopped.broke.passed ++ openings)).stage_outcome in
-      let both = with_line [] rest.later outcome in
-      (events_with_refusal rest.later outcome, both.0, both.1, rest.broken)
+      let both = with_line [] rest.later (planned settings (stopped.broke.passed ++ openings)).stage_outcome in
+      (_, both.0, both.1, rest.broken)
 
   taken_planned : AllocatesThere (AtAllocatingUpdate settings) stopped.broke.break stopped.broke.passed
       (outputs (map Emitted stopped.broke.whole))
@@ -244,15 +236,10 @@ stopped_prefix settings x y stopped = record {
       stopped.between.kept y.desk.kept stopped.made.kept stopped.then_is.kept;
 }
 
-last_is : (break : BreakCause) (notice : Bytes) → events_of_break break notice ≡ opened_at (InPlanning break)
-    ++ PrintsLine notice ∷ []
-last_is break notice = search rules
-
 broken_kept : (whole : List OutputEvent) (break : BreakCause) (notice : Bytes) (r t : Record)
     → t ≡ after_events (whole ++ events_of_break break notice) r
     → t ≡ after_err notice (after_events (outputs (map Emitted whole ++ []) ++ opened_at (InPlanning break)) r)
-broken_kept whole break notice r t kept =
-    search (rules, last_is, append_assoc, after_append, emitted_outputs, append-nil)
+broken_kept whole break notice r t kept = search (rules, append_assoc, after_append, emitted_outputs, append-nil)
 
 planned_prefix : (settings : Settings) (x y : Devices) → StoppedPlanning settings x y → IsPrefixOfRun settings x y
 planned_prefix settings x y stopped = record {
@@ -300,7 +287,4 @@ no_memory settings x y p because empty =
 -- the same openings and the same items received lead to one status
 pub one_status : (settings : Settings) (h i j k : Devices) (m n : ℕ) (x : IsRun settings h i m)
     (y : IsRun settings j k n) → x.openings ≡ y.openings → heard x.during ≡ heard y.during → m ≡ n
-one_status settings h i j k m n x y same alike =
-    let both : run settings (x.openings ++ []) (heard x.during ++ [])
-    ≡ run settings (y.openings ++ []) (heard y.during ++ []) =
-    search rules in search rules
+one_status settings h i j k m n x y same alike = let one = x.is [] [] in let other = y.is [] [] in search rules
