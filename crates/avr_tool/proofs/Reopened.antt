@@ -7,7 +7,7 @@ use Rattle.avr_desk.specs.declared.desk.DeskFault.TheVariants.{NotFound, Failed}
 use Rattle.avr_desk.specs.declared.record.FileUse.{FileUse}
 use Rattle.avr_desk.specs.declared.record.FileUse.TheVariants.{Opened}
 use Rattle.avr_desk.specs.declared.record.Open.{Open}
-use Rattle.avr_desk.specs.declared.record.Open.TheVariants.{Closed, ToRead, ToWrite}
+use Rattle.avr_desk.specs.declared.record.Open.TheVariants.{ToWrite}
 use Rattle.avr_desk.specs.declared.record.Opening.TheVariants.{Absent}
 use Rattle.avr_tool.specs.Noted.{Noted}
 use Rattle.avr_desk.specs.Stream.{SendsPart, SendsTaken}

@@ -182,13 +182,7 @@ module _ (part : Part) (sound : IsPart part) (real : Real part) (s : Switches) (
             × AfterOne part real s At Fails action rest m (standing got) (outcome_output part s action got) y
         each got y (inl made) =
             let idle = pass.idle _ y made.1 in
-            rw made.0 (
-              holds y.0 (real.has _ y.0 idle),
-              (
-                rests_all real sound items m y.0 fits f idle,
-                inl (record { stands = refl; output_events_are = refl; left = made.1 }),
-              ),
-            )
+            rw made.0 (search (rules, holds y.0 (real.has _ y.0 idle), rests_all real sound items m y.0 fits f idle))
         each got y (inr broke) =
             let fault = broke.1.0 in
             let line : outcome_output part s action got ≡ fault_output part fault =
@@ -196,11 +190,7 @@ module _ (part : Part) (sound : IsPart part) (real : Real part) (s : Switches) (
               subst (λ x. AllTrue True x y.0) (sym line) (fault_true fault y.0),
               (
                 broke.1.2,
-                inr (record {
-                  fails = broke.0;
-                  faulty = search (rules, after_fault, faulty_fine, over_fine);
-                  line = search (rules, none_done (action ∷ rest) m);
-                }),
+                inr (search (rules, after_fault, faulty_fine, over_fine, none_done (action ∷ rest) m)),
               ),
             )
 
@@ -257,17 +247,12 @@ module _ (part : Part) (sound : IsPart part) (real : Real part) (s : Switches) (
             (unless_fault (actions_dialog part s rest) at) y
         on NoFault emitted y (r, inl own) =
             prints_wider real.device True
-            (λ x v now. (
-              rests_later emitted own.output_events_are own.stands v now.0,
-              first_behind emitted own.output_events_are own.stands x now.1,
-            ))
+            (λ x v now. search (rules, rests_later, first_behind))
             (after_behind emitted own.output_events_are own.stands) (more y own.left)
         on NoFault emitted y (r, inr broken) = absurd (broken.faulty refl)
         on at emitted y (r, inl own) =
-            stops real.device True (After part real s At Fails (action ∷ rest) m) at emitted y (
-              before y r,
-              inl (rw (goes_as (actions_expected part s rest) at own.stands) own),
-            )
+            stops real.device True (After part real s At Fails (action ∷ rest) m) at emitted y
+            (before y r, inl (rw (goes_as (actions_expected part s rest) at own.stands) own))
         on at emitted y (r, inr broken) =
             stops real.device True (After part real s At Fails (action ∷ rest) m) at emitted y (before y r, inr broken)
 

@@ -100,16 +100,10 @@ module _ (plan : Plan) (sound : IsPart plan.part) (real : Real plan.part) (fitte
 
     closed : (r : Result ⊤ HostFault) (z : Spot real.P) → HasMemories real w.memories z.0
         × ((r ≡ Ok tt) ⊎ (Fails × ((fault : StepFault) × (r ≡ Err (host_fault fault))))) → ReportedAs r z
-    closed r z (i, inl ok) = subst (λ x. ReportedAs x z) (sym ok) (
-      done_true z.0,
-      (left z i, inl (search (rules, real.has w.memories z.0 i))),
-    )
+    closed r z (i, inl ok) = rw ok (done_true z.0, (left z i, inl (search (rules, real.has w.memories z.0 i))))
     closed r z (i, inr broke) =
-        let fault = broke.1.0 in
-        subst (λ x. ReportedAs x z) (sym broke.1.1) (
-          fault_true fault z.0,
-          (left z i, inr (broke.0, search (rules, all_done emitted own.output_events_are own.stands))),
-        )
+        let done = all_done emitted own.output_events_are own.stands in
+        rw broke.1.1 (fault_true broke.1.0 z.0, (left z i, inr (broke.0, search (rules, done))))
 
   with_fault : (at : Standing) (emitted : List OutputEvent) (y z : Spot real.P) → ending_output plan at ≡ []
       → status_of at ≡ 1

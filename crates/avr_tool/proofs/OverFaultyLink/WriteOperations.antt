@@ -23,9 +23,9 @@ use Rattle.avr_tool.proofs.WriteOperations.Items.{ItemsFit}
 use Rattle.avr_tool.specs.Tallies.{Count, with_next, then_count, Tallies}
 use Rattle.avr_tool.proofs.Hosts.Attempts.{along_bind, along_next_dialog}
 use Rattle.avr_tool.proofs.Hosts.AnyExchange.{done_is}
-use Rattle.avr_tool.proofs.WriteOperations.Conditions.{along_before}
+use Rattle.avr_tool.proofs.WriteOperations.Conditions.{none_left, along_before}
 use Rattle.stk_emu.proofs.Replies.Commands.{settled_idle}
-use Rattle.avr_tool.proofs.WriteOperations.Counts.{tallies_none, tallies_as, tallies_bind, steps_all, tallies_play, none_left}
+use Rattle.avr_tool.proofs.WriteOperations.Counts.{tallies_none, tallies_as, tallies_bind, steps_all, tallies_play}
 use Rattle.avr_session.specs.Standing.{Standing, NoFault}
 use Rattle.avr_session.specs.Session.{reported, unless_fault}
 use Rattle.avr_tool.specs.Completed.{none_completed, completed_unless_fault, steps_completed}

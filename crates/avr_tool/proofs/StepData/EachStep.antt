@@ -5,9 +5,8 @@ use Rattle.std.proofs.lemmas.List.{length-take, length-drop, get_or-append_right
 use Rattle.avr_part.specs.declared.part.Mem.TheVariants.{Flash, Eeprom}
 use Rattle.avr_part.specs.Part.{Part, IsPart}
 use Rattle.stk_frame.specs.declared.command.Command.{Command}
-use Rattle.stk_frame.specs.declared.command.Fuse.{Fuse}
 use Rattle.stk_frame.specs.Commands.{body}
-use Rattle.stk_frame.specs.HostCommands.{program_page, program_eeprom_block, program_fuse, read_flash_block, read_eeprom_block, read_lock, read_signature, read_calibration}
+use Rattle.stk_frame.specs.HostCommands.{read_flash_block, read_eeprom_block}
 use Rattle.stk_host.specs.Tape.{Replied}
 use Rattle.stk_host.specs.Places.{flash_address, load_flash, load_eeprom}
 use Rattle.stk_host.specs.Steps.{Data, reply_from_reading}
@@ -17,7 +16,7 @@ use Rattle.stk_emu.specs.Programmer as programmer
 use Rattle.stk_emu.specs.Device.{Device, device}
 use Rattle.stk_emu.specs.Effect.{Memories, effect, effects, Item}
 use Rattle.stk_emu.specs.Settled.{Ready, FitsPart}
-use Rattle.stk_emu.specs.WriteOperations.{memories_after_step, write_operation_of, IsStep, Erases, ProgramsPage, ProgramsEepromRun, ProgramsFuse, ProgramsLock, ReadsFlash, ReadsEeprom, ReadsFuse, ReadsLock, ReadsSignature, ReadsCalibration, IsPage, FitsEepromPage, IsBlock, AreWords}
+use Rattle.stk_emu.specs.WriteOperations.{memories_after_step, write_operation_of, IsStep, Erases, ProgramsPage, ProgramsEepromRun, ProgramsFuse, ProgramsLock, ReadsFlash, ReadsEeprom, ReadsFuse, ReadsLock, ReadsSignature, ReadsCalibration, IsBlock, AreWords}
 use Rattle.stk_emu.specs.StepData.{data_of_step}
 use Rattle.avr_tool.proofs.Leads.{IsDataOfAttempt}
 use Rattle.stk_emu.proofs.Repeatable.{on_data, reply_to, joined_reply, Settled}

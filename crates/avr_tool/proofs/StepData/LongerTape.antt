@@ -5,10 +5,10 @@ use Rattle.std.proofs.lemmas.List.{take_all, take-append-le, length-take}
 use Rattle.std.proofs.lemmas.Option.{none-some}
 use Rattle.std.specs.List.{concat}
 use Rattle.std.specs.Prelude.{nat_le as leb}
-use Rattle.stk_frame.specs.Cut.{cut, rest, body_of}
+use Rattle.stk_frame.specs.Cut.{cut, rest}
 use Rattle.stk_frame.proofs.Cuts.{cut_append, cut_joined}
 use Rattle.stk_host.specs.declared.link.Item.TheVariants.{Byte}
-use Rattle.stk_host.specs.Tape.{Tape, on_tape, leading_bytes, answer, reading_from_first, timeout_or_end, first_reply, is_reply, past_skipped, reply_byte_limit, Reading, Babbled}
+use Rattle.stk_host.specs.Tape.{Tape, on_tape, leading_bytes, answer, reading_from_first, timeout_or_end, first_reply, past_skipped, reply_byte_limit, Reading, Babbled}
 use Rattle.stk_host.proofs.Tapes.Readings.{reading_silent, reading_ended, first_reply_stays, drop_tape, reads_by}
 
 pub record Split (tape : Tape) : Type 0 where

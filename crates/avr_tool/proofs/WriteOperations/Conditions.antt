@@ -1,5 +1,5 @@
 -- A run of steps along a link: how many of their conditions it has passed.
-use Rattle.std.proofs.Common.{◌≡◌, ℕ, zero, suc, ◌≤◌, List, [], ◌∷◌, ◌++◌, length, refl, arith, Ok, rules}
+use Rattle.std.proofs.Common.{◌≡◌, ℕ, zero, suc, ◌≤◌, List, [], ◌∷◌, ◌++◌, length, refl, sym, ◌∙◌, Ok, rules}
 use Rattle.stk_frame.specs.declared.command.Command.{Command}
 use Rattle.stk_host.specs.Dialog.{Dialog, Done, Emit, Ask}
 use Rattle.stk_host.specs.Steps.{StepOutcome, exchange, attempt, attempts_or_fault, step, unless_step_fault, play}
@@ -9,6 +9,12 @@ use Rattle.stk_emu.specs.DialogOverExchanges.{StateAfter, state_after}
 use Rattle.avr_tool.proofs.Leads.{AllFit, AreSome, Climbs}
 use Rattle.avr_tool.specs.Completed.{step_count, steps_completed}
 use Rattle.avr_tool.proofs.Hosts.Attempts.{along_bind, along_next_dialog, step_stands, Stepped}
+
+pub none_left : {E R P : Type 0} (m : Device P) (d : Dialog E R) (p : P) (exchanges : List Exchange)
+    → (state_after m 0 d p exchanges).left ≡ 0
+none_left m (Done r) p exchanges = refl
+none_left m (Emit s d) p exchanges = none_left m d p exchanges
+none_left m (Ask bytes go_on) p exchanges = refl
 
 module _ {P : Type 0} (m : Device P) where
   -- a dialog that is done with commands to spare was done without the last
@@ -22,13 +28,7 @@ module _ {P : Type 0} (m : Device P) where
       }
   along_before k left (Done q) p exchanges r e n = search rules
   along_before k left (Emit s d) p exchanges r e n = along_before k left d p exchanges r e n
-  along_before zero left (Ask bytes go_on) p exchanges r e n = absurd (none_left (go_on _) _ _ e n)
-    where
-      none_left : {E R : Type 0} (d : Dialog E R) (p : P) (exchanges : List Exchange) {r : R} {left : ℕ}
-          → (state_after m 0 d p exchanges).dialog ≡ Done r → (state_after m 0 d p exchanges).left ≡ suc left → ⊥
-      none_left (Done q) p exchanges e n = omega (arith, n)
-      none_left (Emit s d) p exchanges e n = none_left d p exchanges e n
-      none_left (Ask bytes go_on) p exchanges e n = omega (arith, n)
+  along_before zero left (Ask bytes go_on) p exchanges r e n = absurd (cc (sym (none_left m (go_on _) _ _) ∙ n))
   along_before (suc k) left (Ask bytes go_on) p exchanges r e n = along_before k left (go_on _) _ _ r e n
 
   module _ (At : ℕ → P → Type 0) where

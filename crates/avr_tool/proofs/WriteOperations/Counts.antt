@@ -2,7 +2,7 @@
 use Rattle.std.proofs.Common.{◌≡◌, ℕ, zero, suc, ◌+◌, ◌-◌, ◌≤◌, List, [], ◌∷◌, ◌++◌, length, refl, ap, subst, arith, inl, inr, Ok, rules}
 use Rattle.avr_part.specs.Part.{Part, IsPart}
 use Rattle.stk_frame.specs.declared.command.Command.{Command}
-use Rattle.stk_host.specs.Dialog.{Dialog, Done, Emit, Ask, ◌>>=◌}
+use Rattle.stk_host.specs.Dialog.{Dialog, Done, ◌>>=◌}
 use Rattle.stk_host.specs.Steps.{StepOutcome, step, unless_step_fault, play}
 use Rattle.stk_emu.specs.Exchange.{Exchange}
 use Rattle.stk_emu.specs.Programmer.{Programmer}
@@ -15,14 +15,8 @@ use Rattle.avr_tool.proofs.Leads.{Climbs, GoesOn, memories_after_steps}
 use Rattle.stk_emu.specs.WriteOperations.{AreSteps}
 use Rattle.avr_tool.specs.Tallies.{Count, with_next, then_count, Tallies}
 use Rattle.avr_tool.proofs.Hosts.Attempts.{along_bind, along_next_dialog}
-use Rattle.avr_tool.proofs.WriteOperations.Conditions.{along_before}
+use Rattle.avr_tool.proofs.WriteOperations.Conditions.{none_left, along_before}
 use Rattle.avr_tool.proofs.StepData.FirstSteps.{steps_climb}
-
-pub none_left : {E R P : Type 0} (m : Device P) (d : Dialog E R) (p : P) (exchanges : List Exchange)
-    → (state_after m 0 d p exchanges).left ≡ 0
-none_left m (Done r) p exchanges = refl
-none_left m (Emit s d) p exchanges = none_left m d p exchanges
-none_left m (Ask bytes go_on) p exchanges = refl
 
 module _ {P : Type 0} (m : Device P) where
   abbrev pub tallies_none : {E R : Type 0} (d : Dialog E R) (At : ℕ → P → Type 0) (p : P) (exchanges : List Exchange)
