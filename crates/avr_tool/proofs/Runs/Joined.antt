@@ -18,10 +18,10 @@ use Rattle.stk_host.specs.Transcript.{LinkState, Transcript, heard, Grows}
 use Rattle.stk_host.specs.Tape.{Tape}
 use Rattle.stk_host.proofs.Transcripts.Laws.{grows_none}
 use Rattle.avr_session.specs.Run.{RunsSession, RunsSettings, StopsSession}
-use Rattle.avr_session.specs.Runs.{Devices, devices, Cause, StopsAt, NotWritten, FileFailed, AllocationFailed, ReportsCause, cause_line}
+use Rattle.avr_session.specs.Runs.{Devices, devices, Cause, StopsAt, NotWritten, FileFailed, ReportsCause, cause_line}
 use Rattle.avr_session.specs.Session.{session}
 use Rattle.avr_session.specs.Stopping.{RanToStatus}
-use Rattle.avr_tool.specs.Headline.{run, run_after_planning, FitsNext, IsInTurn, IsRun, IsPrefixOfRun, Reason, StopsAtAllocation, StopsThere, InSession, InPlanning, stop_line, StoppedInSession, StoppedPlanning, IsStopped}
+use Rattle.avr_tool.specs.Headline.{run, run_after_planning, FitsNext, IsInTurn, IsRun, IsPrefixOfRun, Reason, StopsThere, InSession, InPlanning, stop_line, StoppedInSession, StoppedPlanning, IsStopped}
 
 pub emitted_outputs : (output_events : List OutputEvent) (events : List (Event OutputEvent))
     → outputs (map Emitted output_events ++ events) ≡ output_events ++ outputs events
