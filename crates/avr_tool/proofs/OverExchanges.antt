@@ -1,5 +1,5 @@
 -- A session that went along exchanges: `OverExchanges` and `EndsOverExchanges` hold of it.
-use Rattle.std.proofs.Common.{◌≡◌, ℕ, List, All, length, sym, subst, rules}
+use Rattle.std.proofs.Common.{◌≡◌, ℕ, List, All, length, subst, rules}
 use Rattle.avr_desk.specs.OutputEvents.{OutputEvent}
 use Rattle.avr_part.specs.Part.{IsPart}
 use Rattle.avr_part.specs.Sound.{IsSoundChip}
@@ -72,10 +72,7 @@ module _ (plan : Plan) (begun : Programmer) (is_sound : IsSoundChip begun.chip) 
         → OverExchanges plan begun q exchanges bytes
     over_exchanges tape prefix =
         let made = session_makes plan its_part fitted before its_sizes begun exchanges is_idle in
-        record {
-          write_operations = search rules;
-          four = search (rules, prefix_weighs, asks, session_weighs);
-        }
+        record { write_operations = search rules; four = search (rules, prefix_weighs, asks, session_weighs) }
 
     module _ (output_events : List OutputEvent) (status : ℕ)
         (comes : (state_after device (length (frames bytes)) (session plan) begun exchanges).dialog ≡ Done status)
@@ -88,9 +85,8 @@ module _ (plan : Plan) (begun : Programmer) (is_sound : IsSoundChip begun.chip) 
       has_expected c = search rules
 
       is_done : status ≡ 0 → IsDone plan before after
-      is_done zero = subst (λ (r : Programmer). IsDone plan before (memories_of r.chip)) (sym stands)
-          ((session_leaves plan its_part real before its_sizes fitted signs works begun exchanges is_idle).after count
-          status comes zero)
+      is_done zero = rw stands ((session_leaves plan its_part real before its_sizes fitted signs works begun exchanges
+          is_idle).after count status comes zero)
 
       pub ends_over_exchanges : EndsOverExchanges plan before after exchanges output_events status
       ends_over_exchanges = record {

@@ -5,10 +5,10 @@ use Rattle.avr_desk.specs.Record.{Record, DeskState, Bytes, ChangesRecord, all_u
 use Rattle.avr_desk.specs.declared.desk.DeskFault.{DeskFault}
 use Rattle.avr_desk.specs.declared.desk.DeskFault.TheVariants.{NotFound, Failed}
 use Rattle.avr_desk.specs.declared.record.FileUse.{FileUse}
-use Rattle.avr_desk.specs.declared.record.FileUse.TheVariants.{Opened, Created}
+use Rattle.avr_desk.specs.declared.record.FileUse.TheVariants.{Opened}
 use Rattle.avr_desk.specs.declared.record.Open.{Open}
-use Rattle.avr_desk.specs.declared.record.Open.TheVariants.{Closed, ToRead, ToWrite}
-use Rattle.avr_desk.specs.declared.record.Opening.TheVariants.{Absent, Found}
+use Rattle.avr_desk.specs.declared.record.Open.TheVariants.{ToWrite}
+use Rattle.avr_desk.specs.declared.record.Opening.TheVariants.{Absent}
 use Rattle.avr_tool.specs.Noted.{Noted}
 use Rattle.avr_desk.specs.Stream.{SendsPart, SendsTaken}
 use Rattle.avr_desk.specs.declared.stream.Stream.TheVariants.{File}
@@ -22,11 +22,8 @@ reopened_append (first ∷ next ∷ uses) used = ap (λ x. (first ∷ x.0, x.1))
 
 -- nothing is lost
 rejoined : (uses : List FileUse) → (reopened uses).0 ++ use_of (reopened uses).1 ≡ uses
-rejoined [] = refl
-rejoined (Opened (Absent name) ∷ []) = refl
-rejoined (Opened (Found reading) ∷ []) = refl
-rejoined (Created writing ∷ []) = refl
 rejoined (first ∷ next ∷ uses) = ap (λ x. first ∷ x) (rejoined (next ∷ uses))
+rejoined uses = search rules
 
 -- what is shown has all uses, whether a file is open or not
 pub all_shown : (is_open : Bool) (n : Noted) (uses : List FileUse) (r : Record)
@@ -38,28 +35,17 @@ all_shown is_open n uses r = grind (arith, rejoined, append-nil)
 pub opened_shown : (name : Bytes) (opened : Result ⊤ DeskFault) (is_open : Bool) (n : Noted) (old new : Record)
     → new ≡ after_open name opened old → record_shown (open_after is_open opened) (all_uses new) n new
     ≡ after_open name opened (record_shown is_open (all_uses old) n old)
-opened_shown name (Ok done) is_open n old new is = rw (
-  is,
-  reopened_append (all_uses old) _,
-  append-nil (all_uses old),
-  all_shown is_open n (all_uses old) old,
-) refl
-opened_shown name (Err NotFound) is_open n old new is = rw (
-  is,
-  append-nil (all_uses old ++ Opened (Absent name) ∷ []),
-  all_shown is_open n (all_uses old) old,
-) refl
+opened_shown name (Ok done) is_open n old new is =
+    rw (is, reopened_append (all_uses old) _, append-nil (all_uses old), all_shown is_open n (all_uses old) old) refl
+opened_shown name (Err NotFound) is_open n old new is =
+    rw (is, append-nil (all_uses old ++ Opened (Absent name) ∷ []), all_shown is_open n (all_uses old) old) refl
 opened_shown name (Err Failed) is_open n old new is = rw is refl
 
 pub created_shown : (name : Bytes) (is_open : Bool) (n : Noted) (old new : Record)
     → new ≡ after_create name (Ok tt) old → record_shown true (all_uses new) n new
     ≡ after_create name (Ok tt) (record_shown is_open (all_uses old) n old)
-created_shown name is_open n old new is = rw (
-  is,
-  reopened_append (all_uses old) _,
-  append-nil (all_uses old),
-  all_shown is_open n (all_uses old) old,
-) refl
+created_shown name is_open n old new is =
+    rw (is, reopened_append (all_uses old) _, append-nil (all_uses old), all_shown is_open n (all_uses old) old) refl
 
 -- ---- reading
 
@@ -100,8 +86,7 @@ pub replaced_shown : (name bytes : Bytes) (is_open : Bool) (n m : Noted) (old ne
     → new ≡ with_written name bytes old
     → m ≡ record n { held = None; tried = n.tried ++ record { name = name; bytes = bytes } ∷ [] }
     → record_shown false (all_uses new) m new ≡ with_replaced name bytes (record_shown is_open (all_uses old) n old)
-replaced_shown name bytes is_open n m old new is notes =
-    rw (is, notes, all_shown is_open n (all_uses old) old) refl
+replaced_shown name bytes is_open n m old new is notes = rw (is, notes, all_shown is_open n (all_uses old) old) refl
 
 -- ---- the same for a desk that isn't broken, and has an open file where the call needs one
 
@@ -112,8 +97,7 @@ pub opened_kept : (name : Bytes) (opened : Result ⊤ DeskFault) (is_open is_bro
 opened_kept name opened is_open is_broken n old new sound is = grind (arith, opened_shown)
 
 pub created_kept : (name : Bytes) (is_open is_broken : Bool) (n : Noted) (old new : Record)
-    → is_broken ≡ false → new ≡ after_create name (Ok tt) old
-    → record_shown true (uses_shown is_broken new) n new
+    → is_broken ≡ false → new ≡ after_create name (Ok tt) old → record_shown true (uses_shown is_broken new) n new
     ≡ after_create name (Ok tt) (record_shown is_open (uses_shown is_broken old) n old)
 created_kept name is_open is_broken n old new sound is = rw sound (created_shown name is_open n old new is)
 
@@ -159,8 +143,7 @@ sends_kept view bytes done u inner has sends writes = sends_at bytes done u.is_o
 
 pub replaced_kept : (name key bytes : Bytes) (is_open is_broken : Bool) (n : Noted) (old mid new : DeskState)
     → key ≡ name → is_broken ≡ false → ChangesRecord (after_create name (Ok tt)) old mid
-    → ChangesRecord (after_write bytes) mid new
-    → record_shown false (uses_shown is_broken new.kept)
+    → ChangesRecord (after_write bytes) mid new → record_shown false (uses_shown is_broken new.kept)
     (record n { held = None; tried = n.tried ++ record { name = key; bytes = bytes } ∷ [] }) new.kept
     ≡ with_replaced name bytes (record_shown is_open (uses_shown is_broken old.kept) n old.kept)
 replaced_kept name key bytes is_open is_broken n old mid new same sound created written =

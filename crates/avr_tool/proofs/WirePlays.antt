@@ -99,12 +99,8 @@ module _ (plan : Plan) (w v : WiredState) (fresh : IsFresh w) (stays : Preserves
   pub whole_comes : RanToStatus (session plan) (devices (wired_link w) old) (devices (wired_link v) now) status
       → ComesWhole
   whole_comes whole =
-      let plays : Plays (session plan) start v.transcript whole.1.events status whole.0 =
-      search rules
-      in
-      let same : whole.1.events ≡ events_over plan v =
-      sym (ap (λ t. (played (session plan) 1 t).events) (sym (append-nil (heard v.transcript)))
-      ∙ ap (λ x. x.events) (plays.plays [])) in
+      let plays : Plays (session plan) start v.transcript whole.1.events status whole.0 = search rules in
+      let same : whole.1.events ≡ events_over plan v = search (rules, append-nil, plays.plays []) in
       let prefix = (first (inl whole)).1 in record {
         done = search (rules, whole_done, asks_bodies, keeps);
         emitted = ap outputs (sym same) ∙ whole_emitted (session plan) 1 begun w.wire.fates v asks_bodies fresh.lawful

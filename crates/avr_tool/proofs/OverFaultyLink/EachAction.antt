@@ -81,8 +81,7 @@ module _ (part : Part) (real : Real part) (s : Switches) (At : Memories → Spot
   pub record Passes : Type 0 where
     pub idle : (m : Memories) (z : Spot real.P) → At m z → HasMemories real m z.0
     pub calls : (action : Action) (m : Memories) (z : Spot real.P) → FitsAction part action → FitsPart part m
-        → AllWork real (action_steps part action) m → At m z
-        → Comes action m z
+        → AllWork real (action_steps part action) m → At m z → Comes action m z
     pub closes : (m : Memories) (z : Spot real.P) → At m z → Runs real.device (λ y. HasMemories real m y.0)
         (λ r y. HasMemories real m y.0 × ((r ≡ Ok tt) ⊎ (Fails × ((fault : StepFault) × (r ≡ Err (host_fault fault))))))
         closing z
@@ -99,13 +98,9 @@ module _ (part : Part) (sound : IsPart part) (real : Real part) (s : Switches) w
 
   -- an action that is a run of steps and the check of their data
   pub operation_comes : (action : Action) (m : Memories) → FitsAction part action → FitsPart part m
-      → AllWork real (action_steps part action) m → (p : real.P)
-      → Settled real m p → ComesAnyhow action m p
+      → AllWork real (action_steps part action) m → (p : real.P) → Settled real m p → ComesAnyhow action m p
   operation_comes action m fits f w p settled =
-      subst (λ d. Keeps real.device (Rests real (steps_of_items part (action_items action)) m) (AnyOutcome action m) d
-      p)
-      o.call_is
-      (wider (λ bytes q r. rests q r) (λ e q x. x) came
+      rw (← o.call_is) (wider (λ bytes q r. rests q r) (λ e q x. x) came
       (operation_goes part sound real (action_steps part action) m o.judge p o.are f w settled))
     where
       o : IsOperation part s action m
@@ -113,10 +108,7 @@ module _ (part : Part) (sound : IsPart part) (real : Real part) (s : Switches) w
 
       rests : (q : real.P) → Reached real (action_steps part action) m q
           → Rests real (steps_of_items part (action_items action)) m q
-      rests q r = record {
-        count = r.count;
-        stands = subst (λ z. HasMemories real z q) (o.some r.count) (settled_idle real _ q r.stands);
-      }
+      rests q r = record { count = r.count; stands = rw (← o.some r.count) (settled_idle real _ q r.stands) }
 
       came : (got : Result (Outcome action) HostFault) (q : real.P)
           → AfterCall part sound real (action_steps part action) m o.judge got q → AnyOutcome action m got q
@@ -125,8 +117,7 @@ module _ (part : Part) (sound : IsPart part) (real : Real part) (s : Switches) w
 
   -- the opening, with the part's own signature
   pub opening_comes : (m : Memories) → FitsPart part m → AllWork real signature_steps m → (p : real.P)
-      → HasMemories real m p
-      → ComesAnyhow OpenSession m p
+      → HasMemories real m p → ComesAnyhow OpenSession m p
   unfolding opening
   opening_comes m f w p idle =
       outcome_mapped (checked_by (signature_checked part.signature s.force))
@@ -135,11 +126,7 @@ module _ (part : Part) (sound : IsPart part) (real : Real part) (s : Switches) w
     where
       came : (o : StepOutcome) (q : real.P) → AfterBeginning real m o q
           → AnyOutcome OpenSession m (checked_by (signature_checked part.signature s.force) o) q
-      came (Ok found) q a = inl (
-        subst (λ x. checked_by (signature_checked part.signature s.force) (Ok x) ≡ Ok part.signature) (sym a.1)
-            (signature_taken part.signature s.force),
-        a.0,
-      )
+      came (Ok found) q a = inl (rw a.1 (signature_taken part.signature s.force), a.0)
       came (Err fault) q i = inr (tt, (fault, refl, rests_here real [] m q i))
 
 -- ---- their output
@@ -187,23 +174,15 @@ module _ (part : Part) (sound : IsPart part) (real : Real part) (s : Switches) (
         × FirstActionsOutput part s (action ∷ rest) m emitted)
         (AfterOne part real s At Fails action rest m) (action_dialog part s action) z
     action_prints z holds comes =
-        subst (λ d. Prints real.device True (λ emitted y. RestsIn real items m y × FirstActionsOutput part s (action
-        ∷ rest) m emitted) (AfterOne part real s At Fails action rest m) d z) (dialog_is part s action)
-        (prints_reported real.device True (outcome_output part s action) comes (λ y r. (r, none_done (action ∷ rest) m))
-        each)
+        rw (← dialog_is part s action) (prints_reported real.device True (outcome_output part s action) comes
+        (λ y r. (r, none_done (action ∷ rest) m)) each)
       where
         each : (got : Result (Outcome action) HostFault) (y : Spot real.P) → Came part real s At Fails action m got y
             → AllTrue True (outcome_output part s action got) y.0
             × AfterOne part real s At Fails action rest m (standing got) (outcome_output part s action got) y
         each got y (inl made) =
-            subst (λ x. AllTrue True (outcome_output part s action x) y.0
-            × AfterOne part real s At Fails action rest m (standing x) (outcome_output part s action x) y) (sym made.0) (
-              holds y.0 (real.has _ y.0 (pass.idle _ y made.1)),
-              (
-                rests_all real sound items m y.0 fits f (pass.idle _ y made.1),
-                inl (record { stands = refl; output_events_are = refl; left = made.1 }),
-              ),
-            )
+            let idle = pass.idle _ y made.1 in
+            rw made.0 (search (rules, holds y.0 (real.has _ y.0 idle), rests_all real sound items m y.0 fits f idle))
         each got y (inr broke) =
             let fault = broke.1.0 in
             let line : outcome_output part s action got ≡ fault_output part fault =
@@ -211,17 +190,7 @@ module _ (part : Part) (sound : IsPart part) (real : Real part) (s : Switches) (
               subst (λ x. AllTrue True x y.0) (sym line) (fault_true fault y.0),
               (
                 broke.1.2,
-                inr (record {
-                  fails = broke.0;
-                  faulty = subst (λ x. standing x ≡ NoFault → ⊥) (sym broke.1.1)
-                      (after_fault (Outcome action) (λ at. at ≡ NoFault → ⊥) (host_fault fault) faulty_fine over_fine);
-                  line = record {
-                    before_fault = [];
-                    first = none_done (action ∷ rest) m;
-                    fault = fault;
-                    output_events_are = line;
-                  };
-                }),
+                inr (search (rules, after_fault, faulty_fine, over_fine, none_done (action ∷ rest) m)),
               ),
             )
 
@@ -259,12 +228,7 @@ module _ (part : Part) (sound : IsPart part) (real : Real part) (s : Switches) (
             inr (record {
               fails = broken.fails;
               faulty = broken.faulty;
-              line = record {
-                before_fault = emitted ++ line.before_fault;
-                first = first_behind line.before_fault line.first;
-                fault = line.fault;
-                output_events_are = search (rules, append_assoc);
-              };
+              line = search (rules, first_behind line.before_fault line.first, append_assoc);
             }),
           )
 
@@ -283,18 +247,12 @@ module _ (part : Part) (sound : IsPart part) (real : Real part) (s : Switches) (
             (unless_fault (actions_dialog part s rest) at) y
         on NoFault emitted y (r, inl own) =
             prints_wider real.device True
-            (λ x v now. (
-              rests_later emitted own.output_events_are own.stands v now.0,
-              first_behind emitted own.output_events_are own.stands x now.1,
-            ))
+            (λ x v now. search (rules, rests_later, first_behind))
             (after_behind emitted own.output_events_are own.stands) (more y own.left)
         on NoFault emitted y (r, inr broken) = absurd (broken.faulty refl)
         on at emitted y (r, inl own) =
-            stops real.device True (After part real s At Fails (action ∷ rest) m) at emitted y (
-              before y r,
-              inl (subst (λ x. Own part real s At Fails x at emitted y)
-                  (sym (goes_as (actions_expected part s rest) at own.stands)) own),
-            )
+            stops real.device True (After part real s At Fails (action ∷ rest) m) at emitted y
+            (before y r, inl (rw (goes_as (actions_expected part s rest) at own.stands) own))
         on at emitted y (r, inr broken) =
             stops real.device True (After part real s At Fails (action ∷ rest) m) at emitted y (before y r, inr broken)
 

@@ -1,5 +1,5 @@
 -- The memories after some first steps of items, and after items one after another.
-use Rattle.std.proofs.Common.{◌≡◌, ℕ, zero, suc, ◌+◌, ◌≤◌, List, [], ◌∷◌, ◌++◌, length, refl, sym, ap, ◌∙◌, subst, append_assoc, arith, rules}
+use Rattle.std.proofs.Common.{◌≡◌, ℕ, suc, ◌+◌, ◌≤◌, List, [], ◌∷◌, ◌++◌, length, refl, ap, ◌∙◌, append_assoc, arith, rules}
 use Rattle.std.specs.Prelude.{min}
 use Rattle.avr_part.specs.declared.part.Mem.{Mem}
 use Rattle.avr_part.specs.declared.part.Mem.TheVariants.{Flash}
@@ -23,20 +23,18 @@ pub record Rests {part : Part} (real : Real part) (steps : List (List Command)) 
 -- a count past the last step changes nothing more
 pub changed_min : (part : Part) (count : ℕ) (steps : List (List Command)) (m : Memories)
     → memories_after_steps part (min count (length steps)) steps m ≡ memories_after_steps part count steps m
-changed_min part zero steps m = search rules
-changed_min part (suc count) [] m = search rules
 changed_min part (suc count) (commands ∷ steps) m =
     ap (λ n. memories_after_steps part n (commands ∷ steps) m)
     (let e : min (suc count) (suc (length steps)) ≡ suc (min count (length steps)) = omega arith in e)
     ∙ changed_min part count steps (memories_after_step part commands m)
+changed_min part count steps m = search rules
 
 -- the first steps of a list are the first of a longer one
 pub changed_prefix : (part : Part) (count : ℕ) (xs ys : List (List Command)) (m : Memories) → count ≤ length xs
     → memories_after_steps part count (xs ++ ys) m ≡ memories_after_steps part count xs m
-changed_prefix part zero xs ys m few = refl
-changed_prefix part (suc count) [] ys m few = absurd (omega (arith, few))
 changed_prefix part (suc count) (commands ∷ xs) ys m few =
     changed_prefix part count xs ys (memories_after_step part commands m) (omega (arith, few))
+changed_prefix part count xs ys m few = search rules
 
 -- all these steps, and some of the next
 pub changed_behind : (part : Part) (count : ℕ) (xs ys : List (List Command)) (m : Memories)
@@ -75,11 +73,10 @@ module _ {part : Part} (real : Real part) where
   pub rests_before : (xs ys : List Item) (m : Memories) (q : real.P) → Rests real (steps_of_items part xs) m q
       → Rests real (steps_of_items part (xs ++ ys)) m q
   rests_before xs ys m q r =
-      let steps = steps_of_items part xs in
-      subst (λ all. Rests real all m q) (sym (all_on part xs ys)) (record {
-        count = min r.count (length steps);
-        stands = search (rules, changed_prefix, changed_min);
-      })
+      record {
+        count = min r.count (length (steps_of_items part xs));
+        stands = search (rules, all_on, changed_prefix, changed_min);
+      }
 
   pub rests_all : (sound : IsPart part) (items : List Item) (m : Memories) (q : real.P) → ItemsFit part items
       → FitsPart part m → HasMemories real (effects part items m) q → Rests real (steps_of_items part items) m q
@@ -90,11 +87,10 @@ module _ {part : Part} (real : Real part) where
       → FitsPart part m → Rests real (steps_of_items part ys) (effects part xs m) q
       → Rests real (steps_of_items part (xs ++ ys)) m q
   rests_behind sound xs ys m q fits f r =
-      let steps = steps_of_items part xs in
-      subst (λ all. Rests real all m q) (sym (all_on part xs ys)) (record {
-        count = r.count + length steps;
-        stands = search (rules, changed_behind, all_changed part sound);
-      })
+      record {
+        count = r.count + length (steps_of_items part xs);
+        stands = search (rules, all_on, changed_behind, all_changed part sound);
+      }
 
 -- steps that write nothing
 abbrev IsQuiet : List Command → Type 0
@@ -105,9 +101,8 @@ AreQuiet steps = Each IsQuiet steps
 
 pub quiet_stays : (part : Part) (count : ℕ) (steps : List (List Command)) (m : Memories) → AreQuiet steps
     → memories_after_steps part count steps m ≡ m
-quiet_stays part zero steps m quiet = refl
-quiet_stays part (suc count) [] m quiet = refl
 quiet_stays part (suc count) (commands ∷ steps) m quiet = search (rules, quiet_stays part count steps m quiet.1)
+quiet_stays part count steps m quiet = search rules
 
 -- reading writes nothing
 pub read_quiet : (part : Part) (mem : Mem) → AreQuiet (read_steps part mem)

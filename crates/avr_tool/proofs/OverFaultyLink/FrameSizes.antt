@@ -15,8 +15,8 @@ use Rattle.avr_tool.proofs.WriteOperations.Items.{write_are_steps, read_are_step
 use Rattle.avr_session.specs.Actions.{Action}
 use Rattle.avr_session.specs.Session.{session}
 use Rattle.avr_tool.specs.OverFaultyLink.{Weight, total_weight, bodies_in}
-use Rattle.avr_session.specs.PlanSteps.{action_steps, actions_steps}
-use Rattle.avr_tool.proofs.Plans.Fits.{FitsAction, AllFitActions, work_fits}
+use Rattle.avr_session.specs.PlanSteps.{actions_steps}
+use Rattle.avr_tool.proofs.Plans.Fits.{AllFitActions, work_fits}
 use Rattle.avr_tool.proofs.Bounds.Weights.{WeighsAtMost, weighed_append, session_weighs}
 
 abbrev unsendable : Weight

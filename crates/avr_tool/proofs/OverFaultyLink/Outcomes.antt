@@ -18,7 +18,6 @@ use Rattle.avr_tool.proofs.Hosts.OneLink.{Spot, on_link}
 use Rattle.avr_tool.proofs.Hosts.Outputs.{Anything, Prints, Printed, any_outputs, at_moment}
 use Rattle.avr_tool.proofs.Leads.{Leads}
 use Rattle.avr_tool.proofs.Memories.ExpectedAgrees.{expected_status, expected_memories}
-use Rattle.avr_tool.proofs.Plans.Calls.{outcome_of, outcome_output}
 use Rattle.avr_tool.proofs.Plans.Fits.{work}
 use Rattle.avr_tool.specs.Items.{action_items}
 use Rattle.avr_tool.specs.Outcome.{HasFirstOperations, IsDone, IsExpectedRun}
@@ -28,10 +27,8 @@ module _ (plan : Plan) (sound : IsPart plan.part) (real : Real plan.part) (befor
     (works : ActionsWork real (work plan) before) where
   anything : (actions : List Action) (m : Memories) → ActionsTrue plan.part real plan.switches Anything actions m
   anything [] m = tt
-  anything (action ∷ actions) m = (
-    λ q is. any_outputs (outcome_output plan.part plan.switches action (outcome_of plan.part action m)) q,
-    anything actions (effects plan.part (action_items action) m),
-  )
+  anything (action ∷ actions) m =
+      (λ q is. any_outputs _ q, anything actions (effects plan.part (action_items action) m))
 
   -- over any link, or if no step fails
   pub session_passes : (At : Memories → Spot real.P → Type 0) (Fails : Type 0)
@@ -41,8 +38,7 @@ module _ (plan : Plan) (sound : IsPart plan.part) (real : Real plan.part) (befor
   session_passes At Fails pass z opened =
       session_prints plan sound real fitted Anything (λ fault q. any_outputs (fault_output plan.part fault) q)
       (λ q. any_outputs (closing_output plan.switches.quiet plan.part (Ok tt)) q) At Fails pass before sizes works
-      (λ q is. any_outputs (outcome_output plan.part plan.switches OpenSession (outcome_of plan.part OpenSession before)) q)
-      (anything (work plan) before) z opened
+      (λ q is. any_outputs _ q) (anything (work plan) before) z opened
 
   module _ (p : real.P) (exchanges : List Exchange) (idle : HasMemories real before p) where
     pub session_along : (k : ℕ)

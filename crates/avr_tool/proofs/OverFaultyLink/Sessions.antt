@@ -1,5 +1,5 @@
 -- A session over one link, from its opening to its end: its output, its status, and what it leaves.
-use Rattle.std.proofs.Common.{◌≡◌, ℕ, List, [], ◌++◌, refl, sym, ap, ◌∙◌, subst, inl, inr, ◌⊎◌, Ok, Err, Result, All, rules}
+use Rattle.std.proofs.Common.{◌≡◌, ℕ, List, [], ◌++◌, refl, sym, ◌∙◌, subst, inl, inr, ◌⊎◌, Ok, Err, Result, All, rules}
 use Rattle.std.proofs.lemmas.List.{append-nil}
 use Rattle.std.specs.Prelude.{⊤}
 use Rattle.avr_plan.specs.declared.settings.Switches.{Switches}
@@ -36,13 +36,7 @@ anyhow part sound real s = record {
   idle = λ m z t. settled_idle real m z.0 t;
   calls = λ action m z fits f w t. on_link real.device (operation_comes part sound real s action m fits f w z.0 t);
   closes = λ m z t.
-      wider (λ bytes y i. i) (λ e y x. x) (λ r y x. (
-        x.0,
-        elim x.1 [
-          | inl ok ↦ inl ok
-          | inr broke ↦ inr (tt, broke)
-        ],
-      )) (on_link real.device
+      wider (λ bytes y i. i) (λ e y x. x) (λ r y x. search rules) (on_link real.device
       (closing_goes real.device (HasMemories real m) (real.leaves m) z.0 (settled_idle real m z.0 t)));
 }
 
@@ -57,8 +51,7 @@ module _ (plan : Plan) (real : Real plan.part) (m : Memories) where
       ⊎ (Fails × (OutputToFault plan.part plan.switches (actions plan) m emitted × (status ≡ 1))))
 
   pub at_last : (Fails : Type 0) (status : ℕ) (emitted : List OutputEvent) (y : Spot real.P)
-      → AtEnd Fails status emitted y
-      → AtMoment emitted y
+      → AtEnd Fails status emitted y → AtMoment emitted y
   at_last Fails status emitted y ended = search rules
 
 module _ (plan : Plan) (sound : IsPart plan.part) (real : Real plan.part) (fitted : All (IsFitted plan.part) plan.tasks)
@@ -107,38 +100,10 @@ module _ (plan : Plan) (sound : IsPart plan.part) (real : Real plan.part) (fitte
 
     closed : (r : Result ⊤ HostFault) (z : Spot real.P) → HasMemories real w.memories z.0
         × ((r ≡ Ok tt) ⊎ (Fails × ((fault : StepFault) × (r ≡ Err (host_fault fault))))) → ReportedAs r z
-    closed r z (i, inl ok) = subst (λ x. ReportedAs x z) (sym ok) (
-      done_true z.0,
-      (
-        left z i,
-        inl (record {
-          emitted = ap (λ xs. xs ++ closing_output s.quiet part (Ok tt)) own.output_events_are
-              ∙ sym (ap (λ t. w.output_events ++ ending_output plan t) own.stands);
-          status_is = sym (ap status_of own.stands);
-          memories = real.has w.memories z.0 i;
-        }),
-      ),
-    )
+    closed r z (i, inl ok) = rw ok (done_true z.0, (left z i, inl (search (rules, real.has w.memories z.0 i))))
     closed r z (i, inr broke) =
-        let fault = broke.1.0 in
-        subst (λ x. ReportedAs x z) (sym broke.1.1) (
-          fault_true fault z.0,
-          (
-            left z i,
-            inr (
-              broke.0,
-              (
-                record {
-                  before_fault = emitted;
-                  first = all_done emitted own.output_events_are own.stands;
-                  fault = fault;
-                  output_events_are = refl;
-                },
-                (search rules),
-              ),
-            ),
-          ),
-        )
+        let done = all_done emitted own.output_events_are own.stands in
+        rw broke.1.1 (fault_true broke.1.0 z.0, (left z i, inr (broke.0, search (rules, done))))
 
   with_fault : (at : Standing) (emitted : List OutputEvent) (y z : Spot real.P) → ending_output plan at ≡ []
       → status_of at ≡ 1
@@ -176,8 +141,7 @@ module _ (plan : Plan) (sound : IsPart plan.part) (real : Real plan.part) (fitte
   ending_prints Over emitted y after = search (rules, with_fault Over emitted y y refl refl after refl)
 
   pub session_prints : ActionTrue part real s True OpenSession m → ActionsTrue part real s True (work plan) m
-      → (z : Spot real.P)
-      → Comes part real s At Fails OpenSession m z
+      → (z : Spot real.P) → Comes part real s At Fails OpenSession m z
       → Prints real.device True (AtMoment plan real m) (AtEnd plan real m Fails) (session plan) z
   unfolding session
   session_prints opening_true work_true z opened =

@@ -1,12 +1,12 @@
 -- A session makes the write operations of its plan in order.
-use Rattle.std.proofs.Common.{◌≡◌, ℕ, ◌+◌, ◌-◌, List, [], ◌∷◌, take, refl, ap, ◌∙◌, subst, arith, inl, inr, Result, rules}
+use Rattle.std.proofs.Common.{◌≡◌, ℕ, ◌+◌, ◌-◌, List, [], ◌∷◌, take, refl, ap, ◌∙◌, subst, inr, Result, rules}
 use Rattle.std.specs.Prelude.{All, ⊤}
 use Rattle.avr_plan.specs.declared.settings.Switches.{Switches}
 use Rattle.avr_desk.specs.OutputEvents.{OutputEvent}
 use Rattle.avr_part.specs.Part.{Part, IsPart}
 use Rattle.avr_plan.specs.Plan.{Plan, IsFitted}
 use Rattle.stk_host.specs.declared.fault.HostFault.{HostFault}
-use Rattle.stk_host.specs.Dialog.{Dialog, Done, ◌>>=◌}
+use Rattle.stk_host.specs.Dialog.{Dialog, Done}
 use Rattle.stk_host.specs.Operations.{closing}
 use Rattle.stk_host.specs.ReadSteps.{signature_steps}
 use Rattle.stk_emu.specs.Exchange.{Exchange}
@@ -39,7 +39,7 @@ use Rattle.avr_tool.proofs.Hosts.Operations.{along_reported, closing_goes}
 use Rattle.avr_tool.proofs.Hosts.OneLink.{Spot, on_link}
 use Rattle.avr_tool.proofs.Hosts.Outputs.{Anything, Prints, any_outputs, stops, at_moment, prints_reported, prints_then, prints_wider}
 use Rattle.avr_tool.proofs.WriteOperations.Steps.{leave_fits}
-use Rattle.avr_tool.proofs.Plans.Calls.{outcome_of, outcome_output, dialog_is, is_operation}
+use Rattle.avr_tool.proofs.Plans.Calls.{outcome_output, dialog_is, is_operation}
 use Rattle.stk_emu.proofs.Replies.Commands.{settled_idle}
 use Rattle.avr_tool.proofs.OverFaultyLink.WriteOperations.{Changed, Makes, makes_none, makes_items, makes_then}
 
@@ -58,10 +58,8 @@ module _ (part : Part) (sound : IsPart part) (s : Switches) where
       m) (λ at q. at ≡ NoFault → Settled part (effects part (action_items action) m) q)
   action_leads action m p exchanges fits f comes = record {
     during = λ k. (at_moment device Anything (λ at emitted z x. x.0) k prints).now;
-    after = λ k at e fine. elim ((at_moment device Anything (λ at emitted z x. x.0) k prints).after at e).1 [
-      | inl own ↦ own.left
-      | inr broken ↦ absurd (broken.faulty fine)
-    ];
+    after = λ k at e fine.
+        let ended = ((at_moment device Anything (λ at emitted z x. x.0) k prints).after at e).1 in search rules;
   }
     where
       prints : Prints device Anything (λ emitted z. Rests real (steps_of_items part (action_items action)) m z.0)
@@ -69,7 +67,7 @@ module _ (part : Part) (sound : IsPart part) (s : Switches) where
       prints = prints_wider device Anything (λ emitted z x. x.0) (λ at emitted z x. x)
           (action_prints part sound real s Anything (λ fault q. any_outputs (fault_output part fault) q)
           (λ m z. Settled part m z.0) ⊤ (anyhow part sound real s) action [] m fits f (p, exchanges)
-          (λ q is. any_outputs (outcome_output part s action (outcome_of part action m)) q) (on_link device comes))
+          (λ q is. any_outputs _ q) (on_link device comes))
 
   makes_written : (action : Action) (m : Memories) → FitsAction part action → FitsPart part m
       → action_steps part action ≡ steps_of_items part (action_items action)
@@ -99,9 +97,7 @@ module _ (part : Part) (sound : IsPart part) (s : Switches) where
   makes_each_action (action ∷ actions) m fits f p exchanges settled =
       let items = action_items action in
       let left = effects part items m in
-      makes_then part sound m items (actions_items actions) (action_dialog part s action)
-      (actions_dialog part s actions) (action_completed part action) (actions_completed part s actions) p exchanges
-      (action_items_fit part action fits.0) f
+      makes_then part sound m items _ _ _ _ _ p exchanges (action_items_fit part action fits.0) f
       (action_leads action m p exchanges (action_items_fit part action fits.0) f
       (operation_comes part sound real s action m fits.0 f (all_work part sound (action_steps part action) m) p
       settled))
@@ -114,8 +110,7 @@ module _ (part : Part) (sound : IsPart part) (s : Switches) where
     Kept d z = Prints device Anything (λ emitted y. HasMemories part m y.0) (λ at emitted y. HasMemories part m y.0) d z
 
     closing_keeps : (outcome_output : Result ⊤ HostFault → List OutputEvent) (z : Spot Programmer)
-        → HasMemories part m z.0
-        → Kept (reported closing outcome_output) z
+        → HasMemories part m z.0 → Kept (reported closing outcome_output) z
     closing_keeps outcome_output z i =
         prints_reported device Anything outcome_output
         (on_link device (closing_goes device (HasMemories part m) (leave_fits part m)
@@ -160,11 +155,7 @@ module _ (plan : Plan) (sound : IsPart plan.part) (fitted : All (IsFitted plan.p
       let keeps = ending_keeps part sound plan.switches before s (z.programmer, z.exchanges) changed.stands in
       record {
         rest = tallies_none device (ending part plan.switches s) (λ j. At (made + j)) z.programmer z.exchanges
-            (λ l. subst (λ i. At i (state_after device l (ending part plan.switches s) z.programmer
-            z.exchanges).programmer) (let same : made ≡ made + 0 = omega arith in same) (record {
-              few = changed.few;
-              stands = (at_moment device Anything (λ at emitted y i. i) l keeps).now;
-            }));
+            (λ l. let now = (at_moment device Anything (λ at emitted y i. i) l keeps).now in search rules);
         sharp = inr (λ l. refl);
       }
 
@@ -173,9 +164,8 @@ module _ (plan : Plan) (sound : IsPart plan.part) (fitted : All (IsFitted plan.p
       (λ j q. memories_of q.chip ≡ effects plan.part (take j (write_operations plan)) m) p exchanges
   unfolding session
   session_makes =
-      tallies_as device (session_dialog plan) (session_dialog plan >>= (λ t. Done (status_of t)))
-      (then_count device all_actions (operations_completed plan) (λ t. none_completed)) (operations_completed plan) At
-      (λ j q. memories_of q.chip ≡ effects plan.part (take j (write_operations plan)) m) p exchanges
+      tallies_as device (session_dialog plan) _
+      (then_count device all_actions (operations_completed plan) (λ t. none_completed)) _ At _ p exchanges
       (λ k. (search rules))
       (λ k j changed. ap (λ z. memories_of z.programmer.chip) (along_reported device k (session_dialog plan) status_of p
       exchanges) ∙ (changed.stands.memories ∙ items_counted plan.part (items plan) j m))

@@ -1,6 +1,6 @@
 -- The actions of a session, by the write operations that they make one after another.
 use Rattle.std.proofs.lemmas.Grind.{common_steps}
-use Rattle.std.proofs.Common.{◌≡◌, ℕ, zero, suc, ◌+◌, ◌-◌, ◌≤◌, List, [], ◌∷◌, ◌++◌, length, refl, sym, ap, ◌∙◌, subst, arith, inl, inr, Result, rules}
+use Rattle.std.proofs.Common.{◌≡◌, ℕ, zero, suc, ◌+◌, ◌-◌, ◌≤◌, List, [], ◌∷◌, ◌++◌, length, refl, sym, ap, ◌∙◌, arith, inl, inr, Result, rules}
 use Rattle.std.proofs.lemmas.List.{length-append}
 use Rattle.std.specs.Prelude.{min}
 use Rattle.avr_desk.specs.OutputEvents.{OutputEvent}
@@ -23,9 +23,9 @@ use Rattle.avr_tool.proofs.WriteOperations.Items.{ItemsFit}
 use Rattle.avr_tool.specs.Tallies.{Count, with_next, then_count, Tallies}
 use Rattle.avr_tool.proofs.Hosts.Attempts.{along_bind, along_next_dialog}
 use Rattle.avr_tool.proofs.Hosts.AnyExchange.{done_is}
-use Rattle.avr_tool.proofs.WriteOperations.Conditions.{along_before}
+use Rattle.avr_tool.proofs.WriteOperations.Conditions.{none_left, along_before}
 use Rattle.stk_emu.proofs.Replies.Commands.{settled_idle}
-use Rattle.avr_tool.proofs.WriteOperations.Counts.{tallies_none, tallies_as, tallies_bind, steps_all, tallies_play, none_left}
+use Rattle.avr_tool.proofs.WriteOperations.Counts.{tallies_none, tallies_as, tallies_bind, steps_all, tallies_play}
 use Rattle.avr_session.specs.Standing.{Standing, NoFault}
 use Rattle.avr_session.specs.Session.{reported, unless_fault}
 use Rattle.avr_tool.specs.Completed.{none_completed, completed_unless_fault, steps_completed}
@@ -47,21 +47,14 @@ pub record Makes (part : Part) (m : Memories) (items : List Item) (d : Dialog Ou
       → made k p exchanges ≡ length (steps_of_items part items)
 
 no_steps : (part : Part) (count : ℕ) (m : Memories) → memories_after_steps part count [] m ≡ m
-no_steps part zero m = refl
-no_steps part (suc count) m = refl
+no_steps part count m = search rules
 
 -- nothing is made if the memories stay
 pub makes_none : (part : Part) (sound : IsPart part) (m : Memories) (d : Dialog OutputEvent Standing) (p : Programmer)
     (exchanges : List Exchange) (After : Standing → Programmer → Type 0)
     → Leads device d p exchanges (Rests (emulated part sound) [] m) After → Makes part m [] d none_completed p exchanges
 makes_none part sound m d p exchanges After l = record {
-  tally = tallies_none device d (Changed part [] m) p exchanges (λ k.
-      let r = l.during k in
-      record {
-        few = omega arith;
-        stands = subst (λ z. HasMemories part z (state_after device k d p exchanges).programmer)
-            (no_steps part r.count m) r.stands;
-      });
+  tally = tallies_none device d (Changed part [] m) p exchanges (λ k. let r = l.during k in search (rules, no_steps));
   complete = λ k e. refl;
 }
 
@@ -101,18 +94,17 @@ module _ (part : Part) (sound : IsPart part) where
       none = let e = played.none in omega (arith, e);
       at_least = λ k. let l = played.at_least k in let most = steps_most steps k p exchanges in omega (arith, l, most);
       at_most = λ k. let l = played.at_most k in omega (arith, l);
-      stands = λ k. subst (Changed part items m (min (played.count k) (length steps))) (moved k)
-          (stands k (state_after device k (play steps []) p exchanges).programmer (played.stands k));
+      stands = λ k. rw (← moved k) (stands k _ (played.stands k));
     }
 
-    all_done : (k : ℕ) → (state_after device k notice p exchanges).dialog ≡ Done NoFault
-        → steps_completed device steps k p exchanges ≡ length steps
-    unfolding operation
-    all_done k e =
-        let got = reported_fine device judge outcome_output k (play steps []) p exchanges e in search (rules, steps_all)
-
     pub makes_items : Makes part m items notice (steps_completed device steps) p exchanges
-    makes_items = record { tally = reported_tally; complete = λ k e. all_done k e }
+    unfolding operation
+    makes_items = record {
+      tally = reported_tally;
+      complete = λ k e.
+          let got = reported_fine device judge outcome_output k (play steps []) p exchanges e in
+          search (rules, steps_all);
+    }
 
   size_on : (xs ys : List Item) → length (steps_of_items part (xs ++ ys))
       ≡ length (steps_of_items part xs) + length (steps_of_items part ys)
@@ -152,7 +144,7 @@ module _ (part : Part) (sound : IsPart part) where
 
     sharp : (k l : ℕ) → (state_after device k d p exchanges).dialog ≡ Done NoFault
         → (state_after device k d p exchanges).left ≡ suc l → first.tally.count k ≤ made (k - 1) p exchanges
-    sharp zero l e n = absurd (let z = none_left device d p exchanges in omega (arith, z, n))
+    sharp zero l e n = absurd (omega (arith, none_left device d p exchanges, n))
     sharp (suc k) l e n = search (rules, along_before device k l d p exchanges NoFault e n)
 
     abbrev GoesFrom : ℕ → Standing → Type 0
@@ -162,12 +154,10 @@ module _ (part : Part) (sound : IsPart part) where
     goes_fine : (k : ℕ) → (state_after device k d p exchanges).dialog ≡ Done NoFault
         → Settled part (effects part xs m) (state_after device k d p exchanges).programmer → GoesFrom k NoFault
     goes_fine k e settled =
-        let s = state_after device k d p exchanges in
         record {
-          rest = tallies_as device next next later later (Changed part ys (effects part xs m))
-              (λ j. At (first.tally.count k + j)) s.programmer s.exchanges (λ i. refl)
+          rest = tallies_as device next next later later (Changed part ys (effects part xs m)) _ _ _ (λ i. refl)
               (λ i j changed. changed_next xs ys m (first.tally.count k) j _ fits f (whole k e) changed)
-              (more s.programmer s.exchanges settled).tally;
+              (more _ _ settled).tally;
           sharp = inl (λ l n. sharp k l e n);
         }
 
@@ -177,19 +167,14 @@ module _ (part : Part) (sound : IsPart part) where
         let s = state_after device k d p exchanges in
         record {
           rest = tallies_none device (unless_fault next at) (λ j. At (first.tally.count k + j)) s.programmer s.exchanges
-              (λ l. subst (λ i. At i s.programmer)
-              (let e : first.tally.count k ≡ first.tally.count k + 0 = omega arith in e)
-              (changed_first xs ys m (first.tally.count k) s.programmer (first.tally.stands k)));
+              (λ l. search (rules, changed_first xs ys m (first.tally.count k) s.programmer (first.tally.stands k)));
           sharp = inr (λ l. refl);
         }
 
-    -- the write operations of the second action, as the first ones of both
-    abbrev among : Tallies device d made At p exchanges
-    among = tallies_as device d d made made (Changed part xs m) At p exchanges (λ k. refl)
-        (λ k j changed. changed_first xs ys m j (state_after device k d p exchanges).programmer changed) first.tally
-
     tally : Tallies device (d >>= unless_fault next) (then_count device d made after) At p exchanges
-    tally = tallies_bind device d (unless_fault next) made after At p exchanges among goes_on
+    tally = tallies_bind device d (unless_fault next) made after At p exchanges
+        (tallies_as device d d made made (Changed part xs m) At p exchanges (λ k. refl)
+        (λ k j changed. changed_first xs ys m j _ changed) first.tally) goes_on
 
     abbrev Ends : ℕ → Dialog OutputEvent Standing → Type 0
     Ends k x = let s = state_after device k d p exchanges in
@@ -212,6 +197,5 @@ module _ (part : Part) (sound : IsPart part) where
     pub makes_then : Makes part m (xs ++ ys) (d >>= unless_fault next) (then_count device d made after) p exchanges
     makes_then = record {
       tally = tally;
-      complete = λ k e. complete_from k (state_after device k d p exchanges).dialog refl
-          (sym (ap (λ z. z.dialog) (along_bind device k d (unless_fault next) p exchanges)) ∙ e);
+      complete = λ k e. complete_from k _ refl (rw (along_bind device k d (unless_fault next) p exchanges) at e);
     }

@@ -92,14 +92,9 @@ module _ (part : Part) where
       pub is_operation : (action : Action) → FitsAction part action → IsOperation action m
       unfolding operation play
       is_operation OpenSession fits = absurd fits
-      is_operation EraseChip fits = record {
-        judge = no_result;
-        call_is = refl;
-        are = item_are_steps part sound Erase tt;
-        some = λ count. refl;
-        all = refl;
-        gives = refl;
-      }
+      is_operation EraseChip fits =
+          let are = item_are_steps part sound Erase tt in
+          record { judge = no_result; call_is = refl; are = are; some = λ count. refl; all = refl; gives = refl }
       is_operation (WriteImage mem image) fits =
           let steps = write_steps part mem image in
           let size : length image ≤ size_of mem part = let same = fits.0 in omega (arith, same) in

@@ -3,26 +3,25 @@ use Rattle.std.proofs.Common.{◌≡◌, ℕ, ◌⊎◌, inl, inr, List, [], ◌
 use Rattle.avr_plan.specs.declared.settings.Settings.{Settings}
 use Rattle.avr_plan.specs.declared.update.Update.{Update}
 use Rattle.avr_desk.specs.Fault.{CountsNeverFall}
-use Rattle.avr_desk.specs.Record.{DeskState, Record, Bytes, after_err}
-use Rattle.avr_desk.specs.OutputEvents.{OutputEvent, PrintsLine, CreatesFile, IsPartOfEvent, IsBytePrefixOf, ReportsLineAs, after_events}
+use Rattle.avr_desk.specs.Record.{DeskState, Bytes}
+use Rattle.avr_desk.specs.OutputEvents.{OutputEvent, PrintsLine, CreatesFile, IsPartOfEvent, IsBytePrefixOf, ReportsLineAs}
 use Rattle.avr_desk.proofs.Stages.Outputs.{kept_append, after_append}
 use Rattle.avr_desk.proofs.Lines.ReportedAs.{follows_on, follows_same, same_on}
-use Rattle.avr_plan.specs.AllocationPoints.{AtAllocatingUpdate}
 use Rattle.avr_plan.specs.Plan.{Plan}
 use Rattle.avr_plan.specs.Planning.{planned}
 use Rattle.avr_desk.specs.declared.record.Opening.{Opening}
 use Rattle.stk_host.specs.Play.{IsPrefixOfEvents}
-use Rattle.avr_desk.specs.StageRuns.{AllocatesThere, StageCompleted, StageRefused, RestOfStage, BreakCause, LineNotPrinted, NotOpened, NotRead, NoMemory, ReportsBreakAs, events_of_break}
+use Rattle.avr_desk.specs.StageRuns.{StageCompleted, StageRefused, RestOfStage, BreakCause, LineNotPrinted, NoMemory, ReportsBreakAs}
 use Rattle.avr_desk.specs.Stage.{Produced, StageOutcome, StageResult, events_with_refusal}
 use Rattle.stk_host.specs.Dialog.{Event, Played, Emitted, played, prepend_events, bytes_sent, outputs}
 use Rattle.stk_host.specs.Transcript.{LinkState, Transcript, heard, Grows}
 use Rattle.stk_host.specs.Tape.{Tape}
 use Rattle.stk_host.proofs.Transcripts.Laws.{grows_none}
 use Rattle.avr_session.specs.Run.{RunsSession, RunsSettings, StopsSession}
-use Rattle.avr_session.specs.Runs.{Devices, devices, Cause, StopsAt, NotCreated, NotWritten, SendingFailed, ReceivingFailed, FileFailed, AllocationFailed, ReportsCause, cause_line}
+use Rattle.avr_session.specs.Runs.{Devices, devices, Cause, StopsAt, NotWritten, FileFailed, ReportsCause, cause_line}
 use Rattle.avr_session.specs.Session.{session}
 use Rattle.avr_session.specs.Stopping.{RanToStatus}
-use Rattle.avr_tool.specs.Headline.{run, run_after_planning, FitsNext, IsInTurn, IsRun, IsPrefixOfRun, Reason, StopsAtAllocation, StopsThere, InSession, InPlanning, stop_line, opened_at, StoppedInSession, StoppedPlanning, IsStopped}
+use Rattle.avr_tool.specs.Headline.{run, run_after_planning, FitsNext, IsInTurn, IsRun, IsPrefixOfRun, Reason, StopsThere, InSession, InPlanning, stop_line, StoppedInSession, StoppedPlanning, IsStopped}
 
 pub emitted_outputs : (output_events : List OutputEvent) (events : List (Event OutputEvent))
     → outputs (map Emitted output_events ++ events) ≡ output_events ++ outputs events
@@ -118,11 +117,6 @@ is_run settings x between y status (inl runs) = elim runs.runs [
 is_run settings x between y status (inr (lacks, same)) = search (rules, refused_whole)
 
 -- all that the desk did, in planning and then in the session
-shown_kept : (output_events : List OutputEvent) (shown : List (Event OutputEvent)) (notice : Bytes) (r s t : Record)
-    → s ≡ after_events output_events r → t ≡ after_err notice (after_events (outputs shown) s)
-    → t ≡ after_err notice (after_events (outputs (map Emitted output_events ++ shown) ++ []) r)
-shown_kept output_events shown notice r s t first then = search (rules, after_append, append-nil, emitted_outputs)
-
 -- what was reported is a part of the reason's line
 line_part : (line notice : Bytes) (x y : DeskState) → ReportsLineAs line notice x y → IsBytePrefixOf notice line
 line_part line notice x y is_reported = search (rules, append-nil)
@@ -137,8 +131,6 @@ cause_part has_reported cause notice x y is_reported = search (rules, line_part,
 break_part : (break : BreakCause) (notice : Bytes) (x y : DeskState)
     → ReportsBreakAs break notice x y → IsBytePrefixOf notice (stop_line (InPlanning break))
 break_part (LineNotPrinted line) notice x y is_reported = is_reported.0
-break_part (NotOpened name) notice x y is_reported = search (rules, line_part)
-break_part (NotRead name bytes) notice x y is_reported = search (rules, line_part)
 break_part break notice x y is_reported = search (rules, line_part)
 
 emitted_append : (whole later : List OutputEvent) (events : List (Event OutputEvent))
@@ -151,9 +143,6 @@ emitted_append (event ∷ whole) later events = ap (λ rest. Emitted event ∷ r
 -- in a session, behind what planning did
 same_place : (before whole begun later : List (Event OutputEvent)) (cause : Cause) (during : Transcript)
     → StopsAt cause during whole begun later → StopsAt cause during (before ++ whole) begun later
-same_place before whole begun later SendingFailed during place = place
-same_place before whole begun later ReceivingFailed during place = place
-same_place before whole begun later (FileFailed file NotCreated) during place = place
 same_place before whole begun later (FileFailed file NotWritten) during (inl place) = inl (
   (
     before ++ place.0.0,
@@ -188,21 +177,14 @@ module _ (settings : Settings) (x y : Devices) (stopped : StoppedPlanning settin
     begun = [];
     later = behind;
     shown_is = refl;
-    events_are = ap (λ (done : List OutputEvent). map Emitted done
-        ++ (run_after_planning (planned settings (stopped.broke.passed ++ openings)).stage_outcome []).events)
-        rest.output_events_are ∙ emitted_append stopped.broke.whole rest.later _;
+    events_are = rw rest.output_events_are (emitted_append stopped.broke.whole rest.later _);
     part = tt;
   }
 
   place_planned : FitsNext stopped.broke.break openings behind
   place_planned =
-      let outcome = (planned settings (stopped.broke.passed ++ openings)).stage_outcome in
-      let both = with_line [] rest.later outcome in
-      (events_with_refusal rest.later outcome, both.0, both.1, rest.broken)
-
-  taken_planned : AllocatesThere (AtAllocatingUpdate settings) stopped.broke.break stopped.broke.passed
-      (outputs (map Emitted stopped.broke.whole))
-  taken_planned = search (rules, emitted_whole)
+      let both = with_line [] rest.later (planned settings (stopped.broke.passed ++ openings)).stage_outcome in
+      (_, both.0, both.1, rest.broken)
 
 module _ (settings : Settings) (x y : Devices) (stopped : StoppedInSession settings x y) (openings : List Opening) where
   abbrev planned_events : List (Event OutputEvent)
@@ -240,19 +222,8 @@ stopped_prefix settings x y stopped = record {
   in_turn = λ later. search (rules, outcomes_equal, stopped.made.comes);
   all_sent = emitted_bytes stopped.made.output_events stopped.then_is.shown ∙ stopped.then_is.breaks.all_sent;
   grows = stopped.then_is.grows;
-  kept = shown_kept stopped.made.output_events stopped.then_is.shown stopped.then_is.notice x.desk.kept
-      stopped.between.kept y.desk.kept stopped.made.kept stopped.then_is.kept;
+  kept = search (rules, after_append, append-nil, emitted_outputs);
 }
-
-last_is : (break : BreakCause) (notice : Bytes) → events_of_break break notice ≡ opened_at (InPlanning break)
-    ++ PrintsLine notice ∷ []
-last_is break notice = search rules
-
-broken_kept : (whole : List OutputEvent) (break : BreakCause) (notice : Bytes) (r t : Record)
-    → t ≡ after_events (whole ++ events_of_break break notice) r
-    → t ≡ after_err notice (after_events (outputs (map Emitted whole ++ []) ++ opened_at (InPlanning break)) r)
-broken_kept whole break notice r t kept =
-    search (rules, last_is, append_assoc, after_append, emitted_outputs, append-nil)
 
 planned_prefix : (settings : Settings) (x y : Devices) → StoppedPlanning settings x y → IsPrefixOfRun settings x y
 planned_prefix settings x y stopped = record {
@@ -263,12 +234,11 @@ planned_prefix settings x y stopped = record {
   notice = stopped.broke.notice;
   reported_part = break_part stopped.broke.break stopped.broke.notice x.desk y.desk stopped.broke.is_reported;
   prefix = λ later. prefix_planned settings x y stopped later;
-  place = λ later. (refl, place_planned settings x y stopped later, taken_planned settings x y stopped later);
+  place = λ later. (refl, place_planned settings x y stopped later, search (rules, emitted_whole));
   in_turn = λ later. search rules;
   all_sent = emitted_bytes stopped.broke.whole [];
   grows = search (rules, grows_none);
-  kept = broken_kept stopped.broke.whole stopped.broke.break stopped.broke.notice x.desk.kept y.desk.kept
-      stopped.broke.kept;
+  kept = search (rules, append_assoc, after_append, emitted_outputs, append-nil);
 }
 
 pub stop_prefix : (settings : Settings) (x y : Devices) (status : ℕ) → IsStopped settings x y status
@@ -300,7 +270,4 @@ no_memory settings x y p because empty =
 -- the same openings and the same items received lead to one status
 pub one_status : (settings : Settings) (h i j k : Devices) (m n : ℕ) (x : IsRun settings h i m)
     (y : IsRun settings j k n) → x.openings ≡ y.openings → heard x.during ≡ heard y.during → m ≡ n
-one_status settings h i j k m n x y same alike =
-    let both : run settings (x.openings ++ []) (heard x.during ++ [])
-    ≡ run settings (y.openings ++ []) (heard y.during ++ []) =
-    search rules in search rules
+one_status settings h i j k m n x y same alike = let one = x.is [] [] in let other = y.is [] [] in search rules

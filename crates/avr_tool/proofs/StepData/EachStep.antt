@@ -5,9 +5,8 @@ use Rattle.std.proofs.lemmas.List.{length-take, length-drop, get_or-append_right
 use Rattle.avr_part.specs.declared.part.Mem.TheVariants.{Flash, Eeprom}
 use Rattle.avr_part.specs.Part.{Part, IsPart}
 use Rattle.stk_frame.specs.declared.command.Command.{Command}
-use Rattle.stk_frame.specs.declared.command.Fuse.{Fuse}
 use Rattle.stk_frame.specs.Commands.{body}
-use Rattle.stk_frame.specs.HostCommands.{program_page, program_eeprom_block, program_fuse, read_flash_block, read_eeprom_block, read_lock, read_signature, read_calibration}
+use Rattle.stk_frame.specs.HostCommands.{read_flash_block, read_eeprom_block}
 use Rattle.stk_host.specs.Tape.{Replied}
 use Rattle.stk_host.specs.Places.{flash_address, load_flash, load_eeprom}
 use Rattle.stk_host.specs.Steps.{Data, reply_from_reading}
@@ -17,7 +16,7 @@ use Rattle.stk_emu.specs.Programmer as programmer
 use Rattle.stk_emu.specs.Device.{Device, device}
 use Rattle.stk_emu.specs.Effect.{Memories, effect, effects, Item}
 use Rattle.stk_emu.specs.Settled.{Ready, FitsPart}
-use Rattle.stk_emu.specs.WriteOperations.{memories_after_step, write_operation_of, IsStep, Erases, ProgramsPage, ProgramsEepromRun, ProgramsFuse, ProgramsLock, ReadsFlash, ReadsEeprom, ReadsFuse, ReadsLock, ReadsSignature, ReadsCalibration, IsPage, FitsEepromPage, IsBlock, AreWords}
+use Rattle.stk_emu.specs.WriteOperations.{memories_after_step, write_operation_of, IsStep, Erases, ProgramsPage, ProgramsEepromRun, ProgramsFuse, ProgramsLock, ReadsFlash, ReadsEeprom, ReadsFuse, ReadsLock, ReadsSignature, ReadsCalibration, IsBlock, AreWords}
 use Rattle.stk_emu.specs.StepData.{data_of_step}
 use Rattle.avr_tool.proofs.Leads.{IsDataOfAttempt}
 use Rattle.stk_emu.proofs.Repeatable.{on_data, reply_to, joined_reply, Settled}
@@ -75,10 +74,8 @@ module _ (part : Part) (sound : IsPart part) where
       long most (flash_even part sound) (omega arith)
       (λ narrow. let size = ltb-false 131072 part.flash_size narrow in (s.extended size, size)) in
       let bytes = take count (drop start m.flash) in
-      let is : (flash_reads (is_wide part) 0x20 (start / 2) 0 count p.chip).0 ≡ bytes =
-      search rules in
-      joined_two device (load_flash part start) (read_flash_block count) p
-      (data_of_step part (load_flash part start ∷ read_flash_block count ∷ []) m)
+      let is : (flash_reads (is_wide part) 0x20 (start / 2) 0 count p.chip).0 ≡ bytes = search rules in
+      joined_two device (load_flash part start) (read_flash_block count) p _
       (load_reply (flash_address part start) p (address_fits part sound start few))
       (ap (reply_to device (read_flash_block count)) (flash_loaded_at part start p few)
       ∙ (search (rules, flash_read_reply, block_length, flash_address_back)))
@@ -95,10 +92,8 @@ module _ (part : Part) (sound : IsPart part) where
       let looked = eeprom_looked start 0 count part.eeprom_size p.chip (ap (λ (x : Part). x.eeprom_size) s.part_is) long
       most (omega arith) in
       let bytes = take count (drop start m.eeprom) in
-      let is : (eeprom_reads 0xA0 start 0 count p.chip).0 ≡ bytes =
-      search rules in
-      joined_two device (load_eeprom start) (read_eeprom_block count) p bytes
-      (load_reply start p (omega arith))
+      let is : (eeprom_reads 0xA0 start 0 count p.chip).0 ≡ bytes = search rules in
+      joined_two device (load_eeprom start) (read_eeprom_block count) p bytes (load_reply start p (omega arith))
       (ap (reply_to device (read_eeprom_block count)) (narrow_loaded start p (omega arith))
       ∙ eeprom_read_reply count bytes q s.mode is_block.some is_block.few is
       (block_length start count part.eeprom_size m.eeprom f.eeprom inside))
@@ -149,7 +144,5 @@ module _ (part : Part) (sound : IsPart part) where
           → joined_reply device commands [] q ≡ Data got
           → joined_reply device commands [] q ≡ Data (data_of_step part commands m)
       from_either q (inl t) has = search (rules, step_data, in_mode_by_data)
-      from_either q (inr t) has =
-          step_data part sound commands (memories_after_step part commands m) q is (changed_sizes part commands m sound
-          f) (settled_ready part (memories_after_step part commands m) q (in_mode_by_data part sound commands q got is
-          has) t) ∙ ap Data (data_stays commands m is)
+      from_either q (inr t) has = rw (← data_stays commands m is) (step_data part sound commands _ q is
+          (changed_sizes part commands m sound f) (search (rules, in_mode_by_data, settled_ready)))

@@ -1,14 +1,14 @@
 -- A reply that was found stays found if the tape grows, and what follows stays after it.
-use Rattle.std.proofs.Common.{◌≡◌, ℕ, zero, suc, ◌+◌, ◌<◌, ◌≤◌, List, [], ◌∷◌, ◌++◌, length, take, drop, refl, sym, ap, ap₂, ◌∙◌, subst, append_assoc, arith, min, length-append, inl, inr, Option, Some, None, rules}
+use Rattle.std.proofs.Common.{◌≡◌, ℕ, zero, suc, ◌+◌, ◌<◌, ◌≤◌, List, [], ◌∷◌, ◌++◌, length, take, drop, refl, sym, ap, ◌∙◌, append_assoc, arith, min, length-append, inl, inr, Option, Some, None, rules}
 use Rattle.std.proofs.lemmas.Bool.{leb-true, leb-false, cases_Bool, cond-true, cond-false}
 use Rattle.std.proofs.lemmas.List.{take_all, take-append-le, length-take}
 use Rattle.std.proofs.lemmas.Option.{none-some}
 use Rattle.std.specs.List.{concat}
 use Rattle.std.specs.Prelude.{nat_le as leb}
-use Rattle.stk_frame.specs.Cut.{cut, rest, body_of}
+use Rattle.stk_frame.specs.Cut.{cut, rest}
 use Rattle.stk_frame.proofs.Cuts.{cut_append, cut_joined}
 use Rattle.stk_host.specs.declared.link.Item.TheVariants.{Byte}
-use Rattle.stk_host.specs.Tape.{Tape, on_tape, leading_bytes, answer, reading_from_first, timeout_or_end, first_reply, is_reply, past_skipped, reply_byte_limit, Reading, Babbled}
+use Rattle.stk_host.specs.Tape.{Tape, on_tape, leading_bytes, answer, reading_from_first, timeout_or_end, first_reply, past_skipped, reply_byte_limit, Reading, Babbled}
 use Rattle.stk_host.proofs.Tapes.Readings.{reading_silent, reading_ended, first_reply_stays, drop_tape, reads_by}
 
 pub record Split (tape : Tape) : Type 0 where
@@ -32,9 +32,8 @@ take_more_bytes (suc n) [] z = (take (suc n) z, refl)
 take_more_bytes (suc n) (b ∷ x) z = let m = take_more_bytes n x z in (m.0, ap (λ bs. b ∷ bs) m.1)
 
 drop_more_tape : (n : ℕ) (t u : Tape) → n ≤ length t → drop n (t ++ u) ≡ drop n t ++ u
-drop_more_tape zero t u le = refl
-drop_more_tape (suc n) [] u le = absurd (omega arith)
 drop_more_tape (suc n) (i ∷ t) u le = drop_more_tape n t u (omega arith)
+drop_more_tape n t u le = search rules
 
 bytes_few : (t : Tape) → length (leading_bytes t) ≤ length t
 bytes_few (Byte b ∷ t) = let l = bytes_few t in omega arith
@@ -52,9 +51,8 @@ used_within seq (piece ∷ pieces) body used e =
 
 used_few : (seq : ℕ) (x body : List ℕ) (used : ℕ) → first_reply seq (cut x) ≡ Some (body, used) → used ≤ length x
 used_few seq x body used e =
-    let joined : length (concat (cut x)) + length (rest x) ≡ length x =
-    sym (length-append (concat (cut x)) (rest x)) ∙ ap length (cut_joined x) in
-    let few = used_within seq (cut x) body used e in search rules
+    let few = used_within seq (cut x) body used e in
+    omega (arith, few, length-append (concat (cut x)) (rest x), ap length (cut_joined x))
 
 some_tape : (a b : Reading) (s t : Tape) → ◌≡◌ {A = Option (Reading × Tape)} (Some (a, s)) (Some (b, t))
     → (a ≡ b) × (s ≡ t)
@@ -78,10 +76,8 @@ reading_longer seq t u (Some (body, used)) reading left found e =
     let b : length x ≤ length (leading_bytes t) = simp length-take (omega arith) in
     let c : length (leading_bytes t) ≤ length t = bytes_few t in
     reads_by seq (t ++ u) (x ++ y.0) bytes
-    ∙ (ap (λ o. reading_from_first o (x ++ y.0) (t ++ u))
-    (ap (first_reply seq) (cut_append x y.0)
-    ∙ first_reply_stays seq (cut x) (cut (rest x ++ y.0)) (body, used) found)
-    ∙ (search (rules, drop_more_tape)))
+    ∙ rw (cut_append x y.0, first_reply_stays seq (cut x) (cut (rest x ++ y.0)) (body, used) found)
+    (search (rules, drop_more_tape))
 reading_longer seq t u None reading left none e =
     let x : List ℕ = take reply_byte_limit (leading_bytes t) in
     let l : length x ≡ min reply_byte_limit (length (leading_bytes t)) =
@@ -96,22 +92,16 @@ reading_longer seq t u None reading left none e =
           let f = some_tape Babbled reading (drop reply_byte_limit t) left
           (search rules) in
           reads_by seq (t ++ u) x bytes
-          ∙ (ap (λ o. reading_from_first o x (t ++ u)) none
-          ∙ (cond-true (leb reply_byte_limit (length x)) (Some (Babbled, drop reply_byte_limit (t ++ u)))
-          (timeout_or_end (drop (length x) (t ++ u))) full
-          ∙ (ap (λ r. Some (Babbled, r)) (drop_more_tape reply_byte_limit t u (omega arith))
-          ∙ ap₂ (λ r q. Some (r, q ++ u)) f.0 f.1)))
+          ∙ rw (none, full, drop_more_tape reply_byte_limit t u (omega arith), f.0, f.1) refl
       | inr few ↦
           let lt : length x < reply_byte_limit = leb-false reply_byte_limit (length x) few in
           let same : x ≡ leading_bytes t = take_all reply_byte_limit (leading_bytes t) (omega arith) in
           let s = split t in
-          let stop : timeout_or_end (drop (length x) t) ≡ Some (reading, left) =
-          search rules in
+          let stop : timeout_or_end (drop (length x) t) ≡ Some (reading, left) = search rules in
           let at : drop (length x) t ≡ s.tail = search (rules, drop_tape) in
           ap (λ w. answer seq (w ++ u)) s.is
-          ∙ stops_more seq (leading_bytes t) s.tail u reading left s.stops
-          (ap (λ y. first_reply seq (cut y)) (sym same) ∙ none) (subst (λ y. length y < reply_byte_limit) same lt)
-          (ap timeout_or_end (sym at) ∙ stop)
+          ∙ stops_more seq (leading_bytes t) s.tail u reading left s.stops (rw (← same) none) (rw (← same) lt)
+          (rw (← at) stop)
     ]
 
 pub reading_extends : (seq : ℕ) (t u : Tape) (reading : Reading) (left : Tape) → answer seq t ≡ Some (reading, left)

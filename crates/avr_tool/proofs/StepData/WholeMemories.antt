@@ -15,12 +15,8 @@ use Rattle.stk_emu.specs.StepData.{data_of_steps}
 block_join : (xs : List ℕ) (start size : ℕ) → length xs ≡ size
     → take (min 256 (size - start)) (drop start xs) ++ drop (start + 256) xs ≡ drop start xs
 block_join xs start size long =
-    let ys = drop start xs in
-    let left : size - start ≡ length ys = ap (λ n. n - start) (sym long) ∙ sym (length-drop start xs) in
-    ap (λ n. take (min 256 n) ys ++ drop (start + 256) xs) left
-    ∙ (ap (λ zs. zs ++ drop (start + 256) xs) (take_min 256 ys)
-    ∙ (ap (λ zs. take 256 ys ++ zs) (sym (drop-drop 256 start xs))
-    ∙ take-append-drop 256 ys))
+    let left : size - start ≡ length (drop start xs) = ap (λ n. n - start) (sym long) ∙ sym (length-drop start xs) in
+    rw (left, take_min 256 (drop start xs), ← drop-drop 256 start xs) (take-append-drop 256 (drop start xs))
 
 pub one_by_one : (xs : List ℕ) → length xs ≡ 3
     → take 1 (drop 0 xs) ++ (take 1 (drop 1 xs) ++ (take 1 (drop 2 xs) ++ [])) ≡ xs

@@ -1,11 +1,10 @@
 -- The calls of a host over exchanges that are sure: each has all its data, and only the faults that these data give.
-use Rattle.std.proofs.Common.{ℕ, List, [], ◌∷◌, length, refl, subst, arith, inl, Bool, Ok, rules}
+use Rattle.std.proofs.Common.{ℕ, List, [], ◌∷◌, refl, subst, arith, inl, Bool, Ok, rules}
 use Rattle.avr_plan.specs.declared.settings.Switches.{Switches}
 use Rattle.avr_part.specs.declared.part.Mem.TheVariants.{Signature}
 use Rattle.avr_part.specs.Part.{Part, IsPart}
 use Rattle.avr_session.specs.Actions.{Action, OpenSession}
 use Rattle.avr_session.specs.PlanSteps.{action_steps}
-use Rattle.stk_frame.specs.declared.command.Command.TheVariants.{SignOn}
 use Rattle.stk_frame.specs.HostCommands.{enter, leave}
 use Rattle.stk_host.proofs.Dialogs.Logic.{wider}
 use Rattle.stk_host.specs.Dialog.{Dialog, ◌>>=◌}
@@ -18,7 +17,6 @@ use Rattle.stk_emu.specs.Device.{device}
 use Rattle.stk_emu.specs.Programmer.{Programmer}
 use Rattle.stk_emu.specs.Effect.{Memories, effects}
 use Rattle.stk_emu.specs.StepData.{data_of_steps}
-use Rattle.avr_tool.proofs.Leads.{memories_after_steps}
 use Rattle.stk_emu.specs.Settled.{HasMemories, Ready, FitsPart}
 use Rattle.stk_emu.specs.Exchange.{Exchange}
 use Rattle.avr_tool.proofs.Emulated.{all_work, emulated}
@@ -43,27 +41,18 @@ module _ (Such : List Exchange → Type 0) (sure : IsSure Such) where
     operation_brings s action fits =
         let o = is_operation part s sound m f action fits in
         let steps = action_steps part action in
-        subst (λ d. Brings Such (Ready part m) d (outcome_of part action m)
-        (Ready part (effects part (action_items action) m))) o.call_is
-        (subst (λ r. Brings Such (Ready part m) (host.operation steps o.judge) r
-        (Ready part (effects part (action_items action) m))) o.gives
-        (subst (λ left. Brings Such (Ready part m) (host.operation steps o.judge) (o.judge (data_of_steps part steps m))
-        (Ready part left)) o.all
-        (brings_reported Such (play steps []) (checked_by o.judge) (Ok (data_of_steps part steps m)) (Ready part m)
-        (Ready part (memories_after_steps part (length steps) steps m)) (brings_play part sound Such sure steps m []
-        o.are f))))
+        rw (← o.call_is, ← o.gives, ← o.all) (brings_reported Such (play steps []) (checked_by o.judge)
+        (Ok (data_of_steps part steps m)) _ _ (brings_play part sound Such sure steps m [] o.are f))
 
     handshake_brings : Brings Such (HasMemories part m) host.handshake (Ok part.signature) (Ready part m)
     unfolding host.handshake
     handshake_brings =
         let read : List ℕ → Dialog ⊥ StepOutcome = λ nothing. play signature_steps [] in
         let name : List ℕ = 0x53 ∷ 0x54 ∷ 0x4B ∷ 0x35 ∷ 0x30 ∷ 0x30 ∷ 0x5F ∷ 0x32 ∷ [] in
-        brings_bind Such (unless_step_fault (λ signed. step (enter ∷ []) >>= unless_step_fault read)) (Ok name)
-        (Ok part.signature) (HasMemories part m) (HasMemories part m) (Ready part m) (step (SignOn ∷ []))
-        (search (rules, sure, one_steady))
-        (brings_bind Such (unless_step_fault read) (Ok []) (Ok part.signature) (HasMemories part m) (Ready part m)
-        (Ready part m) (step (enter ∷ []))
-        (sure (enter ∷ []) [] (HasMemories part m) (Ready part m) (enter_ready part m) (omega arith) (λ q stands. refl))
+        brings_bind Such (unless_step_fault (λ signed. step (enter ∷ []) >>= unless_step_fault read)) (Ok name) _ _
+        (HasMemories part m) _ _ (search (rules, sure, one_steady))
+        (brings_bind Such (unless_step_fault read) (Ok []) _ _ (Ready part m) _ _
+        (sure (enter ∷ []) [] _ _ (enter_ready part m) (omega arith) (λ q stands. refl))
         (subst (λ bytes. Brings Such (Ready part m) (play signature_steps []) (Ok bytes) (Ready part m))
         (read_gives part sound m f Signature)
         (brings_play part sound Such sure signature_steps m [] (read_are_steps part sound Signature) f)))
@@ -73,17 +62,15 @@ module _ (Such : List Exchange → Type 0) (sure : IsSure Such) where
     unfolding host.opening
     opening_brings force =
         subst (λ r. Brings Such (HasMemories part m) (host.opening part.signature force) r (Ready part m))
-        (signature_taken part.signature force)
-        (brings_reported Such host.handshake (checked_by (signature_checked part.signature force)) (Ok part.signature)
-        (HasMemories part m) (Ready part m) handshake_brings)
+        (signature_taken part.signature force) (brings_reported Such host.handshake
+        (checked_by (signature_checked part.signature force)) (Ok part.signature) _ _ handshake_brings)
 
   closing_brings : (part : Part) (m : Memories) → Brings Such (HasMemories part m) host.closing (Ok tt)
       (HasMemories part m)
   unfolding host.closing
   closing_brings part m =
-      brings_reported Such (step (leave ∷ [])) (checked_by no_result) (Ok []) (HasMemories part m) (HasMemories part m)
-      (sure (leave ∷ []) [] (HasMemories part m) (HasMemories part m) (leave_steady part m) (omega arith)
-      (λ q stands. refl))
+      brings_reported Such _ (checked_by no_result) (Ok []) _ _
+      (sure (leave ∷ []) [] _ _ (leave_steady part m) (omega arith) (λ q stands. refl))
 
   -- ---- the calls of a session
 

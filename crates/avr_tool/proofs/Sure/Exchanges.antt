@@ -1,5 +1,5 @@
 -- Exchanges over which each step gives its data: then a run of steps gives all that they give.
-use Rattle.std.proofs.Common.{◌≡◌, ℕ, ◌≤◌, List, [], ◌∷◌, ◌++◌, length, sym, ap, ◌∙◌, subst, append_assoc, inl, inr, ◌⊎◌, Ok, rules}
+use Rattle.std.proofs.Common.{◌≡◌, ℕ, ◌≤◌, List, [], ◌∷◌, ◌++◌, length, sym, ap, ◌∙◌, append_assoc, inl, inr, ◌⊎◌, Ok, rules}
 use Rattle.std.proofs.lemmas.List.{append-nil}
 use Rattle.std.specs.Prelude.{⊤}
 use Rattle.avr_part.specs.Part.{Part, IsPart}
@@ -73,10 +73,6 @@ module _ (part : Part) (sound : IsPart part) where
     brings_play (commands ∷ steps) m before are f =
         let bytes = data_of_step part commands m in
         let after = memories_after_step part commands m in
-        let left = memories_after_steps part (length steps) steps after in
-        brings_bind Such (unless_step_fault (λ got. play steps (before ++ got))) (Ok bytes)
-        (Ok (before ++ data_of_steps part (commands ∷ steps) m)) (Ready part m) (Ready part after) (Ready part left)
-        (step commands) (brings_one commands m are.0 f)
-        (subst (λ x. Brings Such (Ready part after) (play steps (before ++ bytes)) (Ok x) (Ready part left))
-        (append_assoc before bytes (data_of_steps part steps after))
+        brings_bind Such (unless_step_fault (λ got. play steps (before ++ got))) (Ok bytes) _ _ (Ready part after) _ _
+        (brings_one commands m are.0 f) (rw (← append_assoc before bytes (data_of_steps part steps after))
         (brings_play steps after (before ++ bytes) are.1 (changed_sizes part commands m sound f)))

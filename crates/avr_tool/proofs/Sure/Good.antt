@@ -1,13 +1,12 @@
 -- Over good exchanges each step gives its data, in its first attempt.
-use Rattle.std.proofs.Common.{◌≡◌, ℕ, zero, suc, List, [], ◌∷◌, ◌++◌, sym, ap, ◌∙◌, subst, inl, ◌⊎◌, Ok, rules}
+use Rattle.std.proofs.Common.{◌≡◌, ℕ, zero, suc, List, [], ◌∷◌, ◌∙◌, inl, ◌⊎◌, Ok, rules}
 use Rattle.std.specs.Prelude.{⊤}
 use Rattle.stk_frame.specs.declared.command.Command.{Command}
-use Rattle.stk_frame.specs.Commands.{body}
 use Rattle.stk_host.specs.declared.fault.StepFault.TheVariants.{NoAnswer}
 use Rattle.stk_host.specs.Dialog.{Dialog, Done, Emit, Ask}
-use Rattle.stk_host.specs.Steps.{Reply, Data, Again, Stop, StepOutcome, reply_from_reading, with_data, exchange, attempt, step}
+use Rattle.stk_host.specs.Steps.{Reply, Data, StepOutcome, with_data, exchange, attempt, step}
 use Rattle.stk_host.proofs.Dialogs.Logic.{HoldsFrom, NoOutput, OnReply, done, ask, wider, attempts}
-use Rattle.stk_emu.specs.Exchange.{Exchange, Execution, ThenRestarted, OtherReading, Ending, AsIntended, Disturbed, ThenRestarts, after_exchange, reading_of_exchange, first_exchange, later_exchanges}
+use Rattle.stk_emu.specs.Exchange.{Exchange, Execution, ThenRestarted, OtherReading, Ending, AsIntended, Disturbed, ThenRestarts, later_exchanges}
 use Rattle.stk_emu.specs.Programmer.{Programmer}
 use Rattle.stk_emu.specs.Device.{device}
 use Rattle.stk_emu.proofs.Repeatable.{on_data, joined_reply, IsRepeatable}
@@ -42,8 +41,7 @@ others_steady exchanges s = search rules
 
 -- over such exchanges no device restarts
 pub on_steady : {R : Type 0} (After : R → Spot Programmer → Type 0) (d : Dialog ⊥ R) (z : Spot Programmer)
-    → AreSteady z.1
-    → HoldsFrom (this_link steady) (λ bytes y. ⊤) NoOutput After d z
+    → AreSteady z.1 → HoldsFrom (this_link steady) (λ bytes y. ⊤) NoOutput After d z
     → HoldsFrom (this_link device) (λ bytes y. ⊤) NoOutput After d z
 on_steady After (Done r) z s h = h
 on_steady After (Emit e d) z s h = absurd e
@@ -51,15 +49,12 @@ on_steady After (Ask bytes go_on) z s h = search (rules, on_steady After (go_on 
 
 -- ---- good exchanges
 
-first_good : (exchanges : List Exchange) → AllArriveRight exchanges → first_exchange exchanges ≡ AsIntended
-first_good exchanges good = search rules
-
 others_good : (exchanges : List Exchange) → AllArriveRight exchanges → AllArriveRight (later_exchanges exchanges)
 others_good exchanges good = search rules
 
 good_steady : (exchanges : List Exchange) → AllArriveRight exchanges → AreSteady exchanges
 good_steady [] good = tt
-good_steady (one_exchange ∷ exchanges) good = (subst IsSteady (sym good.0) tt, good_steady exchanges good.1)
+good_steady (one_exchange ∷ exchanges) good = search (rules, good_steady exchanges good.1)
 
 same_data : (a b : List ℕ) → Data a ≡ Data b → a ≡ b
 same_data a b e = cc
@@ -78,7 +73,7 @@ attempt_has : (commands : List Command) (before : List ℕ) (z : Spot Programmer
 unfolding attempt exchange
 attempt_has [] before z got good has = done (has, good)
 attempt_has (command ∷ commands) before z got good has =
-    search (rules, ask, first_good, replied, joined_reply, steady, others_good, attempt_has commands)
+    search (rules, ask, replied, joined_reply, steady, others_good, attempt_has commands)
 
 module _ (Before After : Programmer → Type 0) (commands : List Command) (got : List ℕ)
     (fits : IsRepeatable steady commands Before After)

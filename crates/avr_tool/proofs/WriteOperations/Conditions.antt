@@ -1,5 +1,5 @@
 -- A run of steps along a link: how many of their conditions it has passed.
-use Rattle.std.proofs.Common.{◌≡◌, ℕ, zero, suc, ◌≤◌, List, [], ◌∷◌, ◌++◌, length, refl, arith, Ok, rules}
+use Rattle.std.proofs.Common.{◌≡◌, ℕ, zero, suc, ◌≤◌, List, [], ◌∷◌, ◌++◌, length, refl, sym, ◌∙◌, Ok, rules}
 use Rattle.stk_frame.specs.declared.command.Command.{Command}
 use Rattle.stk_host.specs.Dialog.{Dialog, Done, Emit, Ask}
 use Rattle.stk_host.specs.Steps.{StepOutcome, exchange, attempt, attempts_or_fault, step, unless_step_fault, play}
@@ -9,6 +9,12 @@ use Rattle.stk_emu.specs.DialogOverExchanges.{StateAfter, state_after}
 use Rattle.avr_tool.proofs.Leads.{AllFit, AreSome, Climbs}
 use Rattle.avr_tool.specs.Completed.{step_count, steps_completed}
 use Rattle.avr_tool.proofs.Hosts.Attempts.{along_bind, along_next_dialog, step_stands, Stepped}
+
+pub none_left : {E R P : Type 0} (m : Device P) (d : Dialog E R) (p : P) (exchanges : List Exchange)
+    → (state_after m 0 d p exchanges).left ≡ 0
+none_left m (Done r) p exchanges = refl
+none_left m (Emit s d) p exchanges = none_left m d p exchanges
+none_left m (Ask bytes go_on) p exchanges = refl
 
 module _ {P : Type 0} (m : Device P) where
   -- a dialog that is done with commands to spare was done without the last
@@ -22,13 +28,7 @@ module _ {P : Type 0} (m : Device P) where
       }
   along_before k left (Done q) p exchanges r e n = search rules
   along_before k left (Emit s d) p exchanges r e n = along_before k left d p exchanges r e n
-  along_before zero left (Ask bytes go_on) p exchanges r e n = absurd (none_left (go_on _) _ _ e n)
-    where
-      none_left : {E R : Type 0} (d : Dialog E R) (p : P) (exchanges : List Exchange) {r : R} {left : ℕ}
-          → (state_after m 0 d p exchanges).dialog ≡ Done r → (state_after m 0 d p exchanges).left ≡ suc left → ⊥
-      none_left (Done q) p exchanges e n = omega (arith, n)
-      none_left (Emit s d) p exchanges e n = none_left d p exchanges e n
-      none_left (Ask bytes go_on) p exchanges e n = omega (arith, n)
+  along_before zero left (Ask bytes go_on) p exchanges r e n = absurd (cc (sym (none_left m (go_on _) _ _) ∙ n))
   along_before (suc k) left (Ask bytes go_on) p exchanges r e n = along_before k left (go_on _) _ _ r e n
 
   module _ (At : ℕ → P → Type 0) where
@@ -40,13 +40,9 @@ module _ {P : Type 0} (m : Device P) where
 
     -- the rest after a step that gave data, by how many commands are left
     behind : (left k : ℕ) (steps : List (List Command)) (commands : List Command) (p : P) (exchanges : List Exchange)
-        (bytes : List ℕ) (t : StateAfter ⊥ StepOutcome P)
-        → (state_after m (suc k) (step commands) p exchanges).dialog ≡ Done (Ok bytes)
-        → (state_after m (suc k) (step commands) p exchanges).left ≡ left
-        → Climbs m (λ j. At (suc j)) left steps (state_after m (suc k) (step commands) p exchanges).programmer
-        (state_after m (suc k) (step commands) p exchanges).exchanges t
-        → Rest (suc (length steps)) t (suc (steps_completed m steps left (state_after m (suc k) (step commands) p
-        exchanges).programmer (state_after m (suc k) (step commands) p exchanges).exchanges))
+        (bytes : List ℕ) (t : StateAfter ⊥ StepOutcome P) → let s = state_after m (suc k) (step commands) p exchanges in
+        s.dialog ≡ Done (Ok bytes) → s.left ≡ left → Climbs m (λ j. At (suc j)) left steps s.programmer s.exchanges t
+        → Rest (suc (length steps)) t (suc (steps_completed m steps left s.programmer s.exchanges))
         (steps_completed m (commands ∷ steps) k p exchanges)
     behind zero k steps commands p exchanges bytes t e n c = search rules
     behind (suc left) k steps commands p exchanges bytes t e n c =
@@ -54,19 +50,13 @@ module _ {P : Type 0} (m : Device P) where
 
     climbs_from : (k : ℕ) (steps : List (List Command)) (commands : List Command) (p : P) (exchanges : List Exchange)
         (go_on : List ℕ → Dialog ⊥ StepOutcome) (d : Dialog ⊥ StepOutcome)
-        → (state_after m (suc k) (step commands) p exchanges).dialog ≡ d
-        → Stepped m (At 0) (At 1) (state_after m (suc k) (step commands) p exchanges)
-        → ((bytes : List ℕ) → At 1 (state_after m (suc k) (step commands) p exchanges).programmer
-        → Climbs m (λ j. At (suc j)) (state_after m (suc k) (step commands) p exchanges).left steps
-        (state_after m (suc k) (step commands) p exchanges).programmer (state_after m (suc k) (step commands) p
-        exchanges).exchanges (state_after m (state_after m (suc k) (step commands) p exchanges).left (go_on bytes)
-        (state_after m (suc k) (step commands) p exchanges).programmer (state_after m (suc k) (step commands) p
-        exchanges).exchanges)) → Rest (suc (length steps)) (along_next_dialog m (unless_step_fault go_on)
-        (state_after m (suc k) (step commands) p exchanges).left (state_after m (suc k) (step commands) p
-        exchanges).exchanges (state_after m (suc k) (step commands) p exchanges).programmer d)
-        (step_count d (steps_completed m steps (state_after m (suc k) (step commands) p exchanges).left
-        (state_after m (suc k) (step commands) p exchanges).programmer (state_after m (suc k) (step commands) p
-        exchanges).exchanges)) (steps_completed m (commands ∷ steps) k p exchanges)
+        → let s = state_after m (suc k) (step commands) p exchanges in
+        s.dialog ≡ d → Stepped m (At 0) (At 1) s → ((bytes : List ℕ) → At 1 s.programmer
+        → Climbs m (λ j. At (suc j)) s.left steps s.programmer s.exchanges
+        (state_after m s.left (go_on bytes) s.programmer s.exchanges))
+        → Rest (suc (length steps)) (along_next_dialog m (unless_step_fault go_on) s.left s.exchanges s.programmer d)
+        (step_count d (steps_completed m steps s.left s.programmer s.exchanges))
+        (steps_completed m (commands ∷ steps) k p exchanges)
     climbs_from k steps commands p exchanges go_on (Done (Ok bytes)) e stepped rest =
         search (rules, behind, stepped.whole)
     climbs_from k steps commands p exchanges go_on d e stepped rest = search rules
@@ -89,10 +79,7 @@ module _ {P : Type 0} (m : Device P) where
       let cs = command ∷ commands in
       let s = state_after m (suc k) (step cs) p exchanges in
       let stepped : Stepped m (At 0) (At 1) s = step_stands m (At 0) (At 1) (suc k) cs p exchanges fit.0 at in
-      let r : Rest At (suc (length steps))
-      (along_next_dialog m (unless_step_fault (λ bytes. play steps (before ++ bytes))) s.left s.exchanges
-      s.programmer s.dialog) (step_count s.dialog (steps_completed m steps s.left s.programmer s.exchanges))
-      (steps_completed m (cs ∷ steps) k p exchanges) =
+      let r =
       climbs_from At k steps cs p exchanges (λ bytes. play steps (before ++ bytes)) s.dialog refl stepped
       (λ bytes here. play_climbs (λ j. At (suc j)) steps s.left (before ++ bytes) s.programmer s.exchanges some fit.1
       here) in

@@ -1,8 +1,8 @@
 -- Counts of write operations, composed.
-use Rattle.std.proofs.Common.{◌≡◌, ℕ, zero, suc, ◌+◌, ◌-◌, ◌≤◌, List, [], ◌∷◌, ◌++◌, length, refl, ap, subst, arith, ◌⊎◌, inl, inr, Ok, rules}
+use Rattle.std.proofs.Common.{◌≡◌, ℕ, zero, suc, ◌+◌, ◌-◌, ◌≤◌, List, [], ◌∷◌, ◌++◌, length, refl, ap, subst, arith, inl, inr, Ok, rules}
 use Rattle.avr_part.specs.Part.{Part, IsPart}
 use Rattle.stk_frame.specs.declared.command.Command.{Command}
-use Rattle.stk_host.specs.Dialog.{Dialog, Done, Emit, Ask, ◌>>=◌}
+use Rattle.stk_host.specs.Dialog.{Dialog, Done, ◌>>=◌}
 use Rattle.stk_host.specs.Steps.{StepOutcome, step, unless_step_fault, play}
 use Rattle.stk_emu.specs.Exchange.{Exchange}
 use Rattle.stk_emu.specs.Programmer.{Programmer}
@@ -15,25 +15,14 @@ use Rattle.avr_tool.proofs.Leads.{Climbs, GoesOn, memories_after_steps}
 use Rattle.stk_emu.specs.WriteOperations.{AreSteps}
 use Rattle.avr_tool.specs.Tallies.{Count, with_next, then_count, Tallies}
 use Rattle.avr_tool.proofs.Hosts.Attempts.{along_bind, along_next_dialog}
-use Rattle.avr_tool.proofs.WriteOperations.Conditions.{along_before}
+use Rattle.avr_tool.proofs.WriteOperations.Conditions.{none_left, along_before}
 use Rattle.avr_tool.proofs.StepData.FirstSteps.{steps_climb}
-
-pub none_left : {E R P : Type 0} (m : Device P) (d : Dialog E R) (p : P) (exchanges : List Exchange)
-    → (state_after m 0 d p exchanges).left ≡ 0
-none_left m (Done r) p exchanges = refl
-none_left m (Emit s d) p exchanges = none_left m d p exchanges
-none_left m (Ask bytes go_on) p exchanges = refl
 
 module _ {P : Type 0} (m : Device P) where
   abbrev pub tallies_none : {E R : Type 0} (d : Dialog E R) (At : ℕ → P → Type 0) (p : P) (exchanges : List Exchange)
       → ((k : ℕ) → At 0 (state_after m k d p exchanges).programmer) → Tallies m d (λ k q fs. 0) At p exchanges
-  tallies_none d At p exchanges at = record {
-    count = λ k. 0;
-    none = refl;
-    at_least = λ k. omega arith;
-    at_most = λ k. omega arith;
-    stands = at;
-  }
+  tallies_none d At p exchanges at =
+      record { count = λ k. 0; none = refl; at_least = λ k. omega arith; at_most = λ k. omega arith; stands = at }
 
   -- a count in other words, if both count alike
   abbrev pub tallies_as : {E F Q R : Type 0} (d : Dialog E Q) (e : Dialog F R) (made other : Count P)
@@ -86,13 +75,10 @@ module _ {P : Type 0} (m : Device P) where
         → total k (Done a) e ≤ suc (then_count m d first more (k - 1) p exchanges)
     done_most k zero a e n = search rules
     done_most zero (suc l) a e n = absurd (omega (arith, none_left m d p exchanges, n))
-    done_most (suc k) (suc l) a e n = by_sharp (follow (suc k) a e).sharp
-      where
-        by_sharp : ((j : ℕ) → (state_after m (suc k) d p exchanges).left ≡ suc j
-            → t.count (suc k) ≤ first (suc k - 1) p exchanges) ⊎ ((j : ℕ) → (follow (suc k) a e).rest.count j ≡ 0)
-            → total (suc k) (Done a) e ≤ suc (then_count m d first more (suc k - 1) p exchanges)
-        by_sharp (inl exact) = sharp_most k l a e n (exact l n)
-        by_sharp (inr quiet) = search (rules, quiet_most)
+    done_most (suc k) (suc l) a e n = elim (follow (suc k) a e).sharp [
+      | inl exact ↦ sharp_most k l a e n (exact l n)
+      | inr quiet ↦ search (rules, quiet_most)
+    ]
 
     at_most_from : (k : ℕ) (x : Dialog E A) (e : (state_after m k d p exchanges).dialog ≡ x)
         → total k x e ≤ suc (then_count m d first more (k - 1) p exchanges)

@@ -1,5 +1,5 @@
 -- The steps of an item do what the item does, and fit the part.
-use Rattle.std.proofs.Common.{◌≡◌, ℕ, zero, suc, ◌+◌, ◌-◌, ◌*◌, ◌/◌, ◌%◌, ◌≤◌, ◌<◌, List, [], ◌∷◌, ◌++◌, length, refl, ap, ◌∙◌, arith, Bool, true, cond, Option, Some, None, is_some, rules}
+use Rattle.std.proofs.Common.{◌≡◌, ℕ, zero, suc, ◌+◌, ◌-◌, ◌*◌, ◌/◌, ◌%◌, ◌≤◌, ◌<◌, List, [], ◌∷◌, ◌++◌, length, refl, ◌∙◌, arith, Bool, true, cond, Option, Some, None, is_some, rules}
 use Rattle.std.proofs.lemmas.Bool.{and_parts}
 use Rattle.std.proofs.lemmas.List.{length-replicate, get_or-replicate}
 use Rattle.std.proofs.lemmas.Nat.{div-add-mod'}
@@ -67,13 +67,8 @@ module _ (part : Part) (sound : IsPart part) where
       → effects part (write_operations_of (steps_of_items part items)) m ≡ effects part items m
   items_do [] m fits f = refl
   items_do (item ∷ items) m fits f =
-      ap (λ write_operations. effects part write_operations m) (write_operations_append (steps_of_item part item)
-      (steps_of_items part items)) ∙ (effects_on part (write_operations_of (steps_of_item part item))
-      (write_operations_of (steps_of_items part items)) m ∙ (search (
-        rules,
-        item_does,
-        items_do items (effect part item m) fits.1 (effect_sizes item m f),
-      )))
+      let rest = items_do items (effect part item m) fits.1 (effect_sizes item m f) in
+      search (rules, write_operations_append, effects_on, item_does)
 
 pub changed_all : (part : Part) (steps : List (List Command)) (m : Memories)
     → memories_after_steps part (length steps) steps m ≡ effects part (write_operations_of steps) m

@@ -39,11 +39,7 @@ fails_by : (c : Command) (code : ℕ) (fault : StepFault) (p : Programmer) (done
     ≡ Stop fault → p.mode ≡ false → Fails c p
 fails_by c code fault p done is stops off =
     let failed : execute (body c) p ≡ (code ∷ 0xC0 ∷ [], p) = is ∙ cond-false p.mode done (code ∷ 0xC0 ∷ [], p) off in
-    record {
-      fault = fault;
-      reply = ap (λ (z : Response). reply_from_reading c (Replied z.0)) failed ∙ stops;
-      after = ap (λ (z : Response). z.1) failed;
-    }
+    record { fault = fault; reply = rw failed stops; after = rw failed refl }
 
 abbrev FailsOutside : Command → Type 0
 FailsOutside c = (p : Programmer) → p.mode ≡ false → Fails c p
@@ -100,14 +96,12 @@ either_restarted part m n p settled = search (rules, restart_is_settled)
 
 -- after a restart the programmer is outside
 fails_restarted : (part : Part) (m n : Memories) (c : Command) → FailsOutside c → (p : Programmer)
-    → Settled part m p ⊎ Settled part n p
-    → FailsAt device (λ q. Settled part m q ⊎ Settled part n q) c (device.reset p)
+    → Settled part m p ⊎ Settled part n p → FailsAt device (λ q. Settled part m q ⊎ Settled part n q) c (device.reset p)
 fails_restarted part m n c fails p s =
     let f = fails (device.reset p) refl in
     record {
       none = λ bytes e. stop_no f.fault bytes (sym f.reply ∙ e);
-      stands = subst (λ (q : Programmer). Settled part m q ⊎ Settled part n q) (sym f.after)
-          (either_restarted part m n p s);
+      stands = rw f.after (either_restarted part m n p s);
     }
 
 one_idles : (part : Part) (c : Command) → FailsOutside c → Idles part (c ∷ [])
@@ -121,8 +115,7 @@ one_idles part c fails = record {
     keeps : (m : Memories) (p : Programmer) (i : ℕ) → p.mode ≡ false → Settled part m p
         → Settled part m (after_commands device i (c ∷ []) p)
     keeps m p zero off s = s
-    keeps m p (suc i) off s = subst (Settled part m)
-        (sym (executed_none device i (device.after (body c) p) ∙ (fails p off).after)) s
+    keeps m p (suc i) off s = let same = (fails p off).after in search (rules, executed_none)
 
 loaded : (address : ℕ) (p : Programmer) → address < 2 ^ 32
     → device.after (body (LoadAddress address)) p ≡ (execute_command (LoadAddress address) p).1
@@ -153,24 +146,20 @@ two_idles part address c few fails = record {
     keeps m p zero off s = s
     keeps m p (suc zero) off s = kept m p s
     keeps m p (suc (suc i)) off s =
-        let q = device.after (body (LoadAddress address)) p in
-        subst (Settled part m) (sym (executed_none device i (device.after (body c) q) ∙
-        (fails q (outside p off)).after)) (kept m p s)
+        let same = (fails (device.after (body (LoadAddress address)) p) (outside p off)).after in
+        search (rules, executed_none, kept)
 
 -- if nothing restarts, the commands executed and replied to are the same
 executed_steady : (i : ℕ) (commands : List Command) (p : Programmer)
     → after_commands steady i commands p ≡ after_commands device i commands p
-executed_steady zero commands p = refl
-executed_steady (suc i) [] p = refl
 executed_steady (suc i) (command ∷ commands) p = executed_steady i commands (device.after (body command) p)
+executed_steady i commands p = search rules
 
 replied_steady : (i : ℕ) (commands : List Command) (p : Programmer) → AreReplied device i commands p
     → AreReplied steady i commands p
-replied_steady zero commands p r = tt
-replied_steady (suc zero) commands p r = tt
-replied_steady (suc (suc i)) [] p r = tt
 replied_steady (suc (suc i)) (command ∷ commands) p r =
     (r.0, replied_steady (suc i) commands (device.after (body command) p) r.1)
+replied_steady i commands p r = search rules
 
 pub joined_steady : (commands : List Command) (before : List ℕ) (p : Programmer)
     → joined_reply steady commands before p ≡ joined_reply device commands before p
@@ -222,22 +211,17 @@ module _ (part : Part) (sound : IsPart part) where
       → IsRepeatable device commands (Settled part m) (Settled part (memories_after_step part commands m))
   step_fits commands m is = record {
     prefix = λ p i s replied. elim (cases_Bool p.mode) [
-      | inl on ↦ either_settled m (memories_after_step part commands m) (after_commands steady i commands p)
-          (after_commands device i commands p) (executed_steady i commands p)
+      | inl on ↦ either_settled m _ _ _ (executed_steady i commands p)
           (ready.prefix p i (settled_ready part m p on s) (replied_steady i commands p replied))
       | inr off ↦ inl ((idles commands is).keeps m p i off s)
     ];
     again = λ p i s replied. elim (cases_Bool p.mode) [
-      | inl on ↦
-          subst (Settled part (memories_after_step part commands m)) (executed_steady i commands p)
-          (ready_settled part (memories_after_step part commands m) (after_commands steady i commands p)
-          (ready.again p i (settled_ready part (memories_after_step part commands m) p on s)
-          (replied_steady i commands p replied)))
+      | inl on ↦ rw (← executed_steady i commands p) (ready_settled part _ _
+          (ready.again p i (settled_ready part _ p on s) (replied_steady i commands p replied)))
       | inr off ↦ (idles commands is).keeps (memories_after_step part commands m) p i off s
     ];
     whole = λ p bytes has s.
-        subst (Settled part (memories_after_step part commands m)) (executed_steady (length commands) commands p)
-        (ready_settled part (memories_after_step part commands m) (after_commands steady (length commands) commands p)
+        rw (← executed_steady (length commands) commands p) (ready_settled part _ _
         (ready.whole p bytes (joined_steady commands [] p ∙ has)
         (settled_ready part m p (in_mode_by_data commands p bytes is has) s)));
     restart_keeps = λ p s. restart_is_settled part m p s;

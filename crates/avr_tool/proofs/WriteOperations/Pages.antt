@@ -1,12 +1,12 @@
 -- The pages of a write do what the write does.
-use Rattle.std.proofs.Common.{◌≡◌, ℕ, zero, suc, ◌+◌, ◌-◌, ◌*◌, ◌/◌, ◌≤◌, ◌<◌, List, [], ◌∷◌, ◌++◌, length, get_or, refl, sym, ap, ◌∙◌, subst, append_assoc, arith, inl, inr, true, false, Option, Some, None, is_some, bit_and, rules}
+use Rattle.std.proofs.Common.{◌≡◌, ℕ, zero, suc, ◌+◌, ◌-◌, ◌*◌, ◌/◌, ◌≤◌, ◌<◌, List, [], ◌∷◌, ◌++◌, length, get_or, refl, sym, ap, ◌∙◌, subst, append_assoc, arith, inl, inr, true, false, Option, None, is_some, rules}
 use Rattle.std.proofs.lemmas.Grind.{and_numeral}
 use Rattle.std.proofs.lemmas.Nat.{and_le_l}
-use Rattle.std.proofs.lemmas.Bool.{cases_Bool, false≢true, cond-true, cond-false}
+use Rattle.std.proofs.lemmas.Bool.{cases_Bool, cond-true, cond-false}
 use Rattle.std.proofs.lemmas.List.{get_or-take, get_or-drop}
 use Rattle.std.proofs.Math.Nat.{suc-mul, zero-mul, mul-le-mul_right}
 use Rattle.std.specs.List.{list_any}
-use Rattle.avr_image.specs.Image.{byte_at, filled_bytes, holds_any, byte_or_ff}
+use Rattle.avr_image.specs.Image.{byte_at, filled_bytes, holds_any}
 use Rattle.avr_image.proofs.Lemmas.{filled_is}
 use Rattle.avr_part.specs.declared.part.Mem.TheVariants.{Flash}
 use Rattle.avr_part.specs.Part.{Part, IsPart}
@@ -37,10 +37,8 @@ below_and_in image xs below i l = search (rules, length-and_in, get_and_in, and_
 
 -- a page without a byte of the image
 none_any : (xs : List (Option ℕ)) (k : ℕ) → list_any is_some xs ≡ false → get_or xs k None ≡ None
-none_any [] k e = refl
-none_any (Some b ∷ xs) k e = absurd (false≢true (sym e))
-none_any (None ∷ xs) zero e = refl
 none_any (None ∷ xs) (suc k) e = none_any xs k e
+none_any xs k e = search rules
 
 unused_gap : (page : ℕ) (image : Image) (start : ℕ) → holds_any image start page ≡ false → (i : ℕ) → start ≤ i
     → i < start + page → byte_at image i ≡ None
@@ -85,11 +83,7 @@ module _ (part : Part) (sound : IsPart part) (image : Image) where
             let r : Flashed others m ((n + 1) * page) old = rest old below refl in
             let steps_are : page_steps part image n ≡ [] =
             cond-false (holds_any image start page) (page_step part image start ∷ []) [] unused in
-            record {
-              new = r.new;
-              is = search rules;
-              written = grind (arith, gap_first, unused_gap);
-            }
+            record { new = r.new; is = search rules; written = grind (arith, gap_first, unused_gap) }
       ]
 
   pages_free : (n k : ℕ) (m : Memories) (old : List ℕ) → are_locked m ≡ false → AllBelow old
@@ -117,8 +111,7 @@ module _ (part : Part) (sound : IsPart part) (image : Image) where
       → effects part (write_operations_of (each_from (page_steps part image) 0 (part.flash_size / part.flash_page))) m
       ≡ effect part (Write Flash image) m
   pages_effect m long below =
-      let count : (0 + part.flash_size / part.flash_page) * part.flash_page ≡ part.flash_size =
-      search rules in
+      let count : (0 + part.flash_size / part.flash_page) * part.flash_page ≡ part.flash_size = search rules in
       elim (cases_Bool (are_locked m)) [
         | inl lock ↦ search (rules, pages_locked, cond-true)
         | inr free ↦

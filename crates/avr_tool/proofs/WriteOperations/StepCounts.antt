@@ -1,6 +1,6 @@
 -- Each step of a write has one write operation: steps are counted as write operations.
 use Rattle.std.proofs.lemmas.Grind.{common_steps}
-use Rattle.std.proofs.Common.{◌≡◌, ℕ, zero, suc, List, [], ◌∷◌, ◌++◌, length, take, refl, arith, Bool, cond, rules}
+use Rattle.std.proofs.Common.{◌≡◌, ℕ, suc, List, [], ◌∷◌, ◌++◌, length, take, refl, arith, Bool, cond, rules}
 use Rattle.avr_part.specs.declared.part.Mem.{Mem}
 use Rattle.avr_part.specs.declared.part.Mem.TheVariants.{Flash}
 use Rattle.avr_part.specs.Part.{Part}
@@ -27,10 +27,9 @@ one_more part items others steps count m e rest = grind (arith, common_steps)
 pub counted_write_operations : (part : Part) (count : ℕ) (steps : List (List Command)) (m : Memories)
     → AreWriteOperations steps → memories_after_steps part count steps m
     ≡ effects part (take count (write_operations_of steps)) m
-counted_write_operations part zero steps m are = refl
-counted_write_operations part (suc count) [] m are = refl
 counted_write_operations part (suc count) (commands ∷ steps) m are =
     search (rules, one_more, counted_write_operations part count steps)
+counted_write_operations part count steps m are = search rules
 
 either_are_write_operations : (b : Bool) (x : List (List Command)) → AreWriteOperations x
     → AreWriteOperations (cond b x [])

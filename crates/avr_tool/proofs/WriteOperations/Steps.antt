@@ -108,10 +108,9 @@ module _ (part : Part) where
     step_ready commands m (Erases e) = search (rules, by_commands, one_steady, erase_does, again_of, effect_twice)
     step_ready commands m (ProgramsPage number bytes is_page e) = search (rules, by_commands, page_fits)
     step_ready commands m (ProgramsEepromRun address bytes is_run e) = search (rules, by_commands, run_fits)
-    step_ready commands m (ProgramsFuse f v e) = by_commands _ commands m e
-        (search (rules, one_steady, fuse_does, again_of, fuse_twice))
-    step_ready commands m (ProgramsLock v e) = by_commands _ commands m e
-        (search (rules, one_steady, lock_does, again_of, effect_twice))
+    step_ready commands m (ProgramsFuse f v e) =
+        search (rules, by_commands, one_steady, fuse_does, again_of, fuse_twice)
+    step_ready commands m (ProgramsLock v e) = search (rules, by_commands, one_steady, lock_does, again_of, effect_twice)
     step_ready commands m (ReadsFlash start count is_block words e) = search (rules, by_commands, flash_read_fits)
     step_ready commands m (ReadsEeprom start count is_block e) = search (rules, by_commands, eeprom_read_fits)
     step_ready commands m (ReadsFuse f e) = by_commands _ commands m e (fuse_read_fits f m)

@@ -23,8 +23,6 @@ pub returns-in-Err-clause-between : goal.returns-in-Err-clause-between
 returns-in-Err-clause-between g c = record {
   between = c.plan.new.desk;
   stays = c.plan.ensures.stays;
-  runs = inr (
-    record { goes = rw c.in-Err.is at c.plan.ensures.goes; bare = rw c.in-Err.is at c.plan.ensures.bare },
-    refl,
-  );
+  runs =
+      inr (record { goes = rw c.in-Err.is at c.plan.ensures.goes; bare = rw c.in-Err.is at c.plan.ensures.bare }, refl);
 }
