@@ -7,7 +7,7 @@ use Rattle.avr_session.specs.Actions.{Action}
 use Rattle.avr_session.specs.Concluding.{standing_after}
 use Rattle.avr_session.specs.Outcomes.{EndsWithFaultLine}
 use Rattle.avr_session.specs.Performing.{Performing, DoesPlanActions}
-use Rattle.avr_session.specs.Runs.{Devices, devices}
+use Rattle.avr_session.specs.Runs.{devices}
 use Rattle.ghosts.specs.Preserves.{Preserves}
 use Rattle.stk_host.specs.declared.link.Link.{Ghosts as Links}
 
@@ -15,14 +15,12 @@ use Rattle.stk_host.specs.declared.link.Link.{Ghosts as Links}
 abbrev pub IsReady : {D L : Type 0} → Session D L → Type 0
 IsReady session = (session.host.broken ≡ None) × (session.host.part ≡ session.plan.now.part)
 
-abbrev pub devices_of : {D L : Type 0} → Links L → Desks D → Session D L → Devices
-devices_of link desk session = devices (link.view session.link.now) (desk.view session.desk.now)
-
 -- A part of a session was run, of the same plan and on the same devices. If a fault ended the session, its line is the
 -- last one reported.
 pub record RunsSessionPart {D L : Type 0} (link : Links L) (desk : Desks D) (Part : Performing) (old new : Session D L)
     (result : Result ⊤ End) : Type 0 where
-  pub performs : Part old.host new.host (devices_of link desk old) (devices_of link desk new) (standing_after result)
+  pub performs : Part old.host new.host (devices (link.view old.link.now) (desk.view old.desk.now))
+      (devices (link.view new.link.now) (desk.view new.desk.now)) (standing_after result)
   pub plan : new.plan ≡ old.plan
   pub same_link : new.link.ghost_name ≡ old.link.ghost_name
   pub same_desk : new.desk.ghost_name ≡ old.desk.ghost_name

@@ -6,7 +6,6 @@ use Rattle.avr_desk.specs.Lines.{digits, spaced_digits, information, warning, er
 use Rattle.avr_desk.specs.OutputEvents.{OutputEvent, PrintsLine}
 use Rattle.avr_part.specs.Mem.{name_of}
 use Rattle.avr_part.specs.Part.{Part}
-use Rattle.avr_part.specs.declared.part.Mem.{Mem}
 use Rattle.avr_plan.specs.Lines.{read_only_pieces}
 use Rattle.stk_host.specs.declared.fault.HostFault.{HostFault}
 use Rattle.stk_host.specs.declared.fault.HostFault.TheVariants.{NoAnswer, LinkEnded, SendFailed, Babble, Refused, BadAnswer, WrongSignature, Differs, ReadOnly, Memory, RecvFailed}
@@ -24,18 +23,6 @@ other_signature part found =
     codes "signature is " ∷ spaced_digits found ∷ codes ", " ∷ part.id ∷ codes " has " ∷ spaced_digits part.signature
     ∷ []
 
-abbrev pub refused_pieces : ℕ → ℕ → List Bytes
-refused_pieces command status =
-    codes "command " ∷ digits (command ∷ []) ∷ codes " refused with status " ∷ digits (status ∷ []) ∷ []
-
-abbrev pub bad_reply_pieces : ℕ → List Bytes
-bad_reply_pieces command = codes "command " ∷ digits (command ∷ []) ∷ codes ": bad answer" ∷ []
-
-abbrev pub differs_pieces : Mem → ℕ → ℕ → ℕ → List Bytes
-differs_pieces mem address want found =
-    name_of mem ∷ codes ": address " ∷ digits (big_bytes 4 address) ∷ codes ": " ∷ digits (want ∷ [])
-    ∷ codes " expected, " ∷ digits (found ∷ []) ∷ codes " found" ∷ []
-
 -- The link failed at sending; below, at receiving.
 abbrev pub unsent_pieces : List Bytes
 unsent_pieces = codes "link cannot be written" ∷ []
@@ -49,10 +36,13 @@ fault_pieces part NoAnswer = codes "no answer" ∷ []
 fault_pieces part LinkEnded = codes "link ended" ∷ []
 fault_pieces part SendFailed = unsent_pieces
 fault_pieces part Babble = codes "no answer in 4096 bytes" ∷ []
-fault_pieces part (Refused command status) = refused_pieces command status
-fault_pieces part (BadAnswer command) = bad_reply_pieces command
+fault_pieces part (Refused command status) =
+    codes "command " ∷ digits (command ∷ []) ∷ codes " refused with status " ∷ digits (status ∷ []) ∷ []
+fault_pieces part (BadAnswer command) = codes "command " ∷ digits (command ∷ []) ∷ codes ": bad answer" ∷ []
 fault_pieces part (WrongSignature found) = other_signature part found
-fault_pieces part (Differs mem address want found) = differs_pieces mem address want found
+fault_pieces part (Differs mem address want found) =
+    name_of mem ∷ codes ": address " ∷ digits (big_bytes 4 address) ∷ codes ": " ∷ digits (want ∷ [])
+    ∷ codes " expected, " ∷ digits (found ∷ []) ∷ codes " found" ∷ []
 fault_pieces part (ReadOnly mem) = read_only_pieces mem
 fault_pieces part Memory = memory_pieces
 fault_pieces part RecvFailed = unreceived_pieces

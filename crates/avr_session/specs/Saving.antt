@@ -1,6 +1,6 @@
 -- Bytes written to a file or to standard output: for contracts inside this crate.
-use Rattle.std.specs.Prelude.{◌≡◌, Result, Ok, Err, IfErr, OnErr, OnOk, ⊤}
-use Rattle.avr_desk.specs.Fault.{CountsFailure, HasSameCounts}
+use Rattle.std.specs.Prelude.{◌≡◌, Result, Ok, Err, OnErr, OnOk, ⊤}
+use Rattle.avr_desk.specs.Fault.{CountsFailure, HasSameCounts, IsCall}
 use Rattle.avr_desk.specs.Record.{DeskState, ChangesRecord, after_err, Bytes}
 use Rattle.avr_desk.specs.Stream.{SendsPart, after_sent}
 use Rattle.avr_desk.specs.declared.stream.Stream.{Stream}
@@ -8,17 +8,13 @@ use Rattle.avr_session.specs.Runs.{Cause, FileFailed, NotWritten}
 use Rattle.avr_session.specs.Reporting.{FileStops}
 use Rattle.avr_desk.specs.declared.desk.Desk.{Ghosts}
 use Rattle.avr_desk.specs.declared.desk.DeskFault.{DeskFault}
-use Rattle.avr_desk.specs.declared.desk.DeskFault.TheVariants.{Failed}
-use Rattle.ghosts.specs.Preserves.{Preserves}
 
 -- All of the text was written to the stream; or a prefix of it was, and then a call failed.
 pub record SendsText {D : Type 0} (desk : Ghosts D) (stream : Stream) (text : Bytes) (old new : D)
     (result : Result ⊤ DeskFault) : Type 0 where
   pub all : OnOk result (ChangesRecord (after_sent stream text) (desk.view old) (desk.view new))
   pub part : OnErr result (SendsPart stream (desk.view old) (desk.view new) text)
-  pub counts : CountsFailure stream (desk.view old) (desk.view new) result
-  pub fault : IfErr result (λ fault. fault ≡ Failed)
-  pub stays : Preserves desk.started_as old new
+  pub call : IsCall desk.view desk.started_as (CountsFailure stream) old new result
 
 -- The desk failed at creating or writing this file, and this was reported.
 abbrev pub SaveStops : Bytes → DeskState → DeskState → Cause → Bytes → Type 0

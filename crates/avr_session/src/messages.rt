@@ -1,7 +1,8 @@
 //! The messages of faults: those of the host, and those of the settings.
 ghost use Rattle.std.specs.Prelude.{◌≡◌};
 ghost use Rattle.avr_desk.specs.OutputEvents.{ReportsLine};
-ghost use Rattle.avr_session.specs.Lines.{bad_reply_pieces, differs_pieces, fault_pieces, other_signature, refused_pieces, unreceived_pieces, unsent_pieces};
+ghost use Rattle.avr_part.specs.Part as part;
+ghost use Rattle.avr_session.specs.Lines.{fault_pieces, other_signature, unreceived_pieces, unsent_pieces};
 ghost use Rattle.avr_session.specs.Refusal.{in_update_pieces, refusal_line, refusal_pieces, unknown_pieces, update_pieces};
 ghost use Rattle.ghosts.specs.Preserves.{Preserves};
 
@@ -11,7 +12,7 @@ use avr_plan::{SettingsFault, UpdateFault, read_only_message};
 use stk_host::HostFault;
 
 fn refused_message<'a>(command: u8, status: u8) -> Message<'a>
-    ensures { result ≡ refused_pieces command status }
+    ensures { (part : part.Part) → result ≡ fault_pieces part (HostFault.Refused command status) }
 {
     Message::new(&[
         Piece::Text("command "),
@@ -22,7 +23,7 @@ fn refused_message<'a>(command: u8, status: u8) -> Message<'a>
 }
 
 fn bad_reply_message<'a>(command: u8) -> Message<'a>
-    ensures { result ≡ bad_reply_pieces command }
+    ensures { (part : part.Part) → result ≡ fault_pieces part (HostFault.BadAnswer command) }
 {
     Message::new(&[
         Piece::Text("command "),
@@ -45,7 +46,7 @@ pub(crate) fn other_signature_message<'a>(part: &'a Part, found: [u8; 3]) -> Mes
 }
 
 fn differs_message<'a>(mem: Mem, address: u32, want: u8, found: u8) -> Message<'a>
-    ensures { result ≡ differs_pieces mem address want found }
+    ensures { (part : part.Part) → result ≡ fault_pieces part (HostFault.Differs mem address want found) }
 {
     Message::new(&[
         Piece::Text(mem.name()),

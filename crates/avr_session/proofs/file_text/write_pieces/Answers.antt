@@ -89,7 +89,5 @@ returns g c =
       part = part_sent c.args.stream _ _ _ i.0 waits _ c.write_all-2.result
           (i.1 ∙ ap (λ (xs : List ℕ). i.0 ++ xs) (ap (λ (xs : List ℕ). waits ++ xs) none ∙ append-nil waits)) i.2
           (rw (← c.as_slice-rest.ensures.value) c.write_all-2.ensures.part);
-      counts = search rules;
-      fault = c.write_all-2.ensures.call.fault;
-      stays = λ start of. c.write_all-2.ensures.call.stays start (c.pieces.invariant.stays start of);
+      call = search rules;
     }

@@ -3,23 +3,19 @@ use Rattle.std.proofs.lemmas.Result.{err_from_is_err_and}
 use Rattle.stk_host.specs.declared.fault.HostFault.TheVariants.{WrongSignature}
 use Rattle.avr_desk.specs.OutputEvents.{PrintsLine}
 use Rattle.avr_session.specs.Lines.{fault_line}
-use Rattle.avr_session.specs.Session.{warns_of_signature}
 use Rattle.avr_session.proofs.ActionByAction.Reports.{reports_then, prints_until}
 use Rattle.avr_session.proofs.reports.report_opening.Goals as goal
 
 pub returns-in_ok-report_found-in-Ok : goal.returns-in_ok-report_found-in-Ok
 returns-in_ok-report_found-in-Ok g c =
-    let printed = reports_then g.D.Desk _ _ _ (rw c.switches-quiet.ensures at c.in_ok-report_found-in-Ok.ensures)
-    (rw (c.switches-quiet.ensures, c.part.ensures) at c.warn_of_signature.ensures) in
-    rw c.in-Ok.is printed
+    rw c.in-Ok.is (reports_then g.D.Desk _ _ _ (rw c.switches-quiet.ensures at c.in_ok-report_found-in-Ok.ensures)
+    (rw (c.switches-quiet.ensures, c.part.ensures) at c.warn_of_signature.ensures))
 
 pub returns-in_err-report_found-in-Ok : goal.returns-in_err-report_found-in-Ok
 returns-in_err-report_found-in-Ok g c =
     let p = err_from_is_err_and c.from_residual.result c.from_residual.ensures.1 in
-    let plan = c.args.plan.now in
-    let printed = prints_until g.D.Desk _ (warns_of_signature plan.switches.quiet plan.part c.in-Ok.found) _
-    (rw c.switches-quiet.ensures at c.in_err-report_found-in-Ok.ensures) in
-    rw (c.in-Ok.is, p.1, p.2) printed
+    rw (c.in-Ok.is, p.1, p.2) (prints_until g.D.Desk _ _ _ (rw c.switches-quiet.ensures at
+    c.in_err-report_found-in-Ok.ensures))
 
 pub returns-in_ok-report_found-in-Err-WrongSignature : goal.returns-in_ok-report_found-in-Err-WrongSignature
 returns-in_ok-report_found-in-Err-WrongSignature g c =

@@ -10,18 +10,10 @@ use Rattle.avr_session.proofs.ActionByAction.Saves.{saved_out, not_created, crea
 use Rattle.avr_session.proofs.saving.save.Goals as goal
 
 pub returns-then-eq : goal.returns-then-eq
-returns-then-eq g c =
-    let reports = saved_out _ _ c.args.target.file.now (file_text c.args.target.format c.args.bytes.now)
-    c.write_file.result (sym c.eq.ensures ∙ c.if-eq.true) c.write_file.ensures.writes c.write_file.ensures.follows in
-    search rules
+returns-then-eq g c = search (rules, saved_out, sym c.eq.ensures ∙ c.if-eq.true)
 
 pub returns-in-Ok : goal.returns-in-Ok
-returns-in-Ok g c =
-    let reports = created_then _ (g.D.Desk.view c.create.new.self) _ c.args.target.file.now
-    (file_text c.args.target.format c.args.bytes.now) c.create.result c.write_file-in-Ok.result c.in-Ok.is
-    c.create.ensures.kept c.create.ensures.call.counts
-    c.write_file-in-Ok.ensures.follows c.write_file-in-Ok.ensures.writes in
-    rw (sym c.eq.ensures ∙ c.if-eq.false) (search rules)
+returns-in-Ok g c = rw (sym c.eq.ensures ∙ c.if-eq.false) (search (rules, created_then))
 
 pub returns-in-Err : goal.returns-in-Err
 unfolding cause_line
