@@ -103,7 +103,7 @@ check() {
             fail "$file is there, and $manifest doesn't name it: nothing is installed"
     done
     if [ -L "$manifest" ] || { [ -e "$manifest" ] && [ ! -f "$manifest" ]; }; then
-        fail "$manifest is no manifest of this script"
+        fail "$manifest is a link, or no regular file: nothing is installed"
     fi
     check_links "$manifest" "${@/#/"$prefix/"}"
 }

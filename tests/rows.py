@@ -240,7 +240,7 @@ def faults_of_a_chip():
         found, own, _ = served(SAFE, [option], status=1)
         check_equal(f"{option}: the rows", (found, own[0]), ({}, f"no further row is tried: {why}"))
     _, own, _ = served(SAFE, ["--lose", "SIGN_ON"], status=1)
-    hint = "no valid reply; the chip is unchanged. Check: the speed (-b 115200)"
+    hint = "no valid reply to SIGN_ON; the chip is unchanged. Check: the speed (-b 115200)"
     check("silent: the hint", own[1].startswith(hint), own)
 
 

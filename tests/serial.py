@@ -442,6 +442,8 @@ PACKED = {
 EMPTY = {
     "end.hex": b":00000001FF\n",
     "end.srec": b"S0030000FC\nS5030000FC\nS9030000FC\n",
+    "note_after.hex": b":00000001FF\n# built by :me\n",
+    "blank.hex": b" \r\n\n",
     "empty.hex": b"",
     "empty.bin": b"",
 }
@@ -553,7 +555,9 @@ def no_firmware():
             "note.ELF": "is not ELF, despite its name: it has Intel HEX: give ",
         },
     )
+    # (these are no such files without their names)
     others = {"lib.elf": PACKED["lib.a"][0], "note.ELF": room.read("blink.hex"), "a.out": b"\x0c\x94\0\0"}
+    others["blank.hex"] = EMPTY["blank.hex"]
     contents = {**TEXTS, **EMPTY, **JOINED, **others, **{name: held for name, (held, _) in PACKED.items()}}
     for name, content in contents.items():
         room.put(name, content)
@@ -738,7 +742,11 @@ def speeds_that_a_device_has_not():
     board = Board(deaf=1000)
     words = ["-p", "m328p", "-c", "arduino", "-D", "-U", "flash:w:blink.hex", "-P", board.device]
     _, _, hint = patched(slow.replace("(9600)", "(115200)"), words)
-    check("a device without the second speed", hint.startswith("avrstk-serial: no valid reply; the chip is"), hint)
+    check(
+        "a device without the second speed",
+        hint.startswith("avrstk-serial: no valid reply to SIGN_ON; the chip is"),
+        hint,
+    )
     board.end()
 
 
@@ -1172,7 +1180,7 @@ def warnings():
         own = run(["-p", part, "-P", "emu:no.bin", *words.split()])[3]
         room.clear()
         check(f"{part} {words}", bool(own) == bool(wanted) and all(line.startswith(wanted) for line in own), own)
-    why = "it may be erased, or the lock may hide it (then -U lock:r:-:h prints a lock whose bit 1 is 0)"
+    why = "it was erased when it was read, or the lock hid it (then -U lock:r:-:h prints a lock whose bit 1 is 0)"
     hides, locks, done = f"all of flash read as FF: {why}", ["-U", "flash:w:blink.hex:i"], set()
     for words, shown in ("", [hides]), ("-A", []), ("-q -q", []):
         check_equal(f"erased {words}", over(["-p", "m328p", *words.split(), "-U", "flash:r:none.hex:i"])[3], shown)
@@ -1852,7 +1860,10 @@ FOLLOWED = [
         r"For a programmer of STK500v2 leave out -c (\w+)\. ",
         lambda words, _, found: [word for word in words if word not in ("-c", found[1])],
     ),
-    (r"^ended by SIG|^no valid reply; the chip is unchanged. Check|^the device sends data, but no valid reply", mended),
+    (
+        r"^ended by SIG|^no valid reply to SIGN_ON; the chip is unchanged. Check|^the device sends data, but no valid",
+        mended,
+    ),
     (
         r"^a signature of 00 or FF|^the programmer can't reach the chip|^no further valid reply"
         r"|^the connection to the device broke|^often something else sends data",

@@ -17,7 +17,7 @@ is_for_serial() {
                 port=${OPTARG#=}
                 ;;
             C | l | s | u) ignored=yes ;;
-            [:?]) return 1 ;;
+            h | [:?]) return 1 ;;
             -)
                 case $OPTARG in
                     serve* | chip* | help) return 1 ;;

@@ -46,7 +46,7 @@ class Spec:
         if unknown:
             raise Fault(f"--each {given}: no field {', '.join(unknown)}; there is {', '.join(names)}")
         if any(field[1] != "n" and ":" in field[0] for field in FIELD.finditer(self.text)):
-            raise Fault(f"--each {given}: only {{n}} takes a width")
+            raise Fault(f"--each {given}: only {{n}} takes a base or a width")
 
     def filled(self, number: int, row: dict[str, str]) -> str:
         """Returns the text for a number and a row."""
@@ -68,7 +68,7 @@ class Spec:
             raise Fault(f"--each {self.given}: {text} is not pairs of hexadecimal digits")
         held = bytes.fromhex(text[2:]) if is_hex else text.encode("utf-8", "surrogateescape")
         if not held:
-            raise Fault(f"--each {self.given}: the text is empty")
+            raise Fault(f"--each {self.given}: the row gives an empty text")
         return self.address, held
 
 

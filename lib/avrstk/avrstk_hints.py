@@ -182,7 +182,7 @@ def hint(run: Outcome, number: int | None) -> str:
         return f"{why}. Check {resets}. {others}" if resets else f"{why}. {others}"
     if error == "no answer" and run.commands <= {SIGN_ON, LEAVE}:
         checks = "; ".join([speed, "that no serial monitor has the port open", *[resets] * needs_reset])
-        return f"no valid reply; {state}. Check: {checks}. {others}"
+        return f"no valid reply to SIGN_ON; {state}. Check: {checks}. {others}"
     return matched(REPLIED, error, run, speed=speed, state=state, noisy=noisy(words, error)) or state
 
 

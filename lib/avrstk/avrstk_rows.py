@@ -534,7 +534,7 @@ def try_rows(words: Words, opens: Callable[[], Opened]) -> int:
     tried, again = [is_met for is_met in rows.results.values() if is_met is not None], rows.programmer.repeated
     if why:
         print_line(f"no further row is tried: {why}")
-    if why == "no valid reply to 01" and not rows.results:
+    if why == f"no valid reply to {hexed(SIGN_ON)} in four attempts" and not rows.results:
         print_line(hint(Outcome(words, commands={SIGN_ON[0]}, was_opened=True, error="no answer"), None))
     print_line(f"{sum(tried)} of {len(tried)} rows are met, tried at some addresses; steps repeated: {again}")
     print_line(f"promised of such a programmer: {'not known' if why else rows.left()}")

@@ -1048,7 +1048,7 @@ def execute(words: Words) -> int:
     if outcome.status and not words.has_port:
         raise Fault(hint(outcome, ended_by()))
     if not outcome.status and words.backup is None and "flash: 0 bytes read" in words.report.last_lines():
-        hidden = f": it may be erased, or the lock may hide it ({OPEN_LOCK})"
+        hidden = f": it was erased when it was read, or the lock hid it ({OPEN_LOCK})"
         words.note("all of flash read as FF" + hidden * (not words.is_bootloader))
     return outcome.status
 

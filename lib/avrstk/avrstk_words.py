@@ -346,7 +346,9 @@ class Update:
 
     def may_have(self, address: int) -> bool:
         """Whether an image has a byte at this address, as far as its first 64 kB tell."""
-        return self.format == "m" or len(self.front) == 65_536 or address in self.image()
+        if self.format == "m":
+            return address < self.size()
+        return len(self.front) == 65_536 or address in self.image()
 
     def value(self) -> int | None:
         """Returns the byte of an update of one byte, also from a file, else None."""
@@ -399,10 +401,12 @@ class Update:
         if is_elf and self.format == "r":
             cure = f": give {self.given_as('e')}" * (self.memory in AREAS)
             return f"is ELF, not the bytes of a memory{cure}"
-        # (avrstk reports where records are that it can't read)
-        if not held or begins and self.format != "r" and not (DATA.search(held) or MARKED.search(held)):
-            return "has no data (did its build fail?)"
         end = ENDS[begins[0].split()[0][:1]].search(held) if begins and self.format != "r" else None
+        # (avrstk reports where records are that it can't read)
+        is_marked = DATA.search(held) or MARKED.search(held, 0, end.start() if end else len(held))
+        is_blank = self.format in ("i", "s") and not held.strip()
+        if not held or is_blank or begins and self.format != "r" and not is_marked:
+            return "has no data (did its build fail?)"
         # (a note may be after the end, too)
         if end and any(RECORD.match(held, found.start()) for found in DATA.finditer(held, end.end())):
             return "has data after its end record, which would not be read; to join files use srec_cat"
