@@ -230,14 +230,14 @@ def advised(given, plan, text):
     which has what was left out, too."""
     again = re.search(r"run the same command again( with -D)?(?:,? without (.*))?$", text)
     if "give it last" in text or "With -e give all that is to be written, the lock last" in text:
-        return [*with_lock_last(plan), *["-e"] * ("nly an erase (-e)" in text)]
+        return [*with_lock_last(plan), *["-e"] * ("nly a programmer's erase (-e)" in text)]
     if "given twice: give one value" in text:
         return with_one_lock(given)
     if "leave out -D, and give all that is to be written" in text:
         return [word for word in plan if word != "-D"]
     if again:
         return [*["-D"] * bool(again[1]), *without(given, again[2] or "")]
-    return [*given, "-e"] if "nly an erase (-e) removes a lock" in text else None
+    return [*given, "-e"] if "nly a programmer's erase (-e) removes a lock" in text else None
 
 
 def parted(hint):
@@ -341,7 +341,7 @@ def followed(given, old, whole, fault):
         elif re.search("give it last|give all that is to be written", text):
             # (the order, and the erase, are those of the hint)
             plan, whole = given, None
-        elif "nly an erase (-e) removes a lock" in text:
+        elif "nly a programmer's erase (-e) removes a lock" in text:
             plan, whole = [*with_lock_last(plan), "-e"], None
     else:
         return f"no end: {said}", said
