@@ -104,16 +104,6 @@ def the_hint():
     check(f"is a row: {words} | {hint}", f"\n{words} | {hint}\n" in text("tests/tables/refused.txt"))
 
 
-def the_session_before_the_run():
-    """Lines that TROUBLESHOOTING quotes of a session before the run begin as in rows of tests/tables/asked.txt
-    (tests/serial.py, case asked_first, prints them)."""
-    page = text("docs/TROUBLESHOOTING.md")
-    printed = [row.split(" | ")[-1] for row in text("tests/tables/asked.txt").splitlines() if row[:1] != "#"]
-    for begin, end in [("`avrstk-serial: ", "..`"), ("`avrstk-serial` names *", "*")]:
-        quoted = page.partition(begin)[2].partition(end)[0]
-        check(f"is printed: {quoted}", quoted and any(row.startswith(quoted) for row in printed))
-
-
 # the conditions of the promise, as docs/PROOFS has them
 CONDITIONS = (
     "every valid frame that arrives was sent by the other side in this run",
@@ -231,7 +221,6 @@ CASES = named(
     what_is_trusted,
     the_first_change,
     the_hint,
-    the_session_before_the_run,
     the_conditions,
     files_of_recipes,
     the_logic,

@@ -712,7 +712,7 @@ def what_is_missing():
     # (2: Python keeps no docstrings)
     for words, level in [([], "0"), (["--help"], "0"), (["-h"], "0"), (["-?"], "0"), (["--help"], "2")]:
         status, output, printed, own = run(words, env={"PYTHONOPTIMIZE": level})
-        begins = output.startswith(b"Runs avrstk with a programmer")
+        begins = output.startswith(b"avrstk for boards on a serial device")
         check_equal(f"{words}, {level}", (status, printed, own, begins), (0, b"", [], True))
 
 
