@@ -130,7 +130,7 @@ touched() {
     find "$1" -exec touch -h -d "@$SOURCE_DATE_EPOCH" {} +
 }
 
-[ -z "$with_c" ] || echo "proves and builds the library for C, in several minutes, if it isn't built" >&2
+[ -z "$with_c" ] || echo "proves and builds the library for C, if it isn't built" >&2
 AVRSTK=$program DESTDIR=$all "$top/install.sh" ${with_c:+"$with_c"} /usr >/dev/null
 # what the stamp says of the programs as they are installed
 programs=("$all/usr/lib/avrstk/avrstk")
