@@ -144,7 +144,7 @@ made="Commit $commit."
 stated=$(printf '%s\ncommit: %s\nkit: %s' "${stamp%%$'\n'*}" "$commit" "$kit")
 mark=""
 if [[ $stamp != proved* ]]; then
-    proof="UNPROVED: this build was compiled without its proofs, by $kit. Nothing of it was proved."
+    proof="UNPROVED: this build was compiled without its proofs, by $kit."
     if [[ $stamp != unproved* ]]; then
         proof="UNPROVED: no stamp says that this build was proved, or from which sources."
         made="Packaged at commit $commit." stated=$stamp
