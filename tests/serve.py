@@ -391,6 +391,9 @@ def a_command():
     client = [str(PROGRAM), "-p", "m328p", "-P", "net:{}", "-q", "-U", "lfuse:w:0x60:m"]
     check_equal("a client", ran(["0", *M328P, "--", *client]), (0, "", ""))
     check_equal("its fuse", fuse(), 0x60)
+    plain = {"LC_ALL": "C", "PYTHONUTF8": "0", "PYTHONCOERCECLOCALE": "0"}
+    served = ran(["0", "-p", "m328p", "--chip", "\u00e9.bin", "--", "true"], **plain)
+    check_equal("a chip named in UTF-8, where Python takes names as ASCII", served, (0, "", ""))
     rows = [
         (["sh", "-c", "[ {} = $AVRSTK_PORT ] && exit 7"], 7, ""),
         (["sh", "-c", "kill -9 $$"], 137, ""),

@@ -482,6 +482,11 @@ def judge(options: Mapping[str, str], client: list[str]) -> str:
     chip, parts = options.get("--chip"), options.get("--parts")
     if not chip:
         raise Fault("no chip file given (--chip)")
+    try:
+        # (Python may decode names as another character set)
+        os.fsencode(chip).decode()
+    except UnicodeDecodeError:
+        raise Fault(f"--chip {chip}: the name is not UTF-8")
     if parts is not None and not stat.S_ISREG(os.stat(parts).st_mode):
         raise Fault(f"--parts {parts}: not a regular file")
     if "--timeout" in options and not client:
