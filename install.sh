@@ -97,7 +97,7 @@ check() {
             folder=$(dirname "$folder")
         done
         [ -d "$folder" ] || fail "$folder is no folder that can be reached"
-        [ -w "$folder" ] || fail "$folder cannot be written: run this as a user who may, or install into another folder"
+        [ -w "$folder" ] || fail "$folder cannot be written: give another PREFIX"
         [ -n "$destination" ] || [ "$file" = "$manifest" ] || [[ ! -e $file && ! -L $file ]] ||
             [[ $known == *$'\n'"${file#"${prefix%/}/"}"$'\n'* ]] ||
             fail "$file is there, and $manifest doesn't name it: nothing is installed"
@@ -217,7 +217,7 @@ built=${AVRSTK:-$("$top/avrstk" --which)}
 [ -f "$built" ] || fail "$built is not a file"
 session=$(session_of "$built")
 if [ -z "$session" ] && [ -d "$top/crates/avrstk_session" ]; then
-    echo "avrstk_session, which avrstk-serve and some commands of avrstk-serial need, is not beside $built"
+    echo "avrstk_session is not beside $built: avrstk-serve needs it"
 fi
 front=$(mktemp) stamp=$(mktemp)
 "$top/avrstk" --stamp-of "$built" ${session:+"$session"} >"$stamp" || true
@@ -264,7 +264,7 @@ if [ -f "$top/tools/site.py" ]; then
             add 644 "$site/$file" "$html/$file"
         done < <(cd "$site" && find . -type f -printf '%P\n' | LC_ALL=C sort)
     else
-        echo "this time the documents are not installed as a site, which needs python3, mandoc, and Sphinx with MyST, furo and sphinx-copybutton"
+        echo "no site of the documents is installed: check python3, mandoc, Sphinx, MyST, furo and sphinx-copybutton"
     fi
 fi
 library=(lib/libavr_records.a include/avr_records.h lib/pkgconfig/avr_records.pc lib/libavr_records.so "lib/$shared")
@@ -276,7 +276,7 @@ command -v python3 >/dev/null || echo "avrstk-serial and avrstk-serve need pytho
 if ! command -v rt >/dev/null || ! command -v ar >/dev/null; then
     fail "the library for C needs rt of Rattle's kit, and ar"
 fi
-echo "proves and builds the library for C, in several minutes, if it isn't built"
+echo "proves and builds the library for C, if it isn't built"
 start "$top/examples/c/build.sh" "$top/out/c"
 files=() links=() places=()
 add 644 "$top/out/c/libavr_records.a" "${library[0]}"

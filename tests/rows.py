@@ -39,12 +39,7 @@ KEPT = ["SIGN_ON", "ENTER", "LEAVE", "damaged frame", "restart"]
 READING = [f"reads {memory}" for memory in ("signature", "calibration", "fuses", "lock", "flash", "EEPROM")]
 WRITING = ["erases", "writes flash", "writes fuses", "writes lock"]
 SAFE, ALL = ["--try-rows"], ["--try-rows=all", "--yes"]
-BY_A_GOOD_LINE = " while the line changes no byte (version 1 has no checksums)"
-FIRMWARE = "under README's conditions, after a verified run with status 0 the chip holds the images "
-FIRMWARE += "(the last of overlapping ones)"
-COMPARED = "under README's conditions, after a run with status 0, each image that it compared after its last write is "
-COMPARED += "in the chip"
-UNTRIED = " if the programmer obeys no damaged frame, which was not tried"
+WHOLE, SMALLER = "README's promise", "the smaller promise of docs/BOARDS"
 TINY, FLASH, EEPROM = ["--parts", "tiny.toml", "-p", "tiny"], 2_048, 64
 room.keep("tiny.toml", boards.TINY.encode())
 # (the same sizes in hexadecimal)
@@ -192,7 +187,7 @@ def served(words, options=(), chip=CHIP, part=TINY, failing=(), **more):
 
 def emulated():
     """The emulated programmer meets each row, and the chip is as before. All memories were saved first."""
-    found, own, _ = served(SAFE, left=WRITING, promise=COMPARED)
+    found, own, _ = served(SAFE, left=WRITING, promise=SMALLER)
     check_equal("the rows", list(found), [*READING[:-1], *KEPT[:4], READING[-1], "writes EEPROM", "restart", *WRITING])
     folder = room.folder / own[0].rpartition(" ")[2]
     files = {file.name: file.read_text() for file in folder.iterdir()}
@@ -202,10 +197,10 @@ def emulated():
         [files[f"{name}.txt"] for name in ("lfuse", "hfuse", "efuse", "lock")],
         ["0x62\n", "0xd9\n", "0xfd\n", "0xff\n"],
     )
-    found, own, _ = served(ALL, promise=FIRMWARE)
+    found, own, _ = served(ALL, promise=WHOLE)
     check("all rows", not {row for row in found if row not in (*READING, *KEPT, *WRITING, "writes EEPROM")}, str(found))
     # (the erase keeps this EEPROM)
-    served(ALL, chip=CHIP[:-3] + b"\xd1\xfd\xff", promise=FIRMWARE)
+    served(ALL, chip=CHIP[:-3] + b"\xd1\xfd\xff", promise=WHOLE)
     served(SAFE, part=["-p", "m328p"], chip=serial.os.urandom(33_792) + b"\x62\xd9\xfd\xff", left=WRITING)
     served(SAFE, part=["--parts", "hexadecimal.toml", "-p", "tiny"], left=WRITING)
 
@@ -223,7 +218,7 @@ LINE += ["--drop READ_LOCK#2 --late READ_FLASH#4:1.2"]
 def faults_of_the_line():
     """With each fault of a frame all rows are met, and commands were repeated."""
     for options in LINE:
-        _, own, messages = served(SAFE, options.split(), left=WRITING, promise=COMPARED)
+        _, own, messages = served(SAFE, options.split(), left=WRITING, promise=SMALLER)
         check(f"{options}: a command was repeated", not any("repeated: 0" in line for line in own), str(own))
         check(f"{options}: it struck", "selected no command" not in messages, messages)
 
@@ -231,11 +226,11 @@ def faults_of_the_line():
 def faults_of_a_chip():
     """A bootloader meets the rows of commands that it refuses, and fails that of a write that also erases. Nothing is
     tried without a chip, or if it is locked."""
-    served(ALL, ["--bootloader"], failing=["writes flash"], promise=COMPARED)
-    served(SAFE, ["--bootloader"], left=WRITING, promise=COMPARED)
+    served(ALL, ["--bootloader"], failing=["writes flash"], promise=SMALLER)
+    served(SAFE, ["--bootloader"], left=WRITING, promise=SMALLER)
     for option, why in ("--no-chip", "10 C8 64 19 20 00 53 03 AC 53 00 00 was answered 10 C0"), (
         "--locked",
-        "the chip is locked (FC), so nothing is tried",
+        "the chip is locked (FC)",
     ):
         found, own, _ = served(SAFE, [option], status=1)
         check_equal(f"{option}: the rows", (found, own[0]), ({}, f"no further row is tried: {why}"))
@@ -335,8 +330,7 @@ def wrong():
         left = ["damaged frame", "writes EEPROM"] if row == "reads EEPROM" else []
         plug = Plug(Wrong(act).call)
         words = [*TINY, "-P", plug.device, *(ALL if row in WRITING else SAFE)]
-        unread = (f" (not {row[6:]})" if row in READING else "") + UNTRIED * bool(left)
-        promise = "none" if set(rows) & set(KEPT) else COMPARED + unread
+        promise = "none" if set(rows) & set(KEPT) else SMALLER
         found, _ = tried(what, words, rows, left + WRITING * (row not in WRITING), promise)
         check(f"{what}: the frames are shown", " was answered " in found[rows[0]][1], found[rows[0]])
         plug.end()
@@ -349,7 +343,7 @@ def wrong():
 def unseen():
     """A programmer that doesn't write fuses, and replies OK, isn't seen: each fuse is written with its own byte."""
     plug = Plug(Wrong(pretends(b"\x17", b"\x17\0\0")).call)
-    tried("fuses aren't written", [*TINY, "-P", plug.device, *ALL], [], [], FIRMWARE)
+    tried("fuses aren't written", [*TINY, "-P", plug.device, *ALL], [], [], WHOLE)
     plug.end()
 
 
@@ -359,7 +353,7 @@ def babbles():
     status, output, _, own = serial.run([*TINY, "-P", plug.device, *SAFE])
     plug.end()
     check_equal("a board that prints without end: status and rows", (status, output), (1, b""))
-    check("a board that prints without end: why", any("no valid reply to 01" in line for line in own), str(own))
+    check("a board that prints without end: why", any("no good reply to 01" in line for line in own), str(own))
 
 
 def read_along():
@@ -379,7 +373,8 @@ def read_along():
 
 def ends_early():
     """If the device goes away or no reply comes while something is changed, the last line has a command that restores
-    it. After Ctrl-C the page is written back."""
+    it. After a signal the page is written back."""
+    signals = {"Ctrl-C": serial.signal.SIGINT, "Ctrl-C later": serial.signal.SIGINT, "SIGQUIT": serial.signal.SIGQUIT}
     for what, row, words in (
         ("gone", b"\x15", SAFE),
         ("silent", b"\x15", SAFE),
@@ -387,6 +382,7 @@ def ends_early():
         ("gone at a restart", b"\x13", ALL),
         ("Ctrl-C", b"\x15", SAFE),
         ("Ctrl-C later", b"\x15", SAFE),
+        ("SIGQUIT", b"\x15", SAFE),
     ):
         pids, done, seen = [], [], []
 
@@ -396,8 +392,8 @@ def ends_early():
             # (the second write puts the page back)
             if body[:1] == row and not done and len(seen) > (what == "Ctrl-C later"):
                 done.append(True)
-                if what.startswith("Ctrl-C"):
-                    os.kill(pids[0], serial.signal.SIGINT)
+                if what in signals:
+                    os.kill(pids[0], signals[what])
                 elif what == "gone":
                     plug.vanishes.set()
                 elif what == "gone at a restart":
@@ -410,10 +406,10 @@ def ends_early():
         )
         check_equal(f"{what} at {row}: the status", status, 1)
         plug.end()
-        if what.startswith("Ctrl-C"):
+        if what in signals:
             check(f"{what}: nothing is to be restored", not any("changed" in line for line in own), str(own))
         else:
-            command = serial.shlex.split(own[-1].partition("To restore it, try: ")[2])
+            command = serial.shlex.split(own[-1].partition("; to restore it, try: ")[2])
             check(f"{what} at {row}: a command restores it", command[:1] == [str(serial.SCRIPT)], str(own))
             again = Plug(Wrong(lambda body, ask: ask(body), chip=room.read("wrong.bin")).call)
             command[command.index("-P") + 1] = again.device
@@ -426,18 +422,18 @@ def unreadable():
     """If flash can't be read, nothing is erased, and a page of EEPROM can be restored. If the trial can't restore the
     chip, or a first reading was wrong, the last line names the folder."""
     unwritten = ["damaged frame", "writes EEPROM"]
-    hidden = [("flash", b"\x14", [], COMPARED), ("eeprom", b"\x16", unwritten, COMPARED + UNTRIED)]
-    for words, (memory, code, left, promise) in itertools.product([SAFE, ALL], hidden):
+    hidden = [("flash", b"\x14", []), ("eeprom", b"\x16", unwritten)]
+    for words, (memory, code, left) in itertools.product([SAFE, ALL], hidden):
         plug, what = Plug(Wrong(pretends(code, code + b"\xc0")).call), f"no {memory} {words}"
-        found, own = tried(what, [*TINY, "-P", plug.device, *words], [], WRITING + left, promise)
+        found, own = tried(what, [*TINY, "-P", plug.device, *words], [], WRITING + left, SMALLER)
         plug.end()
-        check_equal(f"{what}: why", {found[row][1] for row in WRITING}, {f"{memory} can't be read"})
+        check_equal(f"{what}: why", {found[row][1] for row in WRITING}, {f"no sure reading of {memory}"})
         check(f"{what}: the chip is as before", not any("changed" in line for line in own), str(own))
         check_equal(f"{what}: the chip", room.read("wrong.bin"), CHIP)
     plug = Plug(Wrong(once(b"\x18\4\x50\0", 1, 0x20)).call)
     _, own = tried("a wrong first reading", [*TINY, "-P", plug.device, *SAFE], ["reads fuses", "SIGN_ON"], WRITING)
     plug.end()
-    wanted = f"the chip may be changed. What was read at first is in {own[0].rpartition(' ')[2]}"
+    wanted = f"the chip may be changed; first readings are in {own[0].rpartition(' ')[2]}"
     check_equal("a wrong first reading: the last line", own[-1], wanted)
     for what, row, code in ("no flash", b"\x15", b"\x14"), ("no calibration", b"\x13", b"\x1c"):
         done = []
@@ -450,7 +446,7 @@ def unreadable():
         status, _, _, own = serial.run([*TINY, "-P", plug.device, *ALL])
         plug.end()
         check_equal(f"{what}, silent at {row}: the status", status, 1)
-        command = serial.shlex.split(own[-1].partition("To restore it, try: ")[2])
+        command = serial.shlex.split(own[-1].partition("; to restore it, try: ")[2])
         check_equal(
             f"{what}, silent at {row}: the last words",
             own[-1].split()[-1][-8:],
@@ -490,24 +486,22 @@ def no_trial():
             pretends(b"\x1b", b"\x1b\0\xff\0"),
             {},
         ),
-        ("the chip's signature can't be read, so nothing is tried", pretends(b"\x1b", b"\x1b\xc0"), {}),
-        (
-            "no valid reply but B0 C1 (a damaged frame) to 1A 04 58 00 00 00 in four attempts",
-            pretends(b"\x1a", b"\xb0\xc1"),
-            {},
+        ("no sure reading of signature", pretends(b"\x1b", b"\x1b\xc0"), {}),
+        *(
+            (f"no good reply to {shown} in four attempts", act, {})
+            for shown, act in (
+                ("01", pretends(b"\1", b"\xb0\xc1")),
+                ("1A 04 58 00 00 00", pretends(b"\x1a", b"\xb0\xc1")),
+                ("1A 04 58 00 00 00", corrupt_and_silent(b"\x1a", 3)),
+                ("1A 04 58 00 00 00", corrupt_and_silent(b"\x1a", 0)),
+            )
         ),
-        (
-            "no valid reply but B0 C1 (a damaged frame) to 1A 04 58 00 00 00 in four attempts",
-            corrupt_and_silent(b"\x1a", 3),
-            {},
-        ),
-        ("no valid reply to 1A 04 58 00 00 00 in four attempts", corrupt_and_silent(b"\x1a", 0), {}),
-        ("the memories can't be saved in this folder: File too large", lambda body, ask: ask(body), small),
+        ("the memories can't be saved: File too large", lambda body, ask: ask(body), small),
     ]
     for why, act, more in cases:
         found, own = trying(why, act, SAFE, **more)
         check_equal(why, (found, own[0]), ({}, f"no further row is tried: {why}"))
-        check(f"{why}: nothing is changed", not any("changed" in line for line in own), str(own))
+        check(f"{why}: nothing is changed, and no hint", not any("chang" in line for line in own), str(own))
 
 
 def not_put_back():
@@ -526,7 +520,7 @@ def not_put_back():
 
         found, own = trying(what, act, SAFE, begun=lambda started: pids.append(started.pid))
         check(f"{what}: no row fails", not any(how == "FAILS" for how, _ in found.values()), str(found))
-        check(f"{what}: the last line", own[-1].startswith("the chip may be changed. What was read at first "), own)
+        check(f"{what}: the last line", own[-1].startswith("the chip may be changed; first readings are in "), own)
         check(f"{what}: the chip", room.read("wrong.bin") != CHIP)
 
 
@@ -551,7 +545,7 @@ def unreadable_later():
         return b"\x18\xc0" if body[:4] == b"\x18\4\x50\x08" else ask(body)
 
     found, _ = trying("no efuse", no_efuse, ALL, 0)
-    check_equal("no efuse: the row", found["writes fuses"], ("not tried", "efuse can't be read"))
+    check_equal("no efuse: the row", found["writes fuses"], ("not tried", "no sure reading of efuse"))
     check_equal("no efuse: what is read", found["reads fuses"][1], "62, D9, 18 04 50 08 00 00 was answered 18 C0")
     check_equal("no efuse: no fuse is written", (written, room.read("wrong.bin")), ([], CHIP))
 
@@ -559,7 +553,7 @@ def unreadable_later():
 def refused():
     """What --try-rows doesn't take is refused before the device is opened."""
     at = "-P /dev/null -p m328p"
-    lacks = "--try-rows finds no flash_size, flash_page, eeprom_size, eeprom_page, eesave_bit of "
+    lacks = "no flash_size, flash_page, eeprom_size, eeprom_page, eesave_bit found in a table "
     cases = {
         f"{at} --try-rows=all": "--try-rows=all may erase and write the chip, its fuses and its lock, and fail to "
         "restore them: add --yes if you can lose this chip; nothing was sent, and the device was not opened",
@@ -572,11 +566,10 @@ def refused():
         "-P /dev/null -p nosuch --try-rows": "no part nosuch: -p '?' lists the parts; others need a part file",
         "-P /dev/null --try-rows": "no part given (-p): -p '?' lists the parts, and -p auto finds the part by "
         "the chip's signature",
-        "-P /dev/null --parts one.toml -p c-chip --try-rows": f"{lacks}c-chip in one.toml: give a file with these in a "
-        "table [parts.c-chip]: nothing was sent",
-        "-P /dev/null --parts nosuch.toml -p m328p --try-rows": f"{lacks}m328p in nosuch.toml: give a file with these ",
+        "-P /dev/null --parts one.toml -p c-chip --try-rows": f"one.toml: {lacks}[parts.c-chip]: nothing was sent",
+        "-P /dev/null --parts nosuch.toml -p m328p --try-rows": f"nosuch.toml: {lacks}[parts.m328p]: nothing was sent",
         "-P /dev/null --parts tiny.toml --try-rows": "no part given (-p): with --parts, -p takes a part as that file ",
-        "-P /dev/null --parts less.toml -p tiny --try-rows": "--try-rows finds no eesave_bit of tiny in less.toml: ",
+        "-P /dev/null --parts less.toml -p tiny --try-rows": "less.toml: no eesave_bit found in a table [parts.tiny]: ",
     }
     room.put("less.toml", boards.TINY.replace("eesave_bit", "bit").encode())
     fields = "signature = '1E950F', flash_size = 0x8000, flash_page = 0x80, eeprom_size = 1_024, eeprom_page = 4"
@@ -607,7 +600,7 @@ def mega_2560():
     words = ["--parts", "mega.toml", "-p", "m2560", "-c", "wiring"]
     with mega.Board(content) as board:
         plug = Plug(board.call)
-        wrong, promise = ["reads EEPROM", "writes flash", "writes lock"], f"{COMPARED} (not EEPROM)"
+        wrong, promise = ["reads EEPROM", "writes flash", "writes lock"], SMALLER
         found, _ = tried("a Mega, all", [*words, "-P", plug.device, *ALL], wrong, ["writes EEPROM"], promise)
         for name, code in ("erases", "12"), ("writes fuses", "17"), ("reads calibration", "1C"):
             check(f"a Mega, {name}: refused", f"{code} C0" in found[name][1], found[name])
@@ -661,7 +654,7 @@ def version1():
     for kind, programmer, words, wrong, left in cases:
         boards.prepare(kind, 0)
         output, own, status, is_kept, rest = boards.apart(lambda: over_version1(kind, programmer, words))
-        seen(kind, rows_of(output), own, status, wrong, left, COMPARED + BY_A_GOOD_LINE)
+        seen(kind, rows_of(output), own, status, wrong, left, SMALLER)
         check(f"{kind}: the flash is as before", is_kept)
         if kind.startswith("ArduinoISP"):
             check_equal(f"{kind}: EEPROM, fuses and lock", rest, b"\xff" * EEPROM + b"\x62\xd9\xff\xff")

@@ -680,9 +680,8 @@ def what_is_missing():
             finished = subprocess.run(command, capture_output=True, text=True, env=own_environment(), timeout=PATIENCE)
             return finished.returncode, finished.stdout, finished.stderr
 
-        where = "in lib/avrstk, in the folder of this script or beside that folder"
-        modules = f"avrstk_serial can't be loaded: it belongs {where}"
-        check_equal("no modules", ran(), (1, "", f"avrstk-serial: {modules}\n"))
+        modules = "Python finds no module {}: check Python and lib/avrstk\n"
+        check_equal("no modules", ran(), (1, "", f"avrstk-serial: {modules.format('avrstk_serial')}"))
         shutil.copytree(SHARED, Path(folder, "lib"), ignore=shutil.ignore_patterns("__pycache__"))
         Path(folder, "sitecustomize.py").write_text("import sys\nsys.modules['json'] = None\n")
         for script in ("avrstk-serial", "avrstk-serve"):
@@ -690,8 +689,7 @@ def what_is_missing():
                 PYTHONPATH=folder
             )
             finished = subprocess.run(command, capture_output=True, text=True, env=environment, timeout=PATIENCE)
-            lacks = "this Python has no module json: install the whole of Python (python3, not only python3-minimal)"
-            check_equal(f"{script}: no json", finished.stderr, f"{script}: {lacks}\n")
+            check_equal(f"{script}: no json", finished.stderr, f"{script}: {modules.format('json')}")
         check_equal("no program", ran(), (1, "", f"avrstk-serial: {front} {needed}\n"))
         put_program(front, "#!/bin/sh\necho $0 $1\n")
         check_equal("the one beside it", ran(), (0, f"{front} -P\n", ""))
@@ -1248,7 +1246,7 @@ def asked_and_done():
     room.put("counter", b"9\n")
     words = ["--each", "eeprom@0x3F0={n}", "--each", "eeprom@0x3F1=x{n}", "--counter", "counter"]
     *_, own, _, _, _ = asked(words, {"answer": counted})
-    why = "--each: two texts have a byte at eeprom@0x3F1: nothing was written"
+    why = "--each: two texts at eeprom@0x3F1: nothing was written"
     check_equal("a number that another station made longer", own[-1], why)
 
 
@@ -1278,6 +1276,7 @@ def asked_first():
     is a bootloader. Then it refuses the run, or makes it without a warning. Before other runs it doesn't ask."""
     room.keep("late.hex", hex_of([(0x4000, b"late")]))
     room.keep("long.bin", bytes(257))
+    room.keep("later.csv", b"a\nA\nABCDEFGHIJ\n")
     room.put("counter", b"7\n")
     cases = [
         ([board_of(board.strip()) for board in each.split(",")], shlex.split(options), *more)
@@ -2420,7 +2419,7 @@ def unread_command_lines():
 def places_of_reports():
     """A report goes to a file, also by a link, or into a pipe. If it can't be written, the run's own error is still
     reported, and the status is 1; if that is known before, nothing is sent."""
-    absent = f"cannot be created: no folder {room.folder}/no can be reached"
+    absent = f"cannot be written: check {room.folder}/no"
     for name, why in [("no/report.json", absent), (".", "is a folder")]:
         found = run([*FLASH, "-P", "emu:c.bin", "--json", name])
         check_equal(f"--json {name}", found, (1, b"", b"", [f"--json {name} {why}: {UNOPENED}"]))

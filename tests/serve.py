@@ -127,7 +127,7 @@ def listens():
         for value in [0x60, 0x61, 0x62]:
             check_equal(f"fuse {value}", server.writes_fuse(value), 0)
             wait_until(lambda: fuse() == value)
-        taken = f"avrstk-serve: port {server.port}: Address already in use\n"
+        taken = f"avrstk-serve: 127.0.0.1, port {server.port}: Address already in use\n"
         check_equal("a port that is taken", ran([str(server.port), *M328P]), (1, taken, ""))
         check_equal("it ends", server.end(), (0, ""))
     kept = kept_port()
@@ -206,7 +206,7 @@ def clients_that_reset():
 
 
 def failed(how):
-    return f"avrstk-serve: a session failed ({how}): its changes may not be in the chip file\n"
+    return f"avrstk-serve: a session failed ({how}): its chip may not be saved\n"
 
 
 def a_chip_in_use():
@@ -239,7 +239,7 @@ def idle_clients():
             check_equal("and one that has sent nothing", silent.recv(1), b"")
         check("the chip is saved", len(room.read("chip.bin") or b"") == CHIP_FILE)
         check_equal("the next client", server.writes_fuse(0x60), 0)
-        expected = "avrstk-serve: no byte passed for 1.5 seconds: a client is disconnected\n"
+        expected = "avrstk-serve: a client is disconnected after 1.5 seconds without a byte\n"
         check_equal("the messages", server.end(), (0, expected))
     with Serving() as server, server.call() as client:
         check("a session", begins(client))
@@ -346,11 +346,8 @@ def installed():
             [TOP / "install.sh", folder], env=own, capture_output=True, text=True, check=True
         ).stdout
         # (as tools/site.py needs them)
-        needs = "python3, mandoc, and Sphinx with MyST, furo and sphinx-copybutton"
-        check(
-            "what the site needs",
-            f"this time the documents are not installed as a site, which needs {needs}\n" in printed,
-        )
+        needs = "python3, mandoc, Sphinx, MyST, furo and sphinx-copybutton"
+        check("what the site needs", f"no site of the documents is installed: check {needs}\n" in printed)
         script = Path(folder, "bin/avrstk-serve")
         served = ran(["0", "-p", "atmega32u4", "--chip", "chip.bin", "--", "true"], script, AVRSTK="")
         check_equal("it serves", served, (0, "", ""))
@@ -394,6 +391,9 @@ def a_command():
     client = [str(PROGRAM), "-p", "m328p", "-P", "net:{}", "-q", "-U", "lfuse:w:0x60:m"]
     check_equal("a client", ran(["0", *M328P, "--", *client]), (0, "", ""))
     check_equal("its fuse", fuse(), 0x60)
+    plain = {"LC_ALL": "C", "PYTHONUTF8": "0", "PYTHONCOERCECLOCALE": "0"}
+    served = ran(["0", "-p", "m328p", "--chip", "\u00e9.bin", "--", "true"], **plain)
+    check_equal("a chip named in UTF-8, where Python takes names as ASCII", served, (0, "", ""))
     rows = [
         (["sh", "-c", "[ {} = $AVRSTK_PORT ] && exit 7"], 7, ""),
         (["sh", "-c", "kill -9 $$"], 137, ""),
@@ -416,7 +416,7 @@ def a_command():
             check_equal(f"{command}: its output", server.printed, b"begun\n")
             check_equal(f"{command}: SIG{name} ends it too", server.end(signal.Signals[f"SIG{name}"]), (status, ""))
             check_equal(f"{command}: and all that it started", runs(b"sleep"), [])
-    message = "avrstk-serve: ending sh: it went on for 0.5 seconds (--timeout)\n"
+    message = "avrstk-serve: ending sh: --timeout\n"
     check_equal(
         "--timeout", ran(["0", *M328P, "--timeout", "0.5", "--", "sh", "-c", "sleep 600; true"]), (124, message, "")
     )
@@ -435,7 +435,7 @@ def a_job_ends():
     """If a session fails, or the server ends it, a command has ten seconds to end, or to begin a session that ends
     well. Then the command is ended with all that it has started."""
     begun, held = time.monotonic(), {}
-    why = "in 10 seconds after a failed or idle session none began that ended well"
+    why = "10 seconds after a failed or idle session"
     for options, before, after, status, message in table("jobs"):
         folder = Path(tempfile.mkdtemp(dir=room.folder))
         (folder / "sub").mkdir()
@@ -600,7 +600,7 @@ def devices():
         os.write(idle, FRAMES[0])
         check_equal("an idle client is hung up on after its reply", read_whole(idle), REPLIES[: ENDS[0]])
         os.close(idle)
-        expected = "avrstk-serve: no byte passed for 3 seconds: a client is disconnected\n"
+        expected = "avrstk-serve: a client is disconnected after 3 seconds without a byte\n"
         check_equal("it ends", server.end(), (0, expected))
         check("its link is removed", not link.is_symlink())
     with Serving("--pty", "device", port=None) as server:
@@ -713,12 +713,12 @@ def logs_that_take_no_more():
         check("a reply", begins(client))
         missing = b"%d lines are missing" % (1_500 - held.count(b"\n"))
         check_equal("what is missing", os.read(reader, 1 << 20).partition(b"\n")[0], missing)
-        check_equal("it ends", server.end(), (0, "avrstk-serve: --log: lines are missing: its reader is too slow\n"))
+        check_equal("it ends", server.end(), (0, "avrstk-serve: --log: lines are missing: it is full\n"))
     os.close(reader)
     room.put("log", b"x" * 10)
     rows = [
         ("/dev/full", [], "No space left on device"),
-        ("log", ["--log-limit", "100"], "it would be longer than --log-limit allows"),
+        ("log", ["--log-limit", "100"], "it is full"),
     ]
     for name, words, why in rows:
         with Serving("--log", name, *words) as server, server.call() as client:
@@ -844,7 +844,7 @@ def reports():
         with server.call() as client:
             client.sendall(FRAMES[0])
             check_equal("an idle one ends", received(client, 1), b"")
-        expected = "avrstk-serve: no byte passed for 1 seconds: a client is disconnected\n"
+        expected = "avrstk-serve: a client is disconnected after 1 seconds without a byte\n"
         check_equal("no log is given, so none lacks a line", server.end(), (0, expected))
     (session,) = report()["sessions"]
     check_equal("it is idle", (session["commands"], session["idle"], session["saved"]), (1, True, True))

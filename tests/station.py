@@ -309,7 +309,7 @@ def into_images():
     check_equal(
         "no third row",
         (status, messages),
-        (1, ["avrstk-serial: --rows rows.csv has 2 rows, and the next number is greater"]),
+        (1, ["avrstk-serial: --rows rows.csv has no row 3"]),
     )
 
 
@@ -331,7 +331,7 @@ def retried():
     boards = serial.Boards({"answer": lambda reply: next(lost, reply) if reply[5] == 0x15 else reply}, {})
     status, _, messages = run(["-p", "m328p", "-P", str(boards.device), "--retry", "1", *one])
     boards.end()
-    why = "--rows one.csv has 1 rows, and the next number is greater; the chip may be erased or partly written"
+    why = "--rows one.csv has no row 2; the chip may be erased or partly written"
     check_equal("no number for a retry", (status, messages[-1]), (1, f"avrstk-serial: {why}"))
     check("it isn't announced", not any("trying again" in line for line in messages), messages)
     with Doubles(["first", "second"], {"second": ["--lose", "PROGRAM_EEPROM"]}) as doubles:
@@ -466,8 +466,7 @@ def signals():
         os.kill(int(boards[0]), signal.SIGRTMIN + 1)
         os.kill(int(boards[1]), signal.SIGKILL)
         messages = station.communicate(timeout=PATIENCE)[1].decode().splitlines()
-    line = "two: avrstk-serial: its process was ended by SIGKILL: the chip is unchanged, and may be in programming mode"
-    line += ": power-cycle the board"
+    line = "two: avrstk-serial: its process ended (SIGKILL): the chip is unchanged; power-cycle the board"
     check("a process that only reads is killed", line in messages, messages)
     nameless = line.replace("two", "one", 1).replace("SIGKILL", f"signal {signal.SIGRTMIN + 1}")
     check("a signal without a name", nameless in messages, messages)
@@ -506,7 +505,7 @@ def waits_for_a_number():
         wait_until(lambda: lock.resolve() in opened_by(station.pid))
         station.send_signal(signal.SIGINT)
         messages = station.communicate(timeout=PATIENCE)[1].decode().splitlines()
-    line = "avrstk-serial: ended before the next number was taken; the chip is unchanged"
+    line = "avrstk-serial: the next number was not used; the chip is unchanged"
     check_equal("its line", (station.returncode, messages, room.read("counter")), (1, [line], None))
 
 
@@ -546,7 +545,7 @@ def with_a_restore():
     room.put("counter.new", b"mine")
     restore = [*board, "--restore", "kept", "--counter", "counter", "--from", "7", "--each"]
     end = "nothing was sent, and the device was not opened"
-    line = f"avrstk-serial: flash:w:0xFF:m: --each goes into the image of a file, not into values: {end}"
+    line = f"avrstk-serial: flash:w:0xFF:m: --each needs an image in a file: {end}"
     check_equal("flash", run([*restore, "flash@0={n}"]), (1, "", [line]))
     check_equal(
         "EEPROM", (run([*restore, "eeprom@0={n}"])[0], room.read("chip.bin")[EEPROM : EEPROM + 2]), (0, b"7\xff")

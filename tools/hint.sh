@@ -61,6 +61,6 @@ run() {
     is_for_serial "$@" || exec "$program" "$@"
     "$program" "$@" || status=$?
     [ "$status" != 1 ] ||
-        echo "avrstk: hint: avrstk-serial, which comes with avrstk, may take these options: it takes serial devices, -c wiring, -c arduino, and more parts (avrstk-serial -p '?' lists them)" >&2 || true
+        echo "avrstk: hint: avrstk-serial may take these options (avrstk-serial -h)" >&2 || true
     exit "$status"
 }

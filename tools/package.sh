@@ -130,7 +130,7 @@ touched() {
     find "$1" -exec touch -h -d "@$SOURCE_DATE_EPOCH" {} +
 }
 
-[ -z "$with_c" ] || echo "proves and builds the library for C, in several minutes, if it isn't built" >&2
+[ -z "$with_c" ] || echo "proves and builds the library for C, if it isn't built" >&2
 AVRSTK=$program DESTDIR=$all "$top/install.sh" ${with_c:+"$with_c"} /usr >/dev/null
 # what the stamp says of the programs as they are installed
 programs=("$all/usr/lib/avrstk/avrstk")
@@ -144,7 +144,7 @@ made="Commit $commit."
 stated=$(printf '%s\ncommit: %s\nkit: %s' "${stamp%%$'\n'*}" "$commit" "$kit")
 mark=""
 if [[ $stamp != proved* ]]; then
-    proof="UNPROVED: this build was compiled without its proofs, by $kit. Nothing of it was proved."
+    proof="UNPROVED: this build was compiled without its proofs, by $kit."
     if [[ $stamp != unproved* ]]; then
         proof="UNPROVED: no stamp says that this build was proved, or from which sources."
         made="Packaged at commit $commit." stated=$stamp

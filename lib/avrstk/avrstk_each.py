@@ -7,6 +7,7 @@ from avrstk_common import Fault, ended_by
 from avrstk_elf import AREAS, Run, hex_rows
 from avrstk_words import RECORD, UNOPENED, Update, Words
 
+import contextlib
 import copy
 import csv
 import fcntl
@@ -18,8 +19,9 @@ from typing import Callable, Iterator
 SPEC = re.compile(r"(flash|eeprom)@(0[xX][0-9A-Fa-f]{1,8}|[0-9]{1,9})=(.+)", re.S)
 FIELD = re.compile(r"\{([^{}:]+)(?::(0?)([0-9]{0,2})([dxX]?))?\}")
 
-# the greatest number, and the most seconds to wait for the counter's lock
-MOST, PATIENCE = 10**15 - 1, 60
+# the greatest number, the most seconds to wait for the counter's lock, and more numbers than a command takes
+MOST, PATIENCE, LATER = 10**15 - 1, 60, 1000
+UNUSED = "the next number was not used"
 
 # what begins a record that ends a file: Intel HEX's type 01, and S7 to S9
 ENDS = {"i": re.compile(rb"^:[0-9A-Fa-f]{6}01", re.M), "s": re.compile(rb"^S[789]", re.M)}
@@ -28,25 +30,23 @@ ENDS = {"i": re.compile(rb"^:[0-9A-Fa-f]{6}01", re.M), "s": re.compile(rb"^S[789
 class Spec:
     """One --each: a memory, an address and a text with fields. After 0x the text is hexadecimal digits of bytes."""
 
-    def __init__(self, given: str, names: list[str]) -> None:
+    def __init__(self, given: str, columns: list[str]) -> None:
         found = SPEC.fullmatch(given)
+        self.given = given
         if not found:
-            raise Fault(f"--each {given}: give flash@ADDRESS=TEXT or eeprom@ADDRESS=TEXT, such as eeprom@0={{n:06}}")
-        self.given, self.memory, self.text = given, found[1], found[3]
+            raise self.fault("give flash@ADDRESS=TEXT or eeprom@ADDRESS=TEXT")
+        self.memory, self.text = found[1], found[3]
         self.address = int(found[2], 16 if found[2][:2].lower() == "0x" else 10)
         if self.address >= AREAS["flash"][1]:
-            raise Fault(f"--each {given}: no memory has this address")
-        fields = {field[1] for field in FIELD.finditer(self.text)}
-        if re.search("[{}]", FIELD.sub("", self.text)):
-            fields_are = "fields are like {n}, {n:06}, {n:04X}, or {COLUMN} of --rows (a name without colon or braces)"
-            raise Fault(f"--each {given}: {fields_are}")
-        if not fields:
-            raise Fault(f"--each {given}: without a field such as {{n}} all boards get the same")
-        unknown = sorted(fields - set(names))
-        if unknown:
-            raise Fault(f"--each {given}: no field {', '.join(unknown)}; there is {', '.join(names)}")
-        if any(field[1] != "n" and ":" in field[0] for field in FIELD.finditer(self.text)):
-            raise Fault(f"--each {given}: only {{n}} takes a base or a width")
+            raise self.fault("no memory has this address")
+        fields, names = [*FIELD.finditer(self.text)], [name for name in columns if re.fullmatch("[^{}:]+", name)]
+        are_known = all(field[1] == "n" or field[0][1:-1] in names for field in fields)
+        if not fields or not are_known or re.search("[{}]", FIELD.sub("", self.text)):
+            raise self.fault("give fields, as " + ", ".join(f"{{{name}}}" for name in ["n", "n:06", "n:04X", *names]))
+        self.is_hex = self.text[:2].lower() == "0x"
+
+    def fault(self, why: str) -> Fault:
+        return Fault(f"--each {self.given}: {why}")
 
     def filled(self, number: int, row: dict[str, str]) -> str:
         """Returns the text for a number and a row."""
@@ -56,19 +56,18 @@ class Spec:
                 return row[field[1]]
             shown = format(number, (field[2] or "") + (field[3] or "") + (field[4] or ""))
             if field[3] and len(shown) > int(field[3]):
-                raise Fault(f"--each {self.given}: {number} is too long for {field[0]}")
+                raise self.fault(f"{number} is too long for {field[0]}")
             return shown
 
         return FIELD.sub(value, self.text)
 
     def piece(self, text: str) -> Run:
         """Returns the address and the bytes of a filled text."""
-        is_hex = self.text[:2].lower() == "0x"
-        if is_hex and not re.fullmatch("([0-9A-Fa-f]{2})+", text[2:]):
-            raise Fault(f"--each {self.given}: {text} is not pairs of hexadecimal digits")
-        held = bytes.fromhex(text[2:]) if is_hex else text.encode("utf-8", "surrogateescape")
+        if self.is_hex and not re.fullmatch("([0-9A-Fa-f]{2})+", text[2:]):
+            raise self.fault(f"{text} is not pairs of hexadecimal digits")
+        held = bytes.fromhex(text[2:]) if self.is_hex else text.encode("utf-8", "surrogateescape")
         if not held:
-            raise Fault(f"--each {self.given}: the row gives an empty text")
+            raise self.fault("the text is empty")
         return self.address, held
 
 
@@ -87,25 +86,22 @@ class Counter:
         except FileNotFoundError:
             folder = os.path.dirname(self.file)
             if not os.path.isdir(folder):
-                raise Fault(f"--counter {self.given}: there is no folder {folder}")
+                raise Fault(f"--counter {self.given}: no folder {folder}")
             if self.least is None:
-                ask = "is its name right? If it is new, give its first number, --from N"
-                raise Fault(f"--counter {self.given} is not there: {ask}")
+                raise Fault(f"--counter {self.given} is not there: check its name, or give its first number (--from)")
             return self.least
         # (after the greatest number the file has one more)
         if not re.fullmatch("[0-9]{1,16}\n", text):
-            raise Fault(f"--counter {self.given} has to have a number of at most 16 digits, a newline, and no more")
+            raise Fault(f"--counter {self.given}: not a number of at most 16 digits and a newline")
         return max(int(text), self.least or 0)
 
-    def take(self, most: int, why: str, judge: Callable[[int], object]) -> int:
-        """Returns the next number, after which the file has a later one, also if the power fails. `why` is the error if
-        it is above `most`, and `judge` refuses a number that can't be used."""
+    def take(self, judge: Callable[[int], object]) -> int:
+        """Returns the next number, after which the file has a later one, also if the power fails. `judge` refuses a
+        number that can't be used."""
         lock = os.open(f"{self.file}.lock", os.O_RDONLY | os.O_CREAT | os.O_CLOEXEC | os.O_NOFOLLOW, 0o666)
         try:
             self.hold(lock)
             number = self.next()
-            if number > most:
-                raise Fault(why)
             judge(number)
             self.replace(f"{number + 1}\n".encode())
             return number
@@ -120,23 +116,21 @@ class Counter:
                 return fcntl.flock(lock, fcntl.LOCK_EX | fcntl.LOCK_NB)
             except BlockingIOError:
                 if ended_by():
-                    raise Fault("ended before the next number was taken")
+                    raise Fault(UNUSED)
                 if time.monotonic() > until:
-                    raise Fault(f"another program holds {self.file}.lock: gave up after {PATIENCE} seconds")
+                    raise Fault(f"another program holds {self.file}.lock")
                 time.sleep(0.005)
 
     def replace(self, text: bytes) -> None:
         """Replaces the file, and syncs it and its folder."""
         spare = f"{self.file}.avrstk-new"
-        file = os.open(spare, os.O_WRONLY | os.O_CREAT | os.O_TRUNC | os.O_CLOEXEC | os.O_NOFOLLOW, 0o666)
-        try:
+        flags = os.O_WRONLY | os.O_CREAT | os.O_TRUNC | os.O_CLOEXEC | os.O_NOFOLLOW
+        with open(os.open(spare, flags, 0o666), "wb") as file:
             if os.path.exists(self.file):
-                os.fchmod(file, os.stat(self.file).st_mode & 0o777)
-            if os.write(file, text) != len(text):
-                raise Fault(f"--counter {self.given} can't be written whole")
-            os.fsync(file)
-        finally:
-            os.close(file)
+                os.fchmod(file.fileno(), os.stat(self.file).st_mode & 0o777)
+            file.write(text)
+            file.flush()
+            os.fsync(file.fileno())
         folder = os.open(os.path.dirname(self.file), os.O_RDONLY | os.O_DIRECTORY | os.O_CLOEXEC)
         try:
             os.rename(spare, self.file)
@@ -151,16 +145,16 @@ class Each:
     def __init__(self, words: Words) -> None:
         least, rows, counter = (words.last.get(option) for option in ("--from", "--rows", "--counter"))
         if counter is None:
-            raise Fault("--each counts the boards: name the file that has the next number, --counter FILE")
+            raise Fault("--each needs --counter FILE")
         if least is not None and not re.fullmatch("0*[0-9]{1,15}", least):
             raise Fault(f"--from {least}: not a number from 0 to {MOST}")
         if "-n" in words.flags:
-            raise Fault("--each writes, and -n writes nothing: leave out one of them")
+            raise Fault("--each takes no -n")
         self.names: list[str] = []
         self.rows: list[list[str]] | None = None
         if rows is not None:
             self.names, self.rows = table_of(rows)
-        self.file, self.specs = rows, [Spec(given, ["n", *self.names]) for given in words.each_given]
+        self.file, self.specs = rows, [Spec(given, self.names) for given in words.each_given]
         self.counter = Counter(counter, None if least is None else int(least))
         self.base: list[Update] | None = None
         # what a refusal leaves
@@ -170,27 +164,33 @@ class Each:
     def row(self, number: int) -> dict[str, str]:
         return dict(zip(self.names, self.rows[number - 1])) if self.rows is not None else {}
 
-    def last(self) -> tuple[int, str]:
-        """Returns the greatest number, and what is wrong with a later one."""
-        if self.rows is None:
-            return MOST, f"--counter {self.counter.given}: the next number is above {MOST}"
-        return len(self.rows), f"--rows {self.file} has {len(self.rows)} rows, and the next number is greater"
+    def judge_number(self, number: int) -> None:
+        """Refuses a number above the greatest one, or without a row."""
+        if self.rows is not None and not 0 < number <= len(self.rows):
+            raise Fault(f"--rows {self.file} has no row {number}")
+        if number > MOST:
+            raise Fault(f"--counter {self.counter.given}: the next number is above {MOST}")
 
     def has_next(self) -> bool:
         """Whether a number is left, as far as the counter can be read."""
-        try:
-            return self.counter.next() <= self.last()[0]
-        except (Fault, OSError):
-            return False
+        with contextlib.suppress(Fault, OSError):
+            self.judge_number(self.counter.next())
+            return True
+        return False
+
+    def end_of(self, memory: str) -> int:
+        """Returns where the texts of a memory end, for the next number and those that the command may take later."""
+        ends, first = [0], self.counter.next()
+        for number in range(first, first + LATER):
+            with contextlib.suppress(Fault):
+                self.judge_number(number)
+                pieces = [spec.piece(text) for spec, text in self.texts(number) if spec.memory == memory]
+                ends += [at + len(held) for at, held in pieces]
+        return max(ends)
 
     def judge(self, words: Words) -> None:
         """Puts the next number into the images, so that they can be judged. It isn't taken yet."""
-        (most, why), number = self.last(), self.counter.next()
-        if number > most:
-            raise Fault(why)
-        if self.rows and not number:
-            raise Fault("the number is 0: the first row of --rows is 1")
-        self.put(words, number)
+        self.put(words, self.counter.next())
 
     def give(self, words: Words, judge: Callable[[], None]) -> None:
         """Takes the next number, and puts it into the images, which `judge` may refuse before it is taken."""
@@ -200,11 +200,11 @@ class Each:
             judge()
 
         try:
-            self.number = self.counter.take(*self.last(), fits)
+            self.number = self.counter.take(fits)
         except OSError as fault:
             # (if only the last sync failed, the file has a later number already)
             why = f"{fault.filename or self.counter.given}: {fault.strerror}"
-            raise Fault(f"--counter {why}: the next number was not used")
+            raise Fault(f"--counter {why}: {UNUSED}")
         filled = "; ".join(f"{spec.memory}@0x{spec.address:X}={text}" for spec, text in self.texts(self.number))
         words.note(f"number {self.number}: {filled}")
 
@@ -214,6 +214,7 @@ class Each:
 
     def put(self, words: Words, number: int) -> None:
         """Puts what is for a number into the images of the command; a memory that it doesn't write gets an image."""
+        self.judge_number(number)
         self.base = words.updates if self.base is None else self.base
         updates = list(self.base)
         for memory, own in self.pieces(words, number).items():
@@ -243,7 +244,7 @@ class Each:
             raise Fault(f"--each: {memory} of {words.part} has {size} bytes: {self.end}")
         for end, (at, _) in zip(ends, pieces[1:]):
             if end > at:
-                raise Fault(f"--each: two texts have a byte at {memory}@0x{at:X}: {self.end}")
+                raise Fault(f"--each: two texts at {memory}@0x{at:X}: {self.end}")
 
     def reported(self) -> dict[str, object]:
         """Returns the fields of a report."""
@@ -263,15 +264,11 @@ def table_of(file: str) -> tuple[list[str], list[list[str]]]:
             names, *rows = [row for row in csv.reader(held, strict=True) if row] or [[]]
     except (csv.Error, UnicodeDecodeError) as fault:
         raise Fault(f"--rows {file}: {fault}")
-    if not names:
-        raise Fault(f"--rows {file} has no line with the names of the columns")
-    if len(set(names)) < len(names) or "n" in names:
-        raise Fault(f"--rows {file}: each column needs a name of its own, other than n")
-    if not rows:
-        raise Fault(f"--rows {file} has names of columns, but no row")
-    for number, row in enumerate(rows, 1):
+    if not names or len(set(names)) < len(names) or "n" in names:
+        raise Fault(f"--rows {file}: give each column a name of its own, other than n")
+    for number, row in enumerate(rows or [[]], 1):
         if len(row) != len(names):
-            raise Fault(f"--rows {file}: row {number} has another number of values than there are names")
+            raise Fault(f"--rows {file}: row {number} needs {len(names)} values")
     return names, rows
 
 
@@ -289,7 +286,7 @@ def joined(update: Update, content: bytes | None, pieces: list[Run], end: str) -
         raise Fault(f"{update.file}: cannot be opened: {end}")
     if not update.is_image or content is None:
         # (values are given, or --restore has them for flash that is FF)
-        raise Fault(f"{update.given}: --each goes into the image of a file, not into values: {end}")
+        raise Fault(f"{update.given}: --each needs an image in a file: {end}")
     one, whole = copy.copy(update), bytes(content)
     begins = RECORD.match(whole[:1024])
     detected = ("i" if b":" in begins[0] else "s") if begins else "r"

@@ -57,13 +57,18 @@ class Waiting(NamedTuple):
 
 def seconds(option: str, given: str) -> float:
     """Returns the seconds in an option's value, which are more than 0."""
-    number = given.partition(":")[2] if option == "--late" else given
-    if option == "--late" and ":" not in given:
-        raise Fault(f"{option} {given}: give WHICH:SECONDS")
+    form, number = ("7:0.5", given.partition(":")[2]) if option == "--late" else ("0.5", given)
     # (poll takes no more than 24 days)
-    if not re.fullmatch(r"(?=\.?[0-9])[0-9]{0,6}(\.[0-9]*)?", number) or not float(number):
-        raise Fault(f"{option} {given}: give seconds above 0 and below {10**6}, such as 30 or 0.5")
+    if not re.fullmatch(r"(?=\.?[0-9])0*[0-9]{0,6}(\.[0-9]*)?", number) or not float(number):
+        raise Fault(f"{option} {given}: give seconds above 0 and below {10**6}, as in {form}")
     return float(number)
+
+
+def number_of(option: str, given: str, most: int) -> int:
+    """Returns the number in an option's value, which has at most so many digits."""
+    if not re.fullmatch(f"[0-9]{{1,{most}}}", given):
+        raise Fault(f"{option} {given}: give at most {most} digits")
+    return int(given)
 
 
 def which(given: str, chance: Callable[[], float]) -> Meant:
@@ -74,8 +79,7 @@ def which(given: str, chance: Callable[[], float]) -> Meant:
         return lambda names: chance() * 100 < percent
     is_one = re.fullmatch("(?:([A-Za-z_]+)#)?[1-9][0-9]{0,8}", given)
     if given not in NAMES and not (is_one and is_one[1] in (None, *NAMES)):
-        what = "not the name of a command in the log, its number, one of a name such as CHIP_ERASE#1"
-        raise Fault(f"{given}: {what}, or a share below 100%, such as 2%")
+        raise Fault(f"{given}: give WHICH, such as CHIP_ERASE, CHIP_ERASE#1, 7 or 2%")
     return lambda names: given in names
 
 
@@ -112,6 +116,7 @@ class Log:
     def put(self, line: str) -> None:
         """Appends a line. A line that was cut is completed before the next one."""
         held = f"{self.lost} lines are missing\n{line}".encode() if self.lost else line.encode()
+        why = "it is full"
         try:
             if self.rest:
                 self.rest = self.rest[os.write(self.file, self.rest) :]
@@ -119,9 +124,8 @@ class Log:
             if os.fstat(self.file).st_size + len(held) <= self.limit and not self.rest:
                 self.rest, self.lost = held[os.write(self.file, held) :], 0
                 return
-            why = "its reader is too slow" if self.rest else "it would be longer than --log-limit allows"
         except OSError as fault:
-            why = "its reader is too slow" if isinstance(fault, BlockingIOError) else str(fault.strerror)
+            why = why if isinstance(fault, BlockingIOError) else str(fault.strerror)
         self.lost += 1
         if not self.is_reported:
             print_line(f"--log: lines are missing: {why}")
@@ -146,11 +150,10 @@ class Traffic:
         self.has_erased = False
         self.waiting: collections.deque[Waiting] = collections.deque()
         self.lateness = seconds("--late", last.get("--late", "0:1"))
-        seed = last.get("--seed", str(random.randrange(1_000_000)))
-        if not re.fullmatch("[0-9]{1,18}", seed):
-            raise Fault(f"--seed {seed}: not a number of at most 18 digits")
-        # (by its digits, so without zeros in front)
-        chance = random.Random(str(int(seed))).random
+        self.limit = number_of("--log-limit", last.get("--log-limit", f"{1 << 62}"), 19)
+        seed = number_of("--seed", last.get("--seed", str(random.randrange(1_000_000))), 18)
+        # (by its digits)
+        chance = random.Random(str(seed)).random
         given = [(option, value) for option, value in options if option in FAULTS]
         self.given = [f"{option} {value}" for option, value in given]
         self.faults: list[Planned] = []
@@ -159,20 +162,14 @@ class Traffic:
                 is_meant = which(value.partition(":")[0] if option == "--late" else value, chance)
                 self.faults.append(Planned(fault, is_meant, f"{option} {value}"))
         # (a report has it if it was used)
-        self.seed = int(seed) if any("%" in value for _, value in given) else None
+        self.seed = seed if any("%" in value for _, value in given) else None
         if self.seed is not None:
             print_line(f"faults are drawn with --seed {self.seed}")
 
-    def open(self, *files: str | None) -> None:
-        """Opens the log, if there is one. It is none of these files."""
-        name, limit = self.last.get("--log"), self.last.get("--log-limit", f"{1 << 62}")
-        if not re.fullmatch("[0-9]{1,19}", limit):
-            raise Fault(f"--log-limit {limit}: not a number of bytes with at most 19 digits")
-        if name is None:
-            return
-        if os.path.realpath(name) in [os.path.realpath(file) for file in files if file]:
-            raise Fault(f"--log {name}: this is the chip file or the part file")
-        self.log = Log(name, int(limit))
+    def open(self) -> None:
+        """Opens the log, if there is one."""
+        if "--log" in self.last:
+            self.log = Log(self.last["--log"], self.limit)
 
     def begin(self) -> tuple[Change, Change]:
         """Takes the next client. Returns what changes the bytes that it sends, and those that it gets."""

@@ -15,6 +15,7 @@ import tempfile
 import time
 
 OPERATIONS = {"w": "write", "v": "verify", "r": "read"}
+CHANGED = "erased or partly written"
 
 # kinds of failures by avrstk's error; the first that fits counts. All others are of the arguments. (A file may have the
 # name of an error's beginning)
@@ -62,6 +63,10 @@ class Report:
         """Returns the first error of avrstk's last run, or what the script reported."""
         return next((line[7:] for line in self.last_lines() if line.startswith("error: ")), self.fault)
 
+    def signature(self) -> str | None:
+        """Returns the chip's signature, as avrstk printed it."""
+        return next((line[19:] for line in self.lines if line.startswith("device signature = ")), None)
+
     def sent(self) -> set[int]:
         return {command for run in self.runs for command in run.commands}
 
@@ -72,8 +77,7 @@ class Report:
             return "interrupted"
         if error == self.fault:
             return self.stage
-        is_known = any(line.startswith("device signature = ") for line in self.lines)
-        if error == "no answer" and self.sent() <= {SIGN_ON, LEAVE} and not is_known:
+        if error == "no answer" and self.sent() <= {SIGN_ON, LEAVE} and self.signature() is None:
             return "silent"
         return next((kind for begin, kind in KINDS.items() if re.match(begin, error)), "arguments")
 
@@ -89,7 +93,7 @@ class Report:
             return "unchanged"
         # (over a device it is known whether only the session's end failed, or what came after the run)
         is_done = any(run.status == 0 or run.was_opened and run.is_done() for run in self.runs[-1:])
-        return "done" if is_done else "erased or partly written"
+        return "done" if is_done else CHANGED
 
     def count(self, words: Words, update: Update, what: str) -> int | None:
         """Returns the bytes in the last run's line about an update, or None. Lines come in the order of the updates."""
@@ -130,8 +134,7 @@ class Report:
 
     def made(self, words: Words, status: int, number: int | None) -> dict[str, object]:
         """Returns the report."""
-        built = build()
-        signature = next((line[19:] for line in self.lines if line.startswith("device signature = ")), None)
+        built, signature = build(), self.signature()
         return {
             **built,
             "proved": built["proved"] and not words.is_version1 and not words.unproved,
@@ -161,16 +164,14 @@ def build() -> dict[str, object]:
 
 def fault_of(place: str) -> str | None:
     """Returns why no report can be written at a place; None if it can, as far as is known before the run."""
-    folder, is_file = os.path.dirname(os.path.realpath(place)), not os.path.exists(place) or os.path.isfile(place)
     if place == "-":
         return None
     if os.path.isdir(place):
         return "is a folder"
-    if not os.path.isdir(folder):
-        return f"cannot be created: no folder {folder} can be reached"
-    if is_file:
-        return None if os.access(folder, os.W_OK) else f"cannot be written, since no file can be made in {folder}"
-    return None if os.access(place, os.W_OK) else "cannot be written"
+    is_file = not os.path.exists(place) or os.path.isfile(place)
+    # (a file is replaced)
+    target = os.path.dirname(os.path.realpath(place)) if is_file else place
+    return None if os.access(target, os.W_OK) else f"cannot be written: check {target}"
 
 
 def write(place: str, report: dict[str, object]) -> bool:

@@ -3,7 +3,7 @@
 A row is met if its command was done, or not done at all. If its reply is good, it was done, and the data in the reply
 are the chip's. Each row is tried at some addresses: that is a test, and proves nothing."""
 
-from avrstk_common import READ, Fault, Frames, came, is_frame, parts, print_line, ready, show
+from avrstk_common import NO_PARTS, READ, Fault, Frames, came, is_frame, parts, print_line, ready, show
 from avrstk_backup import FILES, command_again
 from avrstk_elf import hex_rows
 from avrstk_faults import framed, spoiled, xor
@@ -14,6 +14,7 @@ import contextlib
 import os
 import random
 import re
+import signal
 import tempfile
 import time
 from typing import Callable, Dict, List, Optional, Protocol, Sequence, Tuple
@@ -45,7 +46,6 @@ MEMORIES.update({"flash": ("flash",), "EEPROM": ("eeprom",)})
 KEPT = ("SIGN_ON", "ENTER", "LEAVE", "damaged frame", "restart")
 READING = list(MEMORIES)
 WRITING = ("erases", "writes flash", "writes fuses", "writes lock")
-UNREAD = "EEPROM isn't read truly"
 
 
 class Opened(Protocol):
@@ -62,8 +62,22 @@ class Ended(Exception):
     """No further row can be tried."""
 
 
+class Silent(Ended):
+    """The programmer has sent no valid reply."""
+
+
 def hexed(*bodies: bytes) -> str:
     return ", ".join(body[:16].hex(" ").upper() + " .." * (len(body) > 16) for body in bodies)
+
+
+def exchange(reply: bytes, *step: bytes) -> str:
+    """Returns what a row shows of a step and its reply."""
+    return f"{hexed(*step)} was answered {hexed(reply)}"
+
+
+def unsure(*memories: str) -> str:
+    """Returns why a row isn't tried that needs these memories."""
+    return f"no sure reading of {' and '.join(memories)}"
 
 
 def shown(held: Optional[bytes]) -> str:
@@ -75,7 +89,9 @@ class Programmer:
     """Sends commands. `opens` opens the device, and restarts a board that restarts by DTR."""
 
     def __init__(self, opens: Callable[[], Opened]) -> None:
-        self.opens, self.file, self.number, self.repeated, self.heeds = opens, opens(), 0, 0, True
+        self.opens, self.file, self.number, self.repeated = opens, opens(), 0, 0
+        # whether a signal ends the trial, and whether a valid reply has come
+        self.heeds, self.has_replied = True, False
 
     def restart(self) -> None:
         self.file.close()
@@ -101,16 +117,16 @@ class Programmer:
                 # (another program has read the bytes)
                 continue
             if not piece:
-                raise Ended("the connection to the device broke")
+                raise Ended("link ended")
             held += len(piece)
             for reply in filter(is_frame, pieces.pieces(piece)):
                 if reply[1] == self.number and not xor(reply):
+                    self.has_replied = True
                     return reply[5:-1]
         return None
 
     def ask(self, *step: bytes) -> bytes:
         """Sends a step at most four times, as avrstk does. Returns the reply, unless it reports a damaged frame."""
-        is_corrupt = False
         for attempt in range(4):
             self.repeated += attempt > 0
             for body in step:
@@ -119,9 +135,7 @@ class Programmer:
                     break
             if reply is not None and reply != CORRUPT:
                 return reply
-            is_corrupt |= reply == CORRUPT
-        but = " but B0 C1 (a damaged frame)" * is_corrupt
-        raise Ended(f"no valid reply{but} to {hexed(*step)} in four attempts")
+        raise (Ended if self.has_replied else Silent)(f"no good reply to {hexed(*step)} in four attempts")
 
 
 def sizes_of(words: Words) -> Dict[str, int]:
@@ -133,12 +147,11 @@ def sizes_of(words: Words) -> Dict[str, int]:
     if not lacking:
         return {name: int(value, 0) for name, value in found.items()}
     if words.parts_file is None and not parts():
-        raise Fault(f"--try-rows finds no sizes, because classic.toml is not there or empty: {UNOPENED}")
+        raise Fault(f"{NO_PARTS}: {UNOPENED}")
     if words.parts_file is None or not words.part:
         what = f"no part {words.part}" if words.part else "no part given (-p)"
         raise Fault(f"{what}: {no_part(words, None)}: {UNOPENED}")
-    what = f"--try-rows finds no {', '.join(lacking)} of {words.part} in {words.parts_file}"
-    raise Fault(f"{what}: give a file with these in a table [parts.{words.part}]: {UNOPENED}")
+    raise Fault(f"{words.parts_file}: no {', '.join(lacking)} found in a table [parts.{words.part}]: {UNOPENED}")
 
 
 class Rows:
@@ -166,11 +179,14 @@ class Rows:
     def row(self, name: str, fault: Optional[str], seen: str = "") -> None:
         """Prints a row that was tried."""
         self.results[name] = not fault
-        show(f"row {name:19} {'FAILS' if fault else 'meets':9} {fault or seen}".rstrip())
+        self.show_row(name, "FAILS" if fault else "meets", fault or seen)
 
     def leave_out(self, name: str, why: str) -> None:
         self.results[name] = None
-        show(f"row {name:19} not tried {why}")
+        self.show_row(name, "not tried", why)
+
+    def show_row(self, name: str, how: str, what: str) -> None:
+        show(f"row {name:19} {how:9} {what}".rstrip())
 
     def leave_out_all(self, why: str) -> None:
         for name in WRITING:
@@ -188,7 +204,7 @@ class Rows:
         step = [*self.addressed(memory, at), body]
         reply = self.programmer.ask(*step)
         is_good = reply[:2] == step[-1][:1] + b"\0" and reply[-1:] == b"\0" and len(reply) == count + 3
-        self.asked = f"{hexed(*step)} was answered {hexed(reply)}"
+        self.asked = exchange(reply, *step)
         return reply[2:-1] if is_good else None
 
     def writing(self, memory: str, at: int, data: bytes) -> List[bytes]:
@@ -231,7 +247,10 @@ class Rows:
         """Notes why a memory can't be read. Ends if it could be read before."""
         self.refusals[memory] = self.asked
         if self.saved.get(memory) is not None:
-            raise Ended(f"{memory} could be read before: {self.asked}")
+            raise self.lost(memory)
+
+    def lost(self, memory: str) -> Ended:
+        return Ended(f"{memory} could be read before: {self.asked}")
 
     def difference(self, wanted: Chip, shift: int = 0) -> Optional[str]:
         """Reads all memories, or a sample, and returns where one differs."""
@@ -241,7 +260,7 @@ class Rows:
             for at, count in sorted(random.sample(blocks, SAMPLE)) if is_sample else blocks:
                 found, right = self.read(memory, at, count), (held or b"")[at : at + count]
                 if found is None:
-                    raise Ended(f"{memory} could be read before: {self.asked}")
+                    raise self.lost(memory)
                 place = next((index for index in range(count) if found[index] != right[index]), None)
                 if place is not None:
                     return f"{memory}: address {at + place:08X}: {right[place]:02X} expected, {found[place]:02X} found"
@@ -258,7 +277,7 @@ class Rows:
         if fault and not is_good and not self.difference(self.chip):
             fault, done, seen = None, self.chip, "not done"
         self.chip = self.whole() if fault else done
-        return fault and f"{hexed(*step)} was answered {hexed(reply)}; {fault}", f"{hexed(reply)}: {seen}"
+        return fault and f"{exchange(reply, *step)}; {fault}", f"{hexed(reply)}: {seen}"
 
     def write(self, memory: str, at: int, data: bytes, enters: bool = False) -> Tuple[Optional[str], str]:
         return self.attempt(self.written(memory, at, data), *self.writing(memory, at, data), enters=enters)
@@ -266,7 +285,7 @@ class Rows:
     def enter(self) -> None:
         reply = self.programmer.ask(ENTER)
         if reply != ENTER[:1] + b"\0":
-            raise Ended(f"{hexed(ENTER)} was answered {hexed(reply)}")
+            raise Ended(exchange(reply, ENTER))
 
     def begin(self) -> None:
         """Signs on, enters programming mode and saves all memories. Ends if the chip is another one, or locked."""
@@ -276,18 +295,18 @@ class Rows:
         if hexed(found) in NO_SIGNATURES:
             raise Ended(NO_CHIP)
         if len(found) < 3:
-            raise Ended("the chip's signature can't be read, so nothing is tried")
+            raise Ended(unsure("signature"))
         if found.hex() != (self.words.of_part("signature") or "").lower():
-            raise Ended(f"the chip's signature is {hexed(found)}: is -p right?")
+            raise Ended(f"the signature is {hexed(found)}: is -p right?")
         if lock and lock[0] & 3 != 3:
-            raise Ended(f"the chip is locked ({hexed(lock)}), so nothing is tried")
+            raise Ended(f"the chip is locked ({hexed(lock)})")
         self.chip = self.saved = self.whole()
         self.is_all &= not self.obstacles()
         try:
             self.save_all()
         except OSError as fault:
-            raise Ended(f"the memories can't be saved in this folder: {fault.strerror}")
-        print_line(f"each memory that was read whole is saved, as it was read, in {self.folder}")
+            raise Ended(f"the memories can't be saved: {fault.strerror}")
+        print_line(self.kept)
 
     def lost_by_erase(self) -> List[str]:
         """Returns the memories that can't be restored after an erase, because they can't be read."""
@@ -301,7 +320,7 @@ class Rows:
     def save_all(self) -> None:
         """Saves all memories, and the pages that are written, in a new folder."""
         self.folder = tempfile.mkdtemp("", "try-rows-", ".")
-        self.kept = f"What was read at first is in {self.folder}"
+        self.kept = f"first readings are in {self.folder}"
         for memory, held in self.saved.items():
             self.save(f"{memory}.{FILES[memory][:3]}", held)
         self.save("page.hex", (self.saved["eeprom"] or b"")[: self.cell + self.part["eeprom_page"]], self.cell)
@@ -322,7 +341,7 @@ class Rows:
         if self.is_all:
             front = ("-D", "-U", f"flash:w:{self.folder}/front.hex:i", *eeprom)
             words = front if self.words.is_bootloader else (f"--restore={self.folder}",) * is_whole
-        self.undo = self.kept + f". To restore it, try: {command_again(self.words, *words)}" * bool(words)
+        self.undo = self.kept + f"; to restore it, try: {command_again(self.words, *words)}" * bool(words)
 
     def only(self, *memories: str) -> Chip:
         return {memory: self.chip[memory] for memory in memories}
@@ -346,7 +365,7 @@ class Rows:
                 self.programmer.ask(SIGN_ON)
             self.enter()
             fault = self.difference(self.chip)
-            self.row(name, fault and f"{hexed(body)} was answered {hexed(reply)}; {fault}", hexed(reply))
+            self.row(name, fault and f"{exchange(reply, body)}; {fault}", hexed(reply))
             self.chip = self.whole() if fault else self.chip
 
     def damaged(self, write: bytes) -> None:
@@ -356,9 +375,8 @@ class Rows:
         self.programmer.ask(*self.addressed("eeprom", self.cell))
         bodies = [write, *[ERASE] * self.is_all]
         replies = [self.programmer.send(body, True) for body in bodies]
-        taken = [(body, reply) for body, reply in zip(bodies, replies) if reply and reply[1:2] == b"\0"]
-        wrong = [f"{hexed(body)}, damaged, was answered {hexed(reply)}" for body, reply in taken]
-        fault = ", and ".join(wrong) or self.difference(self.chip)
+        taken = [exchange(reply, body) for body, reply in zip(bodies, replies) if reply and reply[1:2] == b"\0"]
+        fault = "; ".join(taken) or self.difference(self.chip)
         self.row("damaged frame", fault, " and ".join(hexed(reply) if reply else "no reply" for reply in replies))
         self.chip = self.whole() if fault else self.chip
 
@@ -366,9 +384,8 @@ class Rows:
         """Inverts bits of all but one byte of a page, and puts them back twice. Both ways of reading see the same."""
         held, fault, seen, unlike = self.chip["eeprom"], None, "", None
         if held is None or "reads EEPROM" in self.results:
-            why = "eeprom can't be read" if held is None else UNREAD
-            self.leave_out("damaged frame", why)
-            return self.leave_out("writes EEPROM", why)
+            self.leave_out("damaged frame", unsure("eeprom"))
+            return self.leave_out("writes EEPROM", unsure("eeprom"))
         old = held[self.cell : self.cell + self.part["eeprom_page"]]
         self.begin_to_change()
         self.damaged(self.writing("eeprom", self.cell, bytes(byte ^ 0x5A for byte in old))[-1])
@@ -381,7 +398,7 @@ class Rows:
         self.is_put_back()
         self.row("reads EEPROM", unlike, f"{len(held):,} bytes")
         if unlike:
-            return self.leave_out("writes EEPROM", UNREAD)
+            return self.leave_out("writes EEPROM", unsure("eeprom"))
         self.row("writes EEPROM", fault, seen)
 
     def is_put_back(self) -> None:
@@ -397,26 +414,25 @@ class Rows:
             at, count = random.choice(self.blocks(memory))
             found += [self.read(memory, at, count)] if held is not None else []
             if held and found[-1] not in (None, held[at : at + count]):
-                fault = fault or f"before ENTER {self.asked}"
+                fault = fault or self.asked
         held = self.chip["eeprom"] if self.results["reads EEPROM"] else None
         if held is not None:
             old = held[self.cell : self.cell + self.part["eeprom_page"]]
             self.begin_to_change()
             wrong, _ = self.write("eeprom", self.cell, bytes(byte ^ 0x5A for byte in old), enters=True)
             again, _ = self.write("eeprom", self.cell, old)
-            fault = fault or (wrong and f"before ENTER {wrong}") or again
+            fault = fault or wrong or again
             self.is_put_back()
         self.enter()
         changed, unread = self.difference(self.chip), found.count(None)
         fault, self.chip = fault or changed, self.whole() if changed else self.chip
-        seen = f"before ENTER {unread} of {len(found)} readings had no good reply, and none was wrong"
-        self.row("restart", fault, seen)
+        self.row("restart", fault, f"no good reply to {unread} of {len(found)} readings")
 
     def erase(self) -> bool:
         """Returns whether the chip was erased."""
         flash, eeprom, hfuse = self.chip["flash"], self.chip["eeprom"], self.chip["hfuse"]
         if flash is None or eeprom is None or hfuse is None:
-            self.leave_out("erases", f"{' and '.join(self.lost_by_erase())} can't be read")
+            self.leave_out("erases", unsure(*self.lost_by_erase()))
             return False
         takes = hfuse[0] >> self.part["eesave_bit"] & 1
         done: Chip = {**self.chip, "flash": b"\xff" * len(flash), "lock": b"\xff"}
@@ -430,27 +446,25 @@ class Rows:
         self.begin_to_change()
         is_erased = self.erase()
         one, other = os.urandom(self.part["flash_page"]), os.urandom(self.part["flash_page"])
-        self.writes("writes flash", [("flash", page) for page in (one, one, other)], "twice, and another page over it")
+        self.writes("writes flash", [("flash", page) for page in (one, one, other)])
         # (a part of which nothing is known may have no extended fuse)
         fuses = FUSES if self.words.parts_file is None or self.words.bits() else FUSES[:2]
-        self.writes(
-            "writes fuses", [(fuse, self.chip[fuse]) for fuse in fuses], f"{', '.join(fuses)}, each with its own byte"
-        )
+        self.writes("writes fuses", [(fuse, self.chip[fuse]) for fuse in fuses])
         # (a bit of the lock is cleared only if an erase has set it, or a bootloader can't clear it)
         values = [b"\xff", b"\xfe"] if is_erased or self.words.is_bootloader else [b"\xff"]
-        self.writes("writes lock", [("lock", value) for value in values], f"with {hexed(*values)}")
+        self.writes("writes lock", [("lock", value) for value in values])
         self.restore(is_erased)
 
-    def writes(self, name: str, given: Sequence[Tuple[str, Optional[bytes]]], what: str) -> None:
+    def writes(self, name: str, given: Sequence[Tuple[str, Optional[bytes]]]) -> None:
         """Writes these bytes, one after another, up to the first fault."""
         unread = dict.fromkeys(memory for memory, _ in given if self.chip[memory] is None)
         if unread:
-            return self.leave_out(name, f"{' and '.join(unread)} can't be read")
+            return self.leave_out(name, unsure(*unread))
         fault, seen = None, ""
         for memory, data in given:
             if not fault:
                 fault, seen = self.write(memory, self.page if memory == "flash" else 0, data or b"")
-        self.row(name, fault, f"{seen}; {what}")
+        self.row(name, fault, seen)
 
     def restore(self, is_erased: bool) -> None:
         """Writes what was saved, in two rounds if needed."""
@@ -472,7 +486,7 @@ class Rows:
             self.chip = self.whole()
             if self.chip == self.saved:
                 self.undo = ""
-                print_line("each memory that was read whole reads as before")
+                print_line("the chip reads as before")
                 break
 
     def try_all(self) -> None:
@@ -484,9 +498,8 @@ class Rows:
         if self.is_all:
             self.changes()
         else:
-            hidden = " and ".join(self.obstacles())
-            needs = "this needs --try-rows=all --yes, and a chip that you can lose"
-            self.leave_out_all(f"{hidden} can't be read" if hidden else needs)
+            hidden = self.obstacles()
+            self.leave_out_all(unsure(*hidden) if hidden else "needs --try-rows=all")
         self.programmer.ask(LEAVE)
 
     def put_back(self) -> None:
@@ -504,22 +517,18 @@ class Rows:
     def left(self) -> str:
         """Returns the promise that these rows leave."""
         failed = [name for name, meets in self.results.items() if meets is False]
-        unread = [name for name in READING if f"reads {name}" in failed]
-        if not self.chip or any(name in failed for name in KEPT) or len(unread) == len(READING):
+        is_unread = all(f"reads {name}" in failed for name in READING)
+        if not self.chip or is_unread or any(name in failed for name in KEPT):
             return "none"
-        if not failed and None not in self.results.values() and not self.words.is_version1:
-            images = "the chip holds the images (the last of overlapping ones)"
-            return f"under README's conditions, after a verified run with status 0 {images}"
-        limit = f" (not {', '.join(unread)})" if unread else ""
-        limit += " while the line changes no byte (version 1 has no checksums)" * self.words.is_version1
-        is_untried = self.results["damaged frame"] is None and not self.words.is_version1
-        limit += " if the programmer obeys no damaged frame, which was not tried" * is_untried
-        images = "each image that it compared after its last write is in the chip"
-        return f"under README's conditions, after a run with status 0, {images}{limit}"
+        is_whole = not failed and None not in self.results.values() and not self.words.is_version1
+        return "README's promise" if is_whole else "the smaller promise of docs/BOARDS"
 
 
 def try_rows(words: Words, opens: Callable[[], Opened]) -> int:
     """Tries the rows, and returns the status: 0 if all that were tried are met, and the chip reads as before."""
+    # (a page of EEPROM may have to be put back)
+    if signal.getsignal(signal.SIGQUIT) is not signal.SIG_IGN:
+        came.heed(signal.SIGQUIT)
     rows, why = Rows(words, opens), None
     try:
         rows.try_all()
@@ -529,16 +538,16 @@ def try_rows(words: Words, opens: Callable[[], Opened]) -> int:
             why = f"{fault.filename or words.device}: {fault.strerror}"
         with contextlib.suppress(Ended, OSError):
             rows.put_back()
+        print_line(f"no further row is tried: {why}")
+        if isinstance(fault, Silent):
+            print_line(hint(Outcome(words, commands={SIGN_ON[0]}, was_opened=True, error="no answer"), None))
     finally:
         rows.programmer.file.close()
     tried, again = [is_met for is_met in rows.results.values() if is_met is not None], rows.programmer.repeated
-    if why:
-        print_line(f"no further row is tried: {why}")
-    if why == f"no valid reply to {hexed(SIGN_ON)} in four attempts" and not rows.results:
-        print_line(hint(Outcome(words, commands={SIGN_ON[0]}, was_opened=True, error="no answer"), None))
-    print_line(f"{sum(tried)} of {len(tried)} rows are met, tried at some addresses; steps repeated: {again}")
-    print_line(f"promised of such a programmer: {'not known' if why else rows.left()}")
+    print_line(f"{sum(tried)} of {len(tried)} tried rows are met; steps repeated: {again}")
+    if not why:
+        print_line(f"promised of such a programmer: {rows.left()}")
     is_as_before = not rows.undo and rows.chip == rows.saved
     if not is_as_before:
-        print_line(f"the chip may be changed. {rows.undo or rows.kept}")
+        print_line(f"the chip may be changed; {rows.undo or rows.kept}")
     return 0 if all(tried) and not why and is_as_before else 1

@@ -799,7 +799,9 @@ def risk_of_loader(words: Words) -> str | None:
     if words.chip() != "atmega2560" or is_other or words.restore is not None or words.backup is not None:
         return None
     is_sent = "-D" in words.flags and not {"-e", "-n"} & set(words.flags)
-    return (why_pieces(words) if is_sent else None) or why_far(words)
+    # (a later number may have a longer text)
+    later = f"--each: {FAR}: use a programmer" if words.each and words.each.end_of("eeprom") > 256 else None
+    return (why_pieces(words) if is_sent else None) or why_far(words) or later
 
 
 def warn(words: Words) -> None:

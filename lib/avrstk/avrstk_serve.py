@@ -3,7 +3,8 @@
 from __future__ import annotations
 
 from avrstk_common import ENDING, READ, Fault, Source, Way, brief, built, came, ended_by, heed_signals, part_words
-from avrstk_common import print_line, readable, ready, session_program, show, text_of, unchanged, version, wait
+from avrstk_common import name_of_signal, print_line, readable, ready, session_program, show, text_of, unchanged
+from avrstk_common import version, wait
 from avrstk_faults import FAULTS, REFUSED, Traffic, seconds
 from avrstk_mega import Mega
 from avrstk_report import build, fault_of, write
@@ -17,6 +18,7 @@ import select
 import shutil
 import signal
 import socket
+import stat
 import subprocess
 import sys
 import tempfile
@@ -34,6 +36,8 @@ PATIENCE, PATIENCE_OF_MEGA = 8, 40
 
 # the seconds that a command has to end, or to begin a session that ends well, after one that did not
 GRACE = 10
+
+NO_COMMAND = "no command after --"
 
 LONG = ["parts=", "chip=", "idle=", "listen=", "pty=", "timeout=", "log=", "log-limit=", "seed=", "locked"]
 LONG += ["strict", "json=", "mega", "version", "help"]
@@ -74,9 +78,8 @@ class Port:
             family, _, _, _, place = socket.getaddrinfo(host, self.port, type=socket.SOCK_STREAM)[0]
             self.door = socket.create_server(place, family=family)
         except OSError as fault:
-            name = f"port {self.port}" if self.address == "127.0.0.1" else f"{self.address}, port {self.port}"
             # (Python adds the address in brackets)
-            raise Fault(f"{name}: {str(fault.strerror).partition(' (')[0]}")
+            raise Fault(f"{self.address}, port {self.port}: {str(fault.strerror).partition(' (')[0]}")
         self.door.setblocking(False)
         # (an address of one link has its interface's name after it)
         address, port = socket.getnameinfo(self.door.getsockname(), socket.NI_NUMERICHOST | socket.NI_NUMERICSERV)
@@ -84,7 +87,7 @@ class Port:
 
     def next_client(self, until: float | None) -> Client | None:
         """Returns the first client that has sent a byte; None after a signal or `until`. Ends the oldest silent one."""
-        assert self.door, "the port is open"
+        assert self.door
         while True:
             oldest = next(iter(self.silent), None)
             limits = [until, self.silent[oldest] if self.idle and oldest else None]
@@ -155,7 +158,7 @@ class Link:
         terminal for the client after that one, the next call fails."""
         if self.fault:
             raise self.fault
-        assert self.terminal, "the link is open"
+        assert self.terminal
         with_input = select.poll()
         with_input.register(self.terminal, select.POLLIN)
         # (while no client has it open, a terminal is always ready, with its end)
@@ -245,25 +248,23 @@ class Server:
         if not command:
             show(f"serving at {readable(where)}")
             self.serve_clients(None)
-            return int(self.lacks_faults() or self.has_failed)
+            return int(self.report_unstruck_faults() or self.has_failed)
         job, ended = Job(command, where, limit), None
         try:
             self.serve_clients(GRACE)
             ended = ended_by()
-            if ended is None:
-                why = f"in {GRACE} seconds after a failed or idle session none began that ended well"
+            if ended in (None, signal.SIGALRM):
+                why = "--timeout" if ended else f"{GRACE} seconds after a failed or idle session"
                 print_line(f"ending {command[0]}: {why}")
-            if ended == signal.SIGALRM:
-                print_line(f"ending {command[0]}: it went on for {limit or 0:.12g} seconds (--timeout)")
         finally:
             if ended != signal.SIGCHLD:
                 job.end()
         status = 1 if ended is None else 124 if ended == signal.SIGALRM else job.status()
         # (these are reported also if the command has failed)
-        lacks = self.lacks_faults()
-        return status or int(lacks or self.has_failed)
+        counts = self.report_unstruck_faults()
+        return status or int(counts or self.has_failed)
 
-    def lacks_faults(self) -> bool:
+    def report_unstruck_faults(self) -> bool:
         """Reports the faults that selected no command, and returns whether the status depends on them."""
         if not self.traffic:
             return False
@@ -323,9 +324,9 @@ class Server:
                 if self.traffic:
                     self.traffic.end()
         if run.returncode:
-            how = f"status {run.returncode}" if run.returncode > 0 else f"ended by signal {-run.returncode}"
+            how = f"status {run.returncode}" if run.returncode > 0 else name_of_signal(-run.returncode)
             self.has_failed = True
-            print_line(f"a session failed ({how}): its changes may not be in the chip file")
+            print_line(f"a session failed ({how}): its chip may not be saved")
         return is_well, not run.returncode
 
     def start(self, other: socket.socket) -> subprocess.Popen[bytes]:
@@ -355,7 +356,7 @@ class Server:
             if came in found:
                 break
             if not found:
-                print_line(f"no byte passed for {self.idle:.12g} seconds: a client is disconnected")
+                print_line(f"a client is disconnected after {self.idle:.12g} seconds without a byte")
                 return False
             try:
                 if any([way.go_on(found) for way in ways]):
@@ -403,11 +404,11 @@ def door_of(places: list[str], options: Mapping[str, str], idle: float | None, c
     """Returns what clients call: a port or a link."""
     if "--pty" in options:
         if places or "--listen" in options:
-            raise Fault("--pty is in place of a port and --listen: leave those out")
+            raise Fault("--pty takes no port and no --listen")
         # (a command may look for it in another folder)
         return Link(os.path.abspath(options["--pty"]) if command else options["--pty"])
     if len(places) != 1:
-        raise Fault("one port is needed: avrstk-serve PORT -p PART --chip FILE")
+        raise Fault("give one PORT, or --pty LINK")
     if not re.fullmatch("0*[0-9]{1,9}", places[0]) or int(places[0]) > 65_535:
         raise Fault(f"{places[0]}: not a port from 0 to 65535")
     return Port(options.get("--listen", "127.0.0.1"), int(places[0]), idle)
@@ -441,9 +442,9 @@ def main(help_text: str) -> int:
     at = sys.argv.index("--") if "--" in sys.argv else len(sys.argv)
     client, program = sys.argv[at + 1 :], stray(sys.argv[1:at])
     if sys.argv[at:] == ["--"]:
-        raise Fault("no command after --")
+        raise Fault(NO_COMMAND)
     if program and not client:
-        raise Fault(f"{program}: a command comes after --")
+        raise Fault(f"{program}: give a command after --")
     given, places = getopt.gnu_getopt(sys.argv[1:at], "p:h", LONG)
     options = dict(given)
     if {"-h", "--help", "--version"} & set(options) or not sys.argv[1:]:
@@ -451,10 +452,7 @@ def main(help_text: str) -> int:
         return 0
     if "--json" not in options:
         return serve(given, places, client)
-    own = {name: options[name] for name in ("--chip", "--parts", "--log") if name in options}
-    same = [name for name, file in own.items() if os.path.realpath(file) == os.path.realpath(options["--json"])]
-    if same:
-        raise Fault(f"--json {options['--json']}: this is the file of {' and '.join(same)}")
+    judge_output(options, "--json", "--chip", "--parts", "--log")
     why = fault_of(options["--json"])
     if why:
         raise Fault(f"--json {options['--json']} {why}")
@@ -472,24 +470,33 @@ def main(help_text: str) -> int:
     return status
 
 
+def judge_output(options: Mapping[str, str], output: str, *others: str) -> None:
+    """Refuses the file of an output that another option has, too."""
+    for other in others if output in options else []:
+        if other in options and os.path.realpath(options[other]) == os.path.realpath(options[output]):
+            raise Fault(f"{output} {options[output]}: this is the file of {other}")
+
+
 def judge(options: Mapping[str, str], client: list[str]) -> str:
     """Refuses options that don't fit each other. Returns the name of the chip file."""
     chip, parts = options.get("--chip"), options.get("--parts")
     if not chip:
         raise Fault("no chip file given (--chip)")
-    if re.search(r"[\udc80-\udcff]", chip):
+    try:
+        # (Python may decode names as another character set)
+        os.fsencode(chip).decode()
+    except UnicodeDecodeError:
         raise Fault(f"--chip {chip}: the name is not UTF-8")
-    if parts is not None and not os.path.isfile(parts):
-        raise Fault(f"--parts {parts}: not a regular file that can be reached")
+    if parts is not None and not stat.S_ISREG(os.stat(parts).st_mode):
+        raise Fault(f"--parts {parts}: not a regular file")
     if "--timeout" in options and not client:
-        raise Fault("--timeout: no command after --")
-    others = [option for option in REFUSED if option in options]
+        raise Fault(f"--timeout: {NO_COMMAND}")
+    excluded = [option for option in ("--parts", *REFUSED) if option in options]
     if "--mega" in options and options.get("-p", "").lower() not in ("m2560", "atmega2560"):
-        raise Fault("--mega is the bootloader of an ATmega2560: give -p m2560")
-    if "--mega" in options and parts is not None:
-        raise Fault("--mega is the bootloader of the built-in ATmega2560: leave out --parts")
-    if "--mega" in options and others:
-        raise Fault(f"--mega can't be given with {' or '.join(others)}")
+        raise Fault("--mega needs -p m2560")
+    if "--mega" in options and excluded:
+        raise Fault(f"--mega takes no {' or '.join(excluded)}")
+    judge_output(options, "--log", "--chip", "--parts")
     return chip
 
 
@@ -500,17 +507,17 @@ def serve(
     Returns the status."""
     options, begun = dict(given), time.monotonic()
     idle, limit = (seconds(name, options[name]) if name in options else None for name in ("--idle", "--timeout"))
-    door, parts = door_of(places, options, idle, client), options.get("--parts")
+    door = door_of(places, options, idle, client)
     traffic = Traffic(given) if {"--log", "--json", *FAULTS, *REFUSED} & set(options) else None
     chip = judge(options, client)
     # (avrstk_session itself reports a missing part)
-    words = [*part_words(options.get("-p"), parts), "-P", f"emu:{chip}"]
+    words = [*part_words(options.get("-p"), options.get("--parts")), "-P", f"emu:{chip}"]
     session = session_program()
     # runs that serve nobody check the options and set the lock. They report why they fail
     if fails(session, "--check", *words):
         return 1
     if traffic:
-        traffic.open(chip, parts)
+        traffic.open()
     # (a lock with other bits at 0 keeps them, so the byte isn't compared)
     if "--locked" in options and fails(built(), *words, "-q", "-q", "-V", "-U", "lock:w:0xFC:m"):
         return 1

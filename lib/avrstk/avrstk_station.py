@@ -6,7 +6,7 @@ from __future__ import annotations
 from avrstk_common import ENDING, NAME, READ, WRITE, Fault, Source, came, ended_by, heed_signals, messages, ready
 from avrstk_common import name_of_signal, print_line, readable, show, text_of, version
 from avrstk_hints import MAYBE_CHANGED, POWER_CYCLE, UNCHANGED
-from avrstk_report import Report, write
+from avrstk_report import CHANGED, Report, write
 from avrstk_words import UNOPENED, Update, Words, is_port
 
 import contextlib
@@ -94,17 +94,15 @@ class Board:
         """Waits for its process, and completes the outcome of one that was killed."""
         _, status = os.waitpid(self.number, 0)
         if self.outcome is None:
-            report, how = Report(), "ended too early"
-            if os.WIFSIGNALED(status):
-                how = f"was ended by {name_of_signal(os.WTERMSIG(status))}"
-            report.stage, report.fault = "interrupted", f"its process {how}"
-            changes = self.words.changes()
+            report, changes = Report(), self.words.changes()
+            how = name_of_signal(os.WTERMSIG(status)) if os.WIFSIGNALED(status) else "too early"
+            report.stage, report.fault = "interrupted", f"its process ended ({how})"
             state = MAYBE_CHANGED if changes else UNCHANGED
-            state += f", and may be in programming mode: {POWER_CYCLE}" * (not self.words.has_port)
+            state += f"; {POWER_CYCLE}" * (not self.words.has_port)
             self.print_message(f"{NAME}: {report.fault}: {state}".encode())
             self.outcome, self.report = outcome_of(self.words, report, 1)
             for held in (self.outcome, self.report or {}) if changes else ():
-                held["chip"] = "erased or partly written"
+                held["chip"] = CHANGED
         if self.fault and self.outcome and not self.outcome["status"]:
             for held in (self.outcome, self.report or {}):
                 held.update(status=1, kind="file", error=self.fault)
@@ -248,33 +246,31 @@ def name_of(device: str) -> str:
 def judge_outputs(words: Words) -> None:
     """Refuses outputs that several boards would write into."""
     reads = [update for update in words.updates if update.operation == "r"]
-    names = [(update.file, "file") for update in reads if update.file not in ("-", os.devnull)]
-    names += [] if words.backup is None else [(words.backup, "folder")]
-    for name, what in names:
+    names = [update.file for update in reads if update.file not in ("-", os.devnull)]
+    names += [] if words.backup is None else [words.backup]
+    for name in names:
         if MARK not in name:
-            raise Fault(f"{name}: each board needs a {what} of its own, whose name has {MARK}: {UNOPENED}")
+            raise Fault(f"{name}: several boards need {MARK} in the name: {UNOPENED}")
     if MARK in (words.restore or ""):
-        raise Fault(f"--restore: several boards get one backup. For one of its own give each board alone: {UNOPENED}")
+        raise Fault(f"--restore takes no {MARK}: {UNOPENED}")
     for update in reads:
         if update.file == "-" and (update.format or "r") not in "dhob":
-            raise Fault(f"-U {update.given}: of several boards only lists go to standard output (:h): {UNOPENED}")
+            raise Fault(f"-U {update.given}: several boards print only lists (:h): {UNOPENED}")
     boards = [name_of(device) for device in words.devices]
     for board in boards if names else []:
         if boards.count(board) > 1:
-            raise Fault(f"two boards have the name {board}, so {MARK} can't tell them apart: {UNOPENED}")
+            raise Fault(f"two boards have the name {board}: {UNOPENED}")
 
 
 def devices_of(words: Words, here: list[str]) -> list[str]:
     """Returns the devices of a command, `all` replaced by those that are here."""
     if "all" in words.devices and not here:
-        raise Fault(f"-P all: no /dev/ttyACM* or /dev/ttyUSB* is found now: {UNOPENED}")
+        raise Fault(f"-P all finds no device: {UNOPENED}")
     found = [name for device in words.devices for name in (here if device == "all" else [device])]
     paths = [os.path.realpath(name) for name in found]
     for at, (name, path) in enumerate(zip(found, paths)):
         if path in paths[:at]:
-            first = found[paths.index(path)]
-            what = "is given twice" if first == name else f"is {first}, which is given, too"
-            raise Fault(f"-P {name} {what}: {UNOPENED}")
+            raise Fault(f"-P {name} and -P {found[paths.index(path)]} are one device: {UNOPENED}")
     if any(name.startswith("stdio:") for name in found):
         raise Fault(f"-P stdio: is for one board: {UNOPENED}")
     return found
