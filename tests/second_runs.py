@@ -13,7 +13,6 @@ import functools
 import os
 import random
 import re
-import shlex
 import signal
 import sys
 import tempfile
@@ -27,7 +26,7 @@ sys.path.insert(0, str(TOP / "lib/avrstk"))
 import avrstk_hints as hints  # noqa: E402
 import avrstk_words  # noqa: E402
 from avrstk_report import Report  # noqa: E402
-from avrstk_words import FUSES, Words  # noqa: E402
+from avrstk_words import Words  # noqa: E402
 
 sys.argv[0] = given
 # (files are read once)
@@ -45,6 +44,8 @@ MEMORIES = {
 }
 # what a locked chip reads
 HIDDEN = 0xAA
+# what a hint says of an erase that removes old bits, locks and several values
+ERASE = "give -e and all that is to be written, each memory once, the lock last"
 # a part file of one's own, with which less is known
 PARTS = tempfile.NamedTemporaryFile("w", suffix=".toml")
 print('[parts]\nm328p = { signature = "1E950F", flash_size = 32768, eesave_bit = 3 }', file=PARTS, flush=True)
@@ -199,52 +200,44 @@ def words_of(given):
     return parsed(tuple(given))
 
 
-def without(given, named):
-    """Returns the command without the updates that a hint names: `the first -U X and -U Y`. None may be in doubt."""
-    texts = shlex.split(named)
-    left = [word for word in given if word != "-e" or word not in texts]
-    for before, word, text in zip(["", *texts], texts, texts[1:]):
-        if word == "-U":
-            at = left.index(text)
-            is_clear = before == "first" or texts.count(text) == given.count(text)
-            check(f"{given}: it is clear which one is left out: {named}", is_clear)
-            del left[at - 1 : at + 1]
-    return left
+def without_first(given, count):
+    """Returns the command without its first updates, so many."""
+    at = [at for at, word in enumerate(given) if word == "-U"][:count]
+    check(f"{given} has {count} updates", len(at) == count)
+    return [word for place, word in enumerate(given) if place not in at and place - 1 not in at]
 
 
-def with_lock_last(given):
-    """Returns the command with its locks at the end."""
-    locks = [word for word in given if word.startswith("lock:w:")]
-    left = without(given, " and ".join(f"-U {lock}" for lock in locks))
-    return [*left, *[word for lock in locks for word in ("-U", lock)]]
-
-
-def with_one_lock(given):
-    """Returns a command with the last of its values for the lock alone."""
-    locks = [word for word in given if word.startswith("lock:w:")]
-    return without(given, " and ".join("the first " * (lock == locks[-1]) + f"-U {lock}" for lock in locks[:-1]))
+def each_once(plan):
+    """Returns the command that erases, and writes all that a command writes, each memory once and the lock last."""
+    merged, flags = {}, without_first(plan, plan.count("-U"))
+    for update in words_of(plan).updates:
+        if update.operation == "w":
+            values = update.file.split(",")
+            merged[update.memory] = [*values, *merged.get(update.memory, [])[len(values) :]]
+    memories = sorted(merged, key=lambda memory: memory == "lock")
+    updates = [f"{memory}:w:{','.join(merged[memory])}:m" for memory in memories]
+    return [*flags, "-e", *[word for update in updates for word in ("-U", update)]]
 
 
 def advised(given, plan, text):
     """Returns the command that a hint advises for a programmer; None if it advises none. `plan` is the whole command,
     which has what was left out, too."""
-    again = re.search(r"run the same command again( with -D)?(?:,? without (.*))?$", text)
-    if "give it last" in text or "With -e give all that is to be written, the lock last" in text:
-        return [*with_lock_last(plan), *["-e"] * ("nly a programmer's erase (-e)" in text)]
-    if "given twice: give one value" in text:
-        return with_one_lock(given)
-    if "leave out -D, and give all that is to be written" in text:
-        return [word for word in plan if word != "-D"]
+    again = re.search(
+        r"(?:since another erase may clear EEPROM, )?run the same command again"
+        r"(?: (with -D, without -e))?(?:,? without its first (\d+) -U)?$",
+        text,
+    )
+    if ERASE in text:
+        return each_once(plan)
     if again:
-        return [*["-D"] * bool(again[1]), *without(given, again[2] or "")]
-    return [*given, "-e"] if "nly a programmer's erase (-e) removes a lock" in text else None
+        left = without_first(given, int(again[2] or 0))
+        return ["-D", *[word for word in left if word != "-e"]] if again[1] else left
+    return None
 
 
 def parted(hint):
     """Returns what a hint says to do, and what to do if that fails again."""
-    now, _, later = re.split(
-        r"(; if it (?:fails again|always fails at the same address|refuses again), |$)", hint, maxsplit=1
-    )
+    now, _, later = hint.partition("; if it fails again, ")
     return now, later
 
 
@@ -253,33 +246,20 @@ def untrue(hint, outcome, before, files, chip, whole):
     the chip and the files after a whole run, None if that fails."""
     words, updates = outcome.words, outcome.words.updates
     lacks, held = re.match(r"(\w+): address (\w+): (\w+) exp", outcome.error), chip.held
-    writes = [update for update in updates if update.operation == "w"]
-    locks = [at for at, update in enumerate(updates) if update.writes("lock")]
     says = {
         "the chip is unchanged": held == before,
         "nothing was written": held == before,
         "nothing was sent": not outcome.commands,
         "the device was not opened": False,
         "everything was done": whole is None or (held, files) == whole,
-        "only the session's end failed": hints.LEAVE in outcome.commands or outcome.begun() > len(updates),
         "may be erased or partly written": hints.CHANGING & outcome.commands,
         "no valid reply": outcome.commands <= {hints.SIGN_ON, hints.LEAVE},
-        "no further valid reply": hints.SIGN_ON in outcome.commands,
-        "flash was not erased": 0x12 not in outcome.commands,
-        "since another erase": hints.erases(words) and any(update.writes("hfuse") for update in updates),
-        "another erase": hints.erases(words),
-        "The next erase": hints.erases(words),
-        "-U lock": not re.search("-U lock (comes|was given)", hint) or locks and locks[0] < len(updates) - 1,
-        "given twice": len(locks) > 1,
-        "two images": sum(update.writes_flash() for update in updates) > 1,
+        "another erase": hints.erases(words) and 0x12 in outcome.commands,
+        "with -D, without -e": hints.erases(words) and 0x12 in outcome.commands,
         "only bits that": False,
-        "bits that this part lacks": False,
         "programming mode": outcome.is_held,
-        # (a bootloader does nothing of these)
-        "can't erase the chip: ": not [one for one in writes if one.memory in FUSES]
-        and not [one for one in updates if one.memory == "calibration"],
-        "leave out -e": "-e" in words.flags,
-        "use -D": any(update.writes_flash() for update in writes) and "-D" not in words.flags or "-e" in words.flags,
+        "can't erase the chip": 0x12 in outcome.commands and outcome.error.startswith("command 12 "),
+        "may refuse this": bool(re.match("command (17|19|1C) ", outcome.error)),
     }
     for text, is_so in says.items():
         if text in hint and not is_so:
@@ -289,12 +269,12 @@ def untrue(hint, outcome, before, files, chip, whole):
     if not lacks:
         return None
     memory, at = lacks[1], int(lacks[2], 16)
-    other = f"{memory} holds something else than "
+    other = f"{memory} reads as something else than "
     if other in hint and held[memory][at] == int(lacks[3], 16) and "or the lock hides it" not in hint:
         return other
-    causes = {"a lock": "lock", "old bits": "old bytes may remain|two images may overlap"}
+    # (an erase is the cure for a lock, for old bits, and for several values)
     why = chip.why.get(memory)
-    return None if other in hint or not why or re.search(causes[why], hint) else f"it doesn't name the cause, {why}"
+    return None if other in hint or not why or ERASE in hint else f"it doesn't name the cure of {why}"
 
 
 def asked(given, old, is_warned, held):
@@ -336,18 +316,14 @@ def followed(given, old, whole, fault):
         given = advised(given, plan, text) if text else None
         if given is None:
             return (f"no way on: {said}" if re.search("the same command again", text) or not text else None), said
-        if "give one value" in text:
-            plan, whole = with_one_lock(plan), None
-        elif re.search("give it last|give all that is to be written", text):
-            # (the order, and the erase, are those of the hint)
+        if ERASE in text:
+            # (what is given, its order, and the erase are those of the hint)
             plan, whole = given, None
-        elif "nly a programmer's erase (-e) removes a lock" in text:
-            plan, whole = [*with_lock_last(plan), "-e"], None
     else:
         return f"no end: {said}", said
     if whole is not None:
         return (None if (chip.held, files) == whole else f"{said}: {chip.held}, {files} in place of {whole}"), said
-    is_warned = any(re.search("clears EEPROM, too|and EEPROM unless", hint) for hint in said)
+    is_warned = any("and EEPROM unless" in hint for hint in said)
     # (without comparisons nothing shows that a lock protects a memory)
     is_shown = "-V" not in plan and not [word for word in plan if re.match("lock:w", word)][1:]
     is_right = not is_shown or asked(plan, old, is_warned, chip.held)
