@@ -17,6 +17,7 @@ import signal
 import sys
 import tempfile
 import time
+import types
 
 from cases import TOP, check, named, run_cases
 
@@ -42,10 +43,12 @@ MEMORIES = {
     "lock": (1, [0xFF, 0xFE, 0xFC, 0xFD], 0x19),
     "calibration": (1, [0x9A], 0),
 }
+# the numbers of --each, in turn
+NUMBERS = [0x12, 0x24, 0x48, 0x11, 0x22, 0x44, 0x81]
 # what a locked chip reads
 HIDDEN = 0xAA
 # what a hint says of an erase that removes old bits, locks and several values
-ERASE = "give -e and all that is to be written, each memory once, the lock last"
+ERASE = re.compile("give -e and all that is to be written(, with another number)?, each memory once, the lock last")
 # a part file of one's own, with which less is known
 PARTS = tempfile.NamedTemporaryFile("w", suffix=".toml")
 print('[parts]\nm328p = { signature = "1E950F", flash_size = 32768, eesave_bit = 3 }', file=PARTS, flush=True)
@@ -172,7 +175,9 @@ class Chip:
 
 
 def values_of(update):
-    return [int(value, 0) for value in update.file.split(",")]
+    """Returns the bytes that an update writes or compares. A number of --each comes first."""
+    values = [int(value, 0) for value in update.file.split(",")] if update.file != "--each" else [0]
+    return [update.number, *values[1:]] if hasattr(update, "number") else values
 
 
 def drawn(draw):
@@ -185,19 +190,40 @@ def drawn(draw):
         operation = draw.choice("wwwvr" if command else "vr")
         held = ",".join(f"0x{draw.choice(values):02X}" for _ in range(draw.randint(1, size)))
         words += ["-U", f"{memory}:r:{number}:h" if operation == "r" else f"{memory}:{operation}:{held}:m"]
+    if "-n" not in words and draw.random() < 0.2:
+        words += ["--each", draw.choice(["flash", "eeprom", "flash eeprom", "eeprom flash"])]
     return words
 
 
 @functools.lru_cache(64)
-def parsed(given):
-    words = Words(["-p", "m328p", "-P", "/dev/ttyACM0", *given], Report())
-    # (each image begins at 0)
-    words.flash_pages = lambda: [(0, 128) for update in words.updates if update.writes_flash()]
+def parsed(given, number):
+    """Returns the command, in which --each has the memories that get a number, as avrstk_each puts it there."""
+    at = given.index("--each") if "--each" in given else len(given)
+    words = Words(["-p", "m328p", "-P", "/dev/ttyACM0", *given[:at], *given[at + 2 :]], Report())
+    words.each_given = list(given[at + 1 : at + 2])
+    base, words.updates = words.updates, list(words.updates)
+    for memory in words.each_given[0].split() if words.each_given else []:
+        writes = [at for at, update in enumerate(base) if update.writes(memory)]
+        own = copy.copy(base[writes[-1]]) if writes else avrstk_words.Update(f"{memory}:w:--each")
+        own.number = NUMBERS[number]
+        if writes:
+            words.updates[words.updates.index(base[writes[-1]])] = own
+        else:
+            locks = [at for at, update in enumerate(words.updates) if update.writes("lock")]
+            words.updates.insert(min(locks, default=len(words.updates)), own)
+    words.each = types.SimpleNamespace(base=base) if words.each_given else None
     return words
 
 
-def words_of(given):
-    return parsed(tuple(given))
+def words_of(given, number=0):
+    return parsed(tuple(given), number)
+
+
+def whole_of(given, old, number):
+    """Returns the chip and the files after a whole run; None if that fails."""
+    chip, files = old.copied(), {}
+    chip.lost = 0
+    return None if chip.run(words_of(given, number), files).status else (chip.held, files)
 
 
 def without_first(given, count):
@@ -210,7 +236,8 @@ def without_first(given, count):
 def each_once(plan):
     """Returns the command that erases, and writes all that a command writes, each memory once and the lock last."""
     merged, flags = {}, without_first(plan, plan.count("-U"))
-    for update in words_of(plan).updates:
+    words = words_of(plan)
+    for update in words.updates if words.each is None else words.each.base:
         if update.operation == "w":
             values = update.file.split(",")
             merged[update.memory] = [*values, *merged.get(update.memory, [])[len(values) :]]
@@ -222,17 +249,23 @@ def each_once(plan):
 def advised(given, plan, text):
     """Returns the command that a hint advises for a programmer; None if it advises none. `plan` is the whole command,
     which has what was left out, too."""
-    again = re.search(
-        r"(?:since another erase may clear EEPROM, )?run the same command again"
-        r"(?: (with -D, without -e))?(?:,? without its first (\d+) -U)?$",
-        text,
-    )
-    if ERASE in text:
+    changes = "with -D, without -e|without its first \\d+ -U|without --each|with another number"
+    again = re.search(f"run the same command again((?:,? (?:{changes}))*)$", text)
+    erase = ERASE.search(text)
+    if erase:
+        check(f"{text}: a second number is named", ("--each" in given) == bool(erase[1]), given)
         return each_once(plan)
-    if again:
-        left = without_first(given, int(again[2] or 0))
-        return ["-D", *[word for word in left if word != "-e"]] if again[1] else left
-    return None
+    if not again:
+        return None
+    count = re.search(r"its first (\d+) -U", again[1])
+    given = without_first(given, int(count[1]) if count else 0)
+    if "with -D, without -e" in again[1]:
+        given = ["-D", *[word for word in given if word != "-e"]]
+    if "without --each" in again[1]:
+        at = given.index("--each")
+        given = [*given[:at], *given[at + 2 :]]
+    check(f"{text}: a second number is named", ("--each" in given) == ("with another number" in again[1]), given)
+    return given
 
 
 def parted(hint):
@@ -274,13 +307,13 @@ def untrue(hint, outcome, before, files, chip, whole):
         return other
     # (an erase is the cure for a lock, for old bits, and for several values)
     why = chip.why.get(memory)
-    return None if other in hint or not why or ERASE in hint else f"it doesn't name the cure of {why}"
+    return None if other in hint or not why or ERASE.search(hint) else f"it doesn't name the cure of {why}"
 
 
-def asked(given, old, is_warned, held):
+def asked(given, number, old, is_warned, held):
     """Whether the chip holds what a command asks for, and else what it held before. If a hint warned that an erase may
     clear EEPROM, either will do."""
-    words, wanted = words_of(given), old.copied()
+    words, wanted = words_of(given, number), old.copied()
     wanted.why = {}
     if hints.erases(words):
         wanted.erase()
@@ -297,17 +330,17 @@ def asked(given, old, is_warned, held):
     return held in either
 
 
-def followed(given, old, whole, fault):
+def followed(given, old, fault):
     """Makes a run with a fault, and follows the hints. Returns how it ended, and how many hints were judged."""
-    chip, files, said, plan = old.copied(), {}, [], given
+    chip, files, said, plan, number, is_new = old.copied(), {}, [], given, 0, False
     chip.lost, chip.is_done, chip.fault = fault
     for _ in range(6):
         before = dict(chip.held)
-        outcome = chip.run(words_of(given), files)
+        outcome = chip.run(words_of(given, number), files)
         if not outcome.status:
             break
         hint = hints.hint(outcome, None if outcome.error else signal.SIGINT)
-        false = untrue(hint, outcome, before, files, chip, whole)
+        false = untrue(hint, outcome, before, files, chip, None if is_new else whole_of(plan, old, number))
         if false:
             return f"not true: {false}: {hint}", said
         now, later = parted(hint)
@@ -316,17 +349,20 @@ def followed(given, old, whole, fault):
         given = advised(given, plan, text) if text else None
         if given is None:
             return (f"no way on: {said}" if re.search("the same command again", text) or not text else None), said
-        if ERASE in text:
+        if ERASE.search(text):
             # (what is given, its order, and the erase are those of the hint)
-            plan, whole = given, None
+            plan, is_new = given, True
+        # (each run with --each takes the next number)
+        number += "--each" in given
     else:
         return f"no end: {said}", said
+    whole = None if is_new else whole_of(plan, old, number)
     if whole is not None:
         return (None if (chip.held, files) == whole else f"{said}: {chip.held}, {files} in place of {whole}"), said
     is_warned = any("and EEPROM unless" in hint for hint in said)
     # (without comparisons nothing shows that a lock protects a memory)
     is_shown = "-V" not in plan and not [word for word in plan if re.match("lock:w", word)][1:]
-    is_right = not is_shown or asked(plan, old, is_warned, chip.held)
+    is_right = not is_shown or asked(plan, number, old, is_warned, chip.held)
     return (None if is_right else f"{said}: {chip.held} is not what {plan} asks for"), said
 
 
@@ -337,13 +373,12 @@ def each_fault():
     draw, count, kinds = random.Random(seed), 0, set()
     print(f"SEED {seed}", flush=True)
     while time.process_time() < ends:
-        given, old, files = drawn(draw), Chip(draw), {}
+        given, old = drawn(draw), Chip(draw)
         chip = old.copied()
-        is_whole = not chip.run(words_of(given), files).status
-        whole = (chip.held, files) if is_whole else None
+        chip.run(words_of(given), {})
         cases = [(lost, done, fault) for lost in range(1, chip.count + 1) for done in (False, True) for fault in FAULTS]
         for fault in [*draw.sample(cases, min(len(cases), 12)), (0, False, FAULTS[0])]:
-            found, said = followed(given, old, whole, fault)
+            found, said = followed(given, old, fault)
             check(f"{given} {old.held}, {fault}", not found, found)
             kinds.update(re.sub(r"0x\w+|[-\w]+:[rwv]:\S+|\w+ holds", "X", hint) for hint in said)
             count += len(said)

@@ -27,12 +27,6 @@ UNCHANGED = "the chip is unchanged"
 MAYBE_CHANGED = "the chip may be erased or partly written"
 DONE = f"everything was done; {POWER_CYCLE}"
 OPEN_LOCK = "then -U lock:r:-:h prints a lock whose bit 1 is 0"
-# what ends old bits of flash, a lock, and two values for one memory
-ERASE = (
-    "with a programmer give -e and all that is to be written, each memory once, the lock last. The erase clears a lock, "
-    "flash (a bootloader, too), and EEPROM unless the fuse bit EESAVE is 0"
-)
-AT_LAST = f"if it fails again, {ERASE}"
 OTHER = "if it fails again, try another programmer or chip"
 CABLE = "check the cable, the wires and the power; {state}"
 DAMAGED = "build or download the file again, and don't edit it"
@@ -107,7 +101,7 @@ def again(run: Outcome) -> str:
     words, done = run.words, run.done()
     rest = words.updates[len(done) :]
     if may_lock(done) and any(update.operation == "w" and update.memory != "lock" for update in rest):
-        return ERASE
+        return by_erase(words)
     written = {update.memory for update in run.begun() if update.operation == "w"}
     is_other = any(update.operation != "w" and update.memory in written for update in done)
     if erases(words) and not may_lose(run) and not is_other:
@@ -116,12 +110,24 @@ def again(run: Outcome) -> str:
     # (one number is for all updates that have it)
     own = [update for update in words.updates if update not in base]
     is_each = bool(own) and own[-1] in done
+    if not is_each and not words.is_bootloader and any(one.writes_flash() and one in own for one in run.begun()):
+        # (flash that isn't erased takes no second number)
+        return by_erase(words)
     left = done if is_each else list(itertools.takewhile(lambda update: update not in own, done))
     count = sum(update.file != "--each" for update in left)
     changes = ["with -D, without -e"] * erases(words) + [f"without its first {count} -U"] * bool(count)
     changes += ["without --each"] * is_each
     why = "since another erase may clear EEPROM, " * erases(words)
     return f"{why}{same(words)} {', '.join(changes)}".rstrip() + NUMBER * (bool(words.each_given) and not is_each)
+
+
+def by_erase(words: Words) -> str:
+    """Advises what ends old bits of flash, a lock, and two values for one memory."""
+    number = NUMBER * bool(words.each_given)
+    return (
+        f"with a programmer give -e and all that is to be written{number}, each memory once, the lock last. The erase "
+        "clears a lock, flash (a bootloader, too), and EEPROM unless the fuse bit EESAVE is 0"
+    )
 
 
 def same(words: Words) -> str:
@@ -263,8 +269,8 @@ def unlike(run: Outcome, memory: str, wanted: int, held: int) -> str:
     # (a lock that is open protects nothing, and an erase sets no bit of it to 0)
     is_open = memory == "lock" and held & 3 == 3 and not wanted & ~held
     is_other = words.is_bootloader or is_open or erases(words) and once
-    way = again(run)
-    return way if way == ERASE else f"{way}; {OTHER if is_other else AT_LAST}"
+    way, erase = again(run), by_erase(words)
+    return erase if way == erase else f"{way}; {OTHER if is_other else f'if it fails again, {erase}'}"
 
 
 def erases(words: Words) -> bool:
