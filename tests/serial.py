@@ -1829,7 +1829,7 @@ FOLLOWED = [
     (r"^with --parts, -p takes a part as that file names it, or (m328p)", changed("^(m9|ATmega328P)$", r"\1")),
     (r"^only bits that \S+ can't change differ: give (\S+)", lambda words, _, found: valued(words, found[1])),
     (r"^give (\S+) if the part lacks the bits that differ; else (.*)", stays),
-    (r"give -e and all that is to be written, each memory once, the lock last", each_once),
+    (r"give -e and all that is to be written(, with another number)?, each memory once, the lock last", each_once),
     (
         r"^no valid reply to SIGN_ON; the chip is unchanged\. Check: .*, else stk500v2$",
         lambda words, case, found: [word for before, word in zip(["", *words], words) if "-c" not in (before, word)]

@@ -102,8 +102,9 @@ def again(run: Outcome) -> str:
     rest = words.updates[len(done) :]
     if may_lock(done) and any(update.operation == "w" and update.memory != "lock" for update in rest):
         return by_erase(words)
-    written = {update.memory for update in run.begun() if update.operation == "w"}
-    is_other = any(update.operation != "w" and update.memory in written for update in done)
+    # (a second run reads what the first one wrote)
+    later = [[other.memory for other in run.begun()[at:] if other.operation == "w"] for at in range(len(done))]
+    is_other = any(update.operation != "w" and update.memory in after for update, after in zip(done, later))
     if erases(words) and not may_lose(run) and not is_other:
         return same(words) + NUMBER * bool(words.each_given)
     base = words.updates if words.each is None or words.each.base is None else words.each.base
@@ -209,10 +210,11 @@ def unread(run: Outcome, found: Match[str]) -> str:
     values = [update for update in words.updates if update.format == "m" and name == update.memory]
     update = next(iter(images + values), None)
     if update and address:
-        own, is_of_elf = f"{update.memory}:{update.operation}", 0x810000 <= int(address, 16) < SIGNATURE + 3
+        own, is_of_elf = f"{update.memory}:{update.operation}", 0x810000 <= int(address, 16) < SIGNATURE
         if update.memory in FUSES:
             return f"give its value, as {own}:0xNN:m"
         # (the address of EEPROM, a fuse or the lock)
+        is_of_elf &= update.memory in AREAS
         return f"give the ELF file itself, as {own}:NAME.elf" if is_of_elf else "check -p and the image"
     form = form_of(update.held(65_536)) if update else None
     if not update or not form or update.format in (None, "a", form) or form == "e" and update.memory not in AREAS:
