@@ -277,7 +277,7 @@ def parted(hint):
 def untrue(hint, outcome, before, files, chip, whole):
     """Returns what of a hint isn't true of the model; None if all is. `before` is the chip before the run, and `whole`
     the chip and the files after a whole run, None if that fails."""
-    words, updates = outcome.words, outcome.words.updates
+    words = outcome.words
     lacks, held = re.match(r"(\w+): address (\w+): (\w+) exp", outcome.error), chip.held
     says = {
         "the chip is unchanged": held == before,

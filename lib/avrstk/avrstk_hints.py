@@ -318,8 +318,8 @@ REPLIED: Table = {
     "no answer$|link |command .* C1$": CABLE,
     "no answer in|.*bad answer$": "check the speed (-b {baud}), and that nothing else sends data; {state}",
     r"command 10 .*(80|81|C0)$": "check the wires, the power, the clock and the reset pin; {state}",
-    "command 12 ": "a bootloader can't erase the chip, and a programmer's erase clears the bootloader: give -D, not -e, "
-    f"and for flash {ONE_IMAGE}. If this is a programmer, {{state}}; {OTHER}",
+    "command 12 ": "a bootloader can't erase the chip, and a programmer's erase clears the bootloader: give -D, not -e,"
+    f" and for flash {ONE_IMAGE}. If this is a programmer, {{state}}; {OTHER}",
     "command (17|19|1C) ": f"a bootloader may refuse this: use a programmer. If this is one, {{state}}; {OTHER}",
     "command ": f"{{state}}; {OTHER}",
 }
