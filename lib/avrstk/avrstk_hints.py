@@ -81,7 +81,8 @@ class Outcome:
     def is_done(self) -> bool:
         """Whether all but the session's end was done."""
         is_left = self.left_at_error or LEAVE in self.commands and not self.error
-        return not self.is_before and (is_left or 0 < len(self.words.updates) < self.reached())
+        # (after a long pause LEAVE may be seen before an error's line; lines of avrstk come in order)
+        return not self.is_before and (is_left or self.steps > 0) and self.reached() > len(self.words.updates)
 
 
 # hints by the beginnings of errors: a text, or a function of the run and of what was found in the error
