@@ -3,8 +3,8 @@
 from __future__ import annotations
 
 from avrstk_common import name_of_signal, parts
-from avrstk_elf import AREAS, SIGNATURE
-from avrstk_words import FORMATS, FUSES, MEMORIES, RECORD, UNOPENED, Update, Words, form_of, long_name, parts_of
+from avrstk_elf import SIGNATURE
+from avrstk_words import FORMATS, FUSES, MEMORIES, UNOPENED, Update, Words, form_of, long_name, parts_of
 from avrstk_words import overlaps, rows_of
 
 import itertools
@@ -255,25 +255,17 @@ def no_part(words: Words, _: Match[str] | None) -> str:
 
 def unread(run: Outcome, found: Match[str]) -> str:
     """Returns what to do with an image that avrstk refuses. (No other format makes a text firmware.)"""
-    words, (name, line, fault, address) = run.words, found.groups()
+    words, (name, address) = run.words, found.groups()
     # (a fault of values has the memory's name)
     images = [update for update in words.updates if update.is_image and name in (update.handed, update.file)]
     values = [update for update in words.updates if update.format == "m" and name == update.memory]
     update = next(iter(images + values), None)
     if update and address:
         return too_far(words, update, int(address, 16))
-    held = update.held(65_536) if update else b""
-    form, is_at_begin = form_of(held), line == "1" and fault in ("no record mark", "line too long")
-    # (a first record without its mark, or with another byte in its place)
-    is_bare = is_at_begin and re.match(rb"\s*[^:S]?[0-9A-Fa-f]{10,}\s*$", held, re.M)
-    if not update or form and update.format in (None, "a", form) or not is_at_begin and form != "e" or is_bare:
-        return DAMAGED
-    if form and (form != "e" or update.memory in AREAS):
+    form = form_of(update.front) if update else None
+    if update and form and update.format not in (None, "a", form):
         return f"it has {FORMATS[form]}: give {update.given_as(form)}"
-    if re.search(rb"^" + RECORD.pattern, held, re.M):
-        mark = "such as a comment, a blank or a byte order mark"
-        return f"something ({mark}) is in front of its first record: delete that, or build or download the file again"
-    return f"it is not {FORMATS.get(update.format or '')}"
+    return DAMAGED
 
 
 def too_far(words: Words, update: Update, address: int) -> str:
@@ -478,7 +470,7 @@ REFUSALS: Table = {
     rf"update (\d+): ({'|'.join(KINDS)})$": unparsed,
     ".*: not a number$": "a value is written as 0xE2, 0b11100010, 0342 or 226",
     "(.*): cannot be opened$": unopened,
-    r"(.*?): (?:line (\d+): )?(bad |line too long|no record mark|address (\w{8}) out of range)": unread,
+    r"(.*?): (?:line \d+: )?(?:bad |line too long|no record mark|address (\w{8}) out of range)": unread,
     "no part ": lambda run, found: no_part(run.words, found),
 }
 
