@@ -110,7 +110,7 @@ def checked_place(name: str, section: Header, segments: list[Segment], left: int
         homes = [memory for memory, (low, high) in KNOWN.items() if low <= place and place + section.size <= high]
         if homes and NAMED.get(name, homes[0]) in homes:
             return place
-    raise ValueError(f"has a section {name} that can't be read")
+    raise ValueError(f"has a section {name} that isn't taken")
 
 
 def sections_of(elf: bytes) -> tuple[list[Section], str | None]:
@@ -119,7 +119,7 @@ def sections_of(elf: bytes) -> tuple[list[Section], str | None]:
     try:
         segments, sections = headers_of(elf)
     except (struct.error, IndexError):
-        raise ValueError("can't be read as a linked ELF file for AVR")
+        raise ValueError("isn't taken as a linked ELF file for AVR")
     found: list[Section] = []
     left = len(elf)
     for name, header in sections:
