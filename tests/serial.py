@@ -625,7 +625,11 @@ def devices():
         error = f"sys.stderr.write('avrstk: error: {closed}: cannot be opened\\n')\nsys.exit(1)\n"
         program = stand_in(error, Path(folder))["AVRSTK"]
         ran = run_as_anyone(["-p", "m328p", "-P", device, "-U", f"flash:w:{closed}:i"], program)
-        check("no right to a file", b"avrstk-serial: you may not read it; nothing was sent" in ran.stderr, ran.stderr)
+        check(
+            "no right to a file",
+            b"avrstk-serial: check its name and permissions; nothing was sent" in ran.stderr,
+            ran.stderr,
+        )
         closed = Path(folder, "closed", "folder")
         closed.mkdir(parents=True)
         closed.parent.chmod(0)
@@ -907,7 +911,7 @@ def the_part_of_the_chip():
     check_equal(
         "what its session sent is known",
         own,
-        ["-p auto takes m328p", f"there is no such file; {sent}"],
+        ["-p auto takes m328p", f"check its name and permissions; {sent}"],
     )
     for board, hint in table("auto"):
         status, _, printed, own, chip = over(words, board_of(board))
@@ -1031,8 +1035,10 @@ def status_and_lines(words, board):
 
 def backups_that_fail():
     """A failed backup leaves no folder. A chip of another part, or a folder with faults, is not restored."""
-    loader = "a bootloader may refuse to write fuses and the lock, and to read the calibration: use a programmer. If "
-    loader += "this is one, the chip is unchanged; if it refuses again, use another one"
+    loader = (
+        "a bootloader may refuse this: use a programmer. If this is one, the chip is unchanged; if it fails again, "
+    )
+    loader += "try another programmer or chip"
 
     def written(answer):
         check("no write", answer[5] not in (0x12, 0x13, 0x15, 0x17, 0x19))
@@ -1041,12 +1047,12 @@ def backups_that_fail():
     def refused(answer):
         return frame(answer[1], b"\x1c\xc0") if answer[5] == 0x1C else written(answer)
 
-    only_leaving = "only the session's end failed. Power-cycle the board, and run the same command again"
+    only_leaving = "power-cycle the board, and run the same command again"
     fails = [
         ({"answer": refused}, ["--backup", "gone"], f"{loader}; no backup is kept"),
         ({"answer": refused}, ["--restore", "a backup"], loader),
         ({"talk": b"x"}, ["--backup", "gone", "-b", "x"], "-b x: not a speed"),
-        (silent(0x16), ["--backup", "gone"], "no further valid reply"),
+        (silent(0x16), ["--backup", "gone"], "check the cable, the wires and the power; the chip is unchanged"),
         (silent(0x11), ["--backup", "gone"], f"{only_leaving}; no backup is kept"),
         (
             board_of("part t85"),
@@ -1058,7 +1064,7 @@ def backups_that_fail():
     # (the script doesn't read a part in one line with its table)
     room.put("odd.toml", f'parts = {{ odd = {{ signature = "1E930B", {sizes} }} }}\n'.encode())
     odd = ["--parts", "odd.toml", "-p", "odd", "--restore", "a backup"]
-    fails.append(({"part": "t85", "answer": written}, odd, "signature holds something else than 0x1E,0x95,0x0F"))
+    fails.append(({"part": "t85", "answer": written}, odd, "signature reads as something else than 0x1E,0x95,0x0F"))
     room.put("locked.bin", b"\xff" * 33_795 + b"\xfc")
     locked = "the chip reads as locked; no backup is kept"
     fails.append(({"chip": "locked.bin"}, ["--backup", "gone"], locked))
@@ -1431,14 +1437,14 @@ def hints():
             check_equal(f"{name}: the chip", chip, b"\xff" * CHIP_FILE)
     status, _, printed, own, _ = over(["-p", "m328p", "-U", "lfuse:r:-:h"], closed=">&-")
     stays = "the chip is unchanged, and may be in programming mode: power-cycle the board"
-    wanted = [f"standard output is closed or full; {stays}"]
+    wanted = [f"check the output's name, free space and reader; {stays}"]
     check_equal("a closed output", (status, b"-: cannot be written" in printed, own), (1, True, wanted))
     (room.folder / "link x").symlink_to("/dev/full")
     *_, own, _ = over(["-p", "m328p", "-U", "lfuse:r:link x:h"])
     check_equal(
         "a file named as an error begins",
         own,
-        [f"check its name, its folder and free space; a pipe needs a reader; {stays}"],
+        [f"check the output's name, free space and reader; {stays}"],
     )
 
 
@@ -1475,20 +1481,24 @@ def valued(words, given):
     return [given if word.partition(":")[0] == given.partition(":")[0] else word for word in words]
 
 
-def lock_last(words, *_):
-    """Gives the lock last."""
-    lock = next(word for word in words if word.startswith("lock:"))
-    return [*words[: words.index(lock) - 1], *words[words.index(lock) + 1 :], "-U", lock]
+def each_once(words, *_):
+    """Erases, and gives each write once, the lock last."""
+    updates = [word for before, word in zip(words, words[1:]) if before == "-U"]
+    writes = {word.partition(":")[0]: word for word in reversed(updates) if re.match(r"\w+:w:", word)}
+    ordered = sorted(writes.values(), key=lambda word: (word.startswith("lock:"), updates.index(word)))
+    rest = [word for before, word in zip(["", *words], words) if "-U" not in (before, word)]
+    return [*rest, "-e", *[word for update in ordered for word in ("-U", update)]]
 
 
 def stays(words, case, found):
-    """Decides by the data sheet whether the part has one of these bits."""
-    has = {"efuse": 0x07, "lock": 0x3F}[found[2].partition(":")[0]] if "lacks" in case else 0xFF
-    if not any(has >> int(bit) & 1 for bit in found[1].split(",")):
-        return valued(words, found[2])
-    if "give it last" in found[3]:
-        return [*lock_last(words), *["-e"] * ("(-e)" in found[3])]
-    return [*words, "-e"] if "(-e)" in found[3] else None
+    """Decides by the data sheet whether the part lacks the bits that differ."""
+    memory, _, held, _ = found[1].split(":")
+    has = {"efuse": 0x07, "lock": 0x3F}[memory] if "lacks" in case else 0xFF
+    given = next(word for word in words if word.startswith(f"{memory}:")).split(":")[2]
+    wanted = int(given, 0) if given.startswith("0x") else image_of(room.read(given))[0]
+    if not (int(held, 0) ^ wanted) & has:
+        return valued(words, found[1])
+    return each_once(words) if "give -e" in found[2] else repeated(words, case, found)
 
 
 # a program for avr-gcc: sections for each memory, the data of flash at another address than in RAM
@@ -1687,13 +1697,14 @@ def elf_files_with_faults():
 
 
 def repeated(words, _, found):
-    """Follows a hint to run the same command again, with -D, or without the updates that it names."""
-    again = re.search(r"run the same command again( with -D)?(?:,? without (.*))?$", found.string)
-    texts = shlex.split(again[2] or "") if again else []
-    left = [value for word, value in zip(texts, texts[1:]) if word == "-U"] + ["-e"] * ("-e" in texts)
-    pairs = zip(words, [*words[1:], ""])
-    kept = [word for word, value in pairs if word not in left and (word != "-U" or value not in left)]
-    return [*kept, *["-D"] * bool(again and again[1])]
+    """Follows a hint to run the same command again, without an erase, or without the first updates."""
+    again = re.search(
+        r"run the same command again(?: (with -D, without -e))?(?:,? without its first (\d+) -U)?$", found.string
+    )
+    count = int(again[2] or 0) if again else 0
+    at = [at for at, word in enumerate(words) if word == "-U"][:count]
+    kept = [word for place, word in enumerate(words) if place not in at and place - 1 not in at]
+    return [*without(kept, "-e"), "-D"] if again and again[1] else kept
 
 
 def mended(words, case, found):
@@ -1715,8 +1726,7 @@ def changed(before, after):
 # What a reader does after a hint: the words that he finds in it, and the next command with the files of its case. After
 # a hint without a next command the walk ends.
 FOLLOWED = [
-    (r"damaged, cut short or edited: build or download it again", another_file),
-    (r"doesn't begin with a record: ", another_file),
+    (r"build or download the file again|doesn't begin with a record: ", another_file),
     (
         r" is (?:not )?ELF: give (:[eis])",
         lambda words, _, found: [*words[:-1], re.sub("(:[eis])?$", found[1], words[-1], count=1)],
@@ -1725,111 +1735,61 @@ FOLLOWED = [
         r"give the ELF file itself, as (\w+:w:)NAME.elf",
         lambda words, _, found: [*words[:3], f"{found[1]}main.elf", *words[4:]],
     ),
-    (
-        r"leave out -D, and give all that is to be written: the erase clears all of flash \(a bootloader, too\)",
-        lambda words, case, _: on_a_bootloader(words, case) if "loads" in case else without(words, "-D"),
-    ),
-    (
-        r": (leave out -e, and )?use -D(, and give one image .* no page)?\. If",
-        on_this_device(on_a_bootloader),
-    ),
-    (
-        r": leave out -e\. If this is a programmer, ",
-        on_this_device(lambda words, _: without(words, "-e")),
-    ),
+    (r"give -D, not -e, and for flash give one image that begins at 0", on_this_device(on_a_bootloader)),
     (
         r"^-c wiring is for a board's own bootloader, which can't",
         lambda words, case, _: on_a_bootloader(words, case)
         if "loads" in case
         else without(without(words, "-c"), "wiring"),
     ),
-    (
-        r": use a programmer(, whose erase also clears the bootloader)?\. If this is (one|a programmer), ",
-        on_this_device(lambda *_: None),
-    ),
+    (r"may refuse this: use a programmer\. If this is one, ", on_this_device(lambda *_: None)),
     (r"^a Mega's bootloader erases pages from 0 on: give one image", another_file),
     (
-        r"lacks read 0, not 1: is -p right\? If it is, give (\S+), with a part file of your own \(--parts\)$",
-        lambda words, _, found: [*valued(words, found[1]), "--parts", "mine.toml"],
+        r"check -p and the image",
+        lambda words, case, _: other_part(words, case["part"], "blink.hex") if "part" in case else None,
     ),
-    (r"are -p and the image right\?", lambda words, case, _: other_part(words, case["part"], "blink.hex")),
     (
-        r"the right board\? .*; if that is so, -p (\w+)( without --parts)?, with",
+        r"^the signature is that of (?!no part)(\w+).*: check the board, the wires, and -p",
         lambda words, case, found: other_part(
-            without(words, "--parts", "mine.toml", "other.toml") if found[2] else words,
-            found[1],
-            case.get("made", "blink.hex"),
+            without(words, "--parts", "mine.toml", "other.toml"), found[1], case.get("made", "blink.hex")
         ),
     ),
     (r": give (\S+:[ise])[;:] ", lambda words, _, found: renamed(words, found[1])),
-    (r"^signature has 3 bytes|^calibration has 1 byte", lambda *_: None),
     (r"the memories are flash, eeprom, lfuse", changed("^fuse", "lfuse")),
     (
         r"the operations are w \(write\)|the formats are i, s, r, e, a and m to write|a file, or with :m values, comes",
         changed("^flash:.*", "flash:w:blink.hex:i"),
     ),
-    (
-        r"there is no such file|it is a symbolic link, and the file it leads to is missing|you may not read it"
-        r"|the system refuses to open it",
-        changed("^flash:.*", "flash:w:blink.hex:i"),
-    ),
+    (r"check its name and permissions", changed("^flash:.*", "flash:w:blink.hex:i")),
     (r"a format is one letter: give -U (\S+);", changed("^flash:.*", r"\1")),
     (r"a value is written as 0xE2", changed(":E2:", ":0xE2:")),
     (
         r"^no option takes \S+ here \((-U) MEMORY:OP:FILE:FORMAT is one word",
         lambda words, _, found: [*words[:-1], found[1], words[-1]],
     ),
-    (r"a value needs :m after it: give (\S+) if it is hexadecimal", changed("^lfuse.*", r"\1")),
-    (r"a value needs :m after it, as lfuse:w:0xE2:m", changed("^lfuse:.*", "lfuse:w:0xE2:m")),
-    (r"has 1 byte: give its value, as lfuse:w:0xNN:m", changed("^lfuse:.*", "lfuse:w:0xE2:m")),
-    (r"without the package: -p (\w+)|give -p (\w+);", changed("^(m328p-pu|mega328p)$", r"\1\2")),
     (
-        r"-p takes the chip's name, not the board's: mostly (m328p) for Uno|^-p '\?' lists the parts",
-        changed("^(uno|nano|m9)$", "m328p"),
+        r"a value needs :m after it, as lfuse:w:0xNN:m",
+        lambda words, *_: [re.sub("^lfuse:w:(?:0x)?(..)$", r"lfuse:w:0x\1:m", word) for word in words],
     ),
-    (r"; without --parts \w+ is known;", lambda words, *_: without(words, "--parts", "mine.toml")),
-    (r"^with --parts, -p takes a part as that file names it, or (m328p)", changed("^m9$", r"\1")),
+    (r"give its value, as lfuse:w:0xNN:m", changed("^lfuse:.*", "lfuse:w:0xE2:m")),
+    (r"^give -p (\w+);", changed("^(m328p-pu|mega328p)$", r"\1")),
+    (r"^-p takes a chip's name, such as (m328p)", changed("^(uno|nano|m9)$", r"\1")),
+    (r"^with --parts, -p takes a part as that file names it, or (m328p)", changed("^(m9|ATmega328P)$", r"\1")),
+    (r"^only bits that \S+ can't change differ: give (\S+)", lambda words, _, found: valued(words, found[1])),
+    (r"^give (\S+) if the part lacks the bits that differ; else (.*)", stays),
+    (r"give -e and all that is to be written(, with another number)?, each memory once, the lock last", each_once),
     (
-        r"^(?:only bits that the part doesn't have differ|bit 5 \(SPIEN\) stays 0 at most parts): give (\S+)",
-        lambda words, _, found: valued(words, found[1]),
+        r"^no valid reply to SIGN_ON; the chip is unchanged\. Check: .*, else stk500v2$",
+        lambda words, case, found: [word for before, word in zip(["", *words], words) if "-c" not in (before, word)]
+        if "-c" in words
+        else mended(words, case, found),
     ),
+    (r"^check the output's name", changed(":(/dev/full|-):h", ":read.txt:h")),
+    (r"^ended by SIG|^a signature of 00 or FF|^check the (cable|wires|speed)|power-cycle the board", mended),
+    (r"run the same command again(?: with -D, without -e)?(?:,? without its first \d+ -U)?$", repeated),
     (
-        r"these bits read 1, not 0: ([\d, ]+)\. If the part has none of them, give (\S+)\. If it has any of them, (.*)",
-        stays,
-    ),
-    (r"only a programmer's erase \(-e\) removes a lock, and clears all of", lambda words, *_: [*words, "-e"]),
-    (
-        r"-U lock comes before other updates: give it last"
-        r"(\. Only a programmer's erase \(-e\) removes a lock, and clears)?",
-        lambda words, _, found: [*lock_last(words), *["-e"] * bool(found[1])],
-    ),
-    (r"give one value$|two images may overlap \(give one of them\)", lambda words, *_: words[:-2]),
-    (
-        r"For a programmer of STK500v2 leave out -c (\w+)\. ",
-        lambda words, _, found: [word for word in words if word not in ("-c", found[1])],
-    ),
-    (
-        r"^ended by SIG|^no valid reply to SIGN_ON; the chip is unchanged. Check|^the device sends data, but no valid",
-        mended,
-    ),
-    (
-        r"^a signature of 00 or FF|^the programmer can't reach the chip|^no further valid reply"
-        r"|^the connection to the device broke|^often something else sends data",
-        mended,
-    ),
-    (r"only the session's end failed. Power-cycle the board", mended),
-    (
-        r"^check its name, its folder and free space|^standard output is closed",
-        changed(":(/dev/full|-):h", ":read.txt:h"),
-    ),
-    (r"run the same command again( with -D)?(,? without .*)?$", repeated),
-    (
-        r"holds something else than [^;]*$|: use a programmer$|: power-cycle the board$|may be worn$"
-        r"|may be worn, or a lock|or try another chip$",
-        lambda *_: None,
-    ),
-    (
-        r"use another (one|programmer)$|^no part of classic.toml has the signature|is not supported: .* Use avrdude",
+        r"reads as something else than [^;]*$|differ: check -p$|^try another programmer or chip$"
+        r"|^the signature is that of no part|is not supported: .* Use avrdude",
         lambda *_: None,
     ),
 ]
@@ -1903,9 +1863,7 @@ def followed(name, words, **case):
         rows = [json.loads(row) for row in trace.read_text().splitlines()] if trace.exists() else []
         chosen |= {tuple(row[:2]) for row in rows if row[2] and row[2] in own[-1] and row[1] is not None}
         # (what it says of a second time is followed then)
-        hint, _, later = re.split(
-            r"(; if it (?:fails again|always fails at the same address|refuses again), |$)", own[-1], 1
-        )
+        hint, _, later = own[-1].partition("; if it fails again, ")
         text = [hint, later, ""][hints.count(own[-1])]
         hints.append(own[-1])
         rules = [(begin, act) for begin, act in FOLLOWED if re.search(begin, text)] if text else []
@@ -2383,7 +2341,7 @@ def places_of_reports():
     check_equal(
         "the link stays", (os.readlink(room.folder / "link.json"), report_of("kept.json")["status"]), ("kept.json", 0)
     )
-    full, differs = "--json /dev/full: No space left on device", "flash holds something else than whole.bin"
+    full, differs = "--json /dev/full: No space left on device", "flash reads as something else than whole.bin"
     for words, own in [([], [full]), (["-U", "flash:v:whole.bin"], [full, differs])]:
         board = Board()
         found = run([*FLASH, *words, "-P", board.device, "--json", "/dev/full"])
@@ -2541,7 +2499,7 @@ def devices_that_go():
         started.returncode == 1 and len(printed) == 2 and printed[0] == "avrstk: error: link ended",
         printed,
     )
-    wanted = "avrstk-serial: the connection to the device broke: check the cable; the chip is unchanged"
+    wanted = "avrstk-serial: check the cable, the wires and the power; the chip is unchanged"
     check("it is gone", printed[-1].startswith(wanted), printed)
 
 
