@@ -489,13 +489,27 @@ def typed():
         status, messages = run_script(words.format(at.device).split())
         board = at.end()
         check_equal(f"{what}: status", (status, messages.splitlines()[-1:]), (0, ["avrstk: done"]))
-        note = "avrstk-serial: version 1 has no checksums: such a run is tested, not proved"
+        note = "avrstk-serial: a run of version 1 is tested, not proved"
         check_equal(f"{what}: is not called proved", messages.splitlines().count(note), 1)
         if words == FUSES_TYPED:
             check_equal(f"{what}: fuses and lock", board.rest()[1], b"\xff\xde\xfd\xff")
             check_equal(f"{what}: flash", board.flash(), b"\xff" * FLASH)
         else:
             check_equal(f"{what}: the image", board.flash()[:700], image)
+
+
+def restores_nothing():
+    """A restore at an Uno's or an old Nano's own bootloader, with -c for a programmer, is refused before a write."""
+    old = random.Random(9).randbytes(FLASH)
+    room.put("chip.bin", old + b"\xff" * EEPROM + b"\xe2\xd9\xff\xff")
+    check_equal("a backup", run_script(["-p", "m328p", "-P", "emu:chip.bin", "--backup", "backup"])[0], 0)
+    for kind, programmer in [("optiboot", "stk500v1"), ("ATmegaBOOT", "avrisp")]:
+        at = Terminal(kind, old)
+        words = f"-p m328p -c {programmer} -b {KINDS[kind][1]} -P {at.device} --restore backup"
+        status, messages = run_script(words.split())
+        check(f"{kind}: the line", (status, "read as 00, as from a bootloader" in messages) == (1, True), messages)
+        check_equal(f"{kind}: its flash", at.end().flash(), old[: KINDS[kind][0]])
+    shutil.rmtree(room.folder / "backup")
 
 
 def avrdude_beside():
@@ -705,7 +719,7 @@ def leaves_to_another():
     how["env"] = how["env"] | {"AVRSTK_ELSE": "nosuch"}
     with room.start("-c usbasp -p m328p".split(), **how) as started:
         _, messages = started.communicate(timeout=PATIENCE)
-    absent = b"avrstk-serial: AVRSTK_ELSE names no other program here: nosuch\n"
+    absent = b"avrstk-serial: AVRSTK_ELSE=nosuch names no other program\n"
     check("a program that isn't there", messages.startswith(absent) and messages.count(b"\n") == 2, messages)
     # (an empty name in PATH is this folder, which has no such program)
     (folder / "avrdude").rename(folder / "other")
@@ -720,7 +734,7 @@ def leaves_to_another():
 
 CASES = named(
     *(clean, refused, keeps_no_clock, each_byte, lossy, damaged_erases, lost_end),
-    *(typed, avrdude_beside, lost_end_of_wiring, leaves_to_another),
+    *(typed, restores_nothing, avrdude_beside, lost_end_of_wiring, leaves_to_another),
     *(measured, lost_byte_of_a_page),
 )
 
@@ -739,7 +753,7 @@ def main():
         return run_cases({}, __doc__)
     if not SKETCH:
         leave_out("ArduinoISP", f"{' and '.join(map(str, SKETCHES))} is not there")
-    return run_cases(CASES, __doc__, timed=["typed", "avrdude_beside", "lost_byte_of_a_page"])
+    return run_cases(CASES, __doc__, timed=["typed", "restores_nothing", "avrdude_beside", "lost_byte_of_a_page"])
 
 
 if __name__ == "__main__":

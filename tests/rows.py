@@ -555,13 +555,13 @@ def refused():
     at = "-P /dev/null -p m328p"
     lacks = "no flash_size, flash_page, eeprom_size, eeprom_page, eesave_bit found in a table "
     cases = {
-        f"{at} --try-rows=all": "--try-rows=all may erase and write the chip, its fuses and its lock, and fail to "
-        "restore them: add --yes if you can lose this chip; nothing was sent, and the device was not opened",
-        f"{at} --try-rows=some": "--try-rows=some: there is --try-rows, and --try-rows=all",
+        f"{at} --try-rows=all": "--try-rows=all may erase and lock the chip: add --yes if you can lose it; nothing was "
+        "sent, and the device was not opened",
+        f"{at} --try-rows=some": "--try-rows=some: give --try-rows or --try-rows=all",
         f"{at} --yes": "--yes is for --try-rows=all",
-        f"{at} --try-rows -e": "--try-rows tries a programmer, and takes no -e",
-        f"{at} --try-rows -U lfuse:r:-:h": "--try-rows tries a programmer, and takes no -U",
-        f"{at} --try-rows --json report": "--try-rows tries a programmer, and takes no --json",
+        f"{at} --try-rows -e": "--try-rows takes no -e",
+        f"{at} --try-rows -U lfuse:r:-:h": "--try-rows takes no -U",
+        f"{at} --try-rows --json report": "--try-rows takes no --json",
         "-P emu:chip.bin -p m328p --try-rows": "--try-rows is for a serial device, not -P emu:chip.bin",
         "-P /dev/null -p nosuch --try-rows": "no part nosuch: -p '?' lists the parts; others need a part file",
         "-P /dev/null --try-rows": "no part given (-p): -p '?' lists the parts, and -p auto finds the part by "

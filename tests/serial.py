@@ -393,8 +393,8 @@ def parts():
 
 
 UNOPENED = "nothing was sent, and the device was not opened"
-LIKE_TEXT = "looks like text, and doesn't begin with a record: give it as raw bytes (:r) only if its characters are "
-LIKE_TEXT += "meant"
+LIKE_TEXT = "looks like text: give :r only if its bytes are meant"
+LISTED = "no such device (-P '?' lists devices)"
 
 # texts that are no firmware, and updates of images without a byte
 TEXTS = {
@@ -423,21 +423,21 @@ def archive(opened):
 
 # other files that are no firmware, and what they are
 PACKED = {
-    "lib.a": (b"!<arch>\nmain.o/         0           0     0     644     4         `\n\0\1\2\3", "an ar archive"),
-    "main.zip": (archive(lambda file: zipfile.ZipFile(file, "w")), "a zip archive"),
-    "main.tar": (archive(lambda file: tarfile.open(None, "w", file)), "a tar archive"),
-    "main.hex.gz": (gzip.compress(b"firmware"), "a gzip file"),
-    "main.hex.xz": (lzma.compress(b"firmware"), "an xz file"),
-    "main.hex.bz2": (bz2.compress(b"firmware"), "a bzip2 file"),
-    "none.zip": (b"PK\5\6" + bytes(18), "a zip archive"),
-    "main.7z": (b"7z\xbc\xaf\x27\x1c\0\4" + bytes(24), "a 7z archive"),
-    "main.rar": (b"Rar!\x1a\7\1\0" + bytes(20), "a rar archive"),
-    "new.cpio": (b"070701" + b"0000000A" * 13 + b"main.hex\0\0", "a cpio archive"),
-    "old.cpio": (struct.pack("<13H", 0o70707, 1, 2, 0o100644, *bytes(6), 9, 0, 2) + b"main.hex\0\0", "a cpio archive"),
-    "main.hex.lz4": (b"\x04\x22\x4d\x18\x64\x40\xa7" + bytes(9), "an lz4 file"),
-    "404": (b"<html>404 Not Found</html>\n", "an HTML page"),
-    "html": ("<html>\n<p>Größe</p>\n".encode(), "an HTML page"),
-    "page.php": ("\n <!doctype HTML>\n<p>\u30a8\u30e9\u30fc</p>\n".encode(), "an HTML page"),
+    "lib.a": (b"!<arch>\nmain.o/         0           0     0     644     4         `\n\0\1\2\3", "ar"),
+    "main.zip": (archive(lambda file: zipfile.ZipFile(file, "w")), "zip"),
+    "main.tar": (archive(lambda file: tarfile.open(None, "w", file)), "tar"),
+    "main.hex.gz": (gzip.compress(b"firmware"), "gzip"),
+    "main.hex.xz": (lzma.compress(b"firmware"), "xz"),
+    "main.hex.bz2": (bz2.compress(b"firmware"), "bzip2"),
+    "none.zip": (b"PK\5\6" + bytes(18), "zip"),
+    "main.7z": (b"7z\xbc\xaf\x27\x1c\0\4" + bytes(24), "7z"),
+    "main.rar": (b"Rar!\x1a\7\1\0" + bytes(20), "rar"),
+    "new.cpio": (b"070701" + b"0000000A" * 13 + b"main.hex\0\0", "cpio"),
+    "old.cpio": (struct.pack("<13H", 0o70707, 1, 2, 0o100644, *bytes(6), 9, 0, 2) + b"main.hex\0\0", "cpio"),
+    "main.hex.lz4": (b"\x04\x22\x4d\x18\x64\x40\xa7" + bytes(9), "lz4"),
+    "404": (b"<html>404 Not Found</html>\n", "HTML"),
+    "html": ("<html>\n<p>Größe</p>\n".encode(), "HTML"),
+    "page.php": ("\n <!doctype HTML>\n<p>\u30a8\u30e9\u30fc</p>\n".encode(), "HTML"),
 }
 EMPTY = {
     "end.hex": b":00000001FF\n",
@@ -467,6 +467,8 @@ def refused():
     room.put("bare.hex", room.read("blink.hex")[1:])
     room.put("mixed.hex", room.read("blink.hex").replace(b"\n", b"\nS9030000FC\n", 1))
     room.put("zeros.bin", bytes(2000))
+    room.put("wide.hex", TEXTS["wide"])
+    room.put("indented.hex", TEXTS["indented"])
     room.put("above.hex", hex_of([(0x810000, b"x")]))
     room.put("arm.hex", hex_of([(0x8000000, b"x")]))
     room.put("long.txt", room.read("blink.hex").replace(b"\n", b"0" * 600, 1))
@@ -538,23 +540,11 @@ def no_firmware():
     bytes (:r) is not."""
     why = {
         **dict.fromkeys(TEXTS, LIKE_TEXT),
-        **dict.fromkeys(EMPTY, "has no data (did its build fail?)"),
+        **dict.fromkeys(EMPTY, "has no data"),
+        **dict.fromkeys(JOINED, "has data after its end record"),
     }
-    why.update(
-        {
-            name: f"begins like {what}: give it as raw bytes (:r) only if its bytes are meant"
-            for name, (_, what) in PACKED.items()
-        }
-    )
-    joined = "has data after its end record, which would not be read; to join files use srec_cat"
-    why.update(dict.fromkeys(JOINED, joined))
-    why.update(
-        {"lib.elf": "begins like an ar archive: give it as raw bytes (:r) only if its bytes are meant"},
-        **{
-            "a.out": "is not ELF, despite its name",
-            "note.ELF": "is not ELF, despite its name: it has Intel HEX: give ",
-        },
-    )
+    why.update({name: LIKE_TEXT.replace("text", what) for name, (_, what) in PACKED.items()})
+    why.update({"lib.elf": why["lib.a"], "a.out": "is not ELF", "note.ELF": "is not ELF: give :i"})
     # (these are no such files without their names)
     others = {"lib.elf": PACKED["lib.a"][0], "note.ELF": room.read("blink.hex"), "a.out": b"\x0c\x94\0\0"}
     others["blank.hex"] = EMPTY["blank.hex"]
@@ -570,8 +560,7 @@ def no_firmware():
     for (words, given, shown, name), found in zip(
         cases, side_by_side(lambda case: piped([*NO_CHIP, *case[0]], case[1]), cases)
     ):
-        other = f"{words[1].partition(':a')[0]}:i" if why[name].endswith("give ") else ""
-        check_equal(f"{words} {name}", found, (1, b"", b"", [f"{shown} {why[name]}{other}: {UNOPENED}"]))
+        check_equal(f"{words} {name}", found, (1, b"", b"", [f"{shown} {why[name]}: {UNOPENED}"]))
     texts_and_firmware()
     check_equal("a missing file is not read as a format", run([*NO_CHIP, "-U", "flash:w:nosuch.hex"])[3], [])
     wanted = [f"/dev/zero has more than 67,108,864 bytes: {UNOPENED}"]
@@ -605,34 +594,28 @@ def devices():
     line, device = terminal()
     here = str(room.folder)
     for words, wanted in [
-        (["-P", "/dev/no such device"], "/dev/no such device: there is no such device (is the cable in?)"),
-        (["-P", os.path.basename("/dev/null")], "null: there is no such device (it is /dev/null)"),
-        (["-P", here], f"{here}: not a serial device"),
+        (["-P", "/dev/no such device"], f"/dev/no such device: {LISTED}"),
+        (["-P", os.path.basename("/dev/null")], f"null: {LISTED}"),
+        (["-P", here], f"{here}: {LISTED}"),
         (["-P", "/dev/null"], "/dev/null: cannot be set to 115200 baud"),
-        ([], "no device given (-P); "),
+        ([], "no device given (-P): -P '?' lists devices"),
     ]:
         status, _, _, own = run([*FLASH, *words])
         check(f"device {words}", (status, len(own)) == (1, 1) and own[0].startswith(wanted), own)
     os.chmod(device, 0)
     # (group 5 is `tty`, the owner of terminals, in every Linux)
-    cure, belongs = "(often: sudo usermod -aG ", "(its owner is "
-    cases = [
-        (0o660, 5, cure),
-        (0o600, 5, belongs),
-        (0o660, 0, belongs),
-        (0o660, 54_321, f"{belongs}root, its group 54321"),
-    ]
-    for mode, group, wanted in cases:
+    for mode, group, name in [(0o660, 5, "tty"), (0o600, 5, "tty"), (0o660, 0, "root"), (0o660, 54_321, "54321")]:
         if os.geteuid() == 0:
             os.chown(device, 0, group)
         os.chmod(device, mode if os.geteuid() == 0 else 0)
         ran = run_as_anyone([*FLASH, "-P", device], shutil.which("true"))
-        wanted = f"{device}: you may not read and write it {wanted if os.geteuid() == 0 else belongs}"
+        rights = f"(its group is {name}, its mode {mode:o})" if os.geteuid() == 0 else "(its group is "
+        wanted = f"{device}: you may not read and write it {rights}"
         check(f"no right to it, of group {group}, mode {mode:o}", wanted.encode() in ran.stderr, ran.stderr)
     os.chmod(device, 0o666)
     with tempfile.TemporaryDirectory(dir="/tmp") as folder:
         ran = run_as_anyone([*FLASH, "-P", f"{folder}/x"], shutil.which("true"))
-        wanted = "Permission denied" if os.geteuid() == 0 else "there is no such device (is the cable in?)"
+        wanted = "Permission denied" if os.geteuid() == 0 else LISTED
         check("a device in a closed folder", f"{folder}/x: {wanted}".encode() in ran.stderr, ran.stderr)
     with tempfile.TemporaryDirectory(dir="/tmp") as folder:
         os.chmod(folder, 0o755)
@@ -651,7 +634,7 @@ def devices():
         closed.mkdir(parents=True)
         closed.parent.chmod(0)
         ran = run_as_anyone(["-p", "m328p", "-P", device, "-U", f"flash:r:{closed}/x.hex"], program)
-        reached = f"{closed}/x.hex cannot be created, since no folder {closed} can be reached: nothing was sent"
+        reached = f"{closed}/x.hex cannot be written: nothing was sent"
         check("no way to a folder", reached.encode() in ran.stderr, ran.stderr)
         closed.parent.chmod(0o700)
     os.close(line)
@@ -660,7 +643,7 @@ def devices():
 def what_is_missing():
     """avrstk-serial reports if the program, its own modules or its part file are missing. If no program is named, it
     runs the one beside it. (tests/build.py has that of a clone.)"""
-    needed = "is not there, or can't be run: avrstk is needed beside this script, or named by AVRSTK"
+    needed = "is missing, or can't be run"
     line, device = terminal()
     check_equal(
         "no avrstk", run([*FLASH, "-P", device], env={"AVRSTK": "/nowhere/it"})[::3], (1, [f"/nowhere/it {needed}"])
@@ -698,9 +681,7 @@ def what_is_missing():
         put_program(front, "#!/bin/sh\necho $0 $1\n")
         check_equal("the one beside it", ran(), (0, f"{front} -P\n", ""))
         check_equal("--unproved", ran("--unproved"), (0, f"{front} --unproved\n", ""))
-        no_file = (
-            "the part file classic.toml is not there, or not the one of avrstk (install.sh puts it under share/avrstk)"
-        )
+        no_file = "classic.toml is missing, or has no parts"
         check_equal("no part file", ran(part="atmega328p"), (1, "", f"avrstk-serial: atmega328p: {no_file}\n"))
         line, device = terminal()
         for file in [None, "[parts.atmega328p]\n"]:
@@ -777,13 +758,14 @@ def lines_of_a_board():
 
 def bits_that_do_not_exist():
     """For most parts that it knows, the script prints which bits a fuse or lock lacks, and gives avrstk 1 there."""
-    note = "of atmega328p has no bits"
+    note = "atmega328p lacks bits of"
     recipe = ["-e", "-Ulock:w:0x3F:m", "-Uefuse:w: 0X05,:m", "-Uhfuse:w:0xDE:m", "-Ulfuse:w:255:m"]
-    shown = [f"lock {note} 6, 7; given as 1: lock:w:0xFF:m", f"efuse {note} 3, 4, 5, 6, 7; given as 1: efuse:w:0xFD:m"]
+    shown = [f"{note} lock: lock:w:0x3F:m is given as lock:w:0xFF:m"]
+    shown.append(f"{note} efuse: efuse:w: 0X05,:m is given as efuse:w:0xFD:m")
     status, _, _, own, chip = over(["-patmega328p", *recipe])
     check_equal("a recipe of the Arduino IDE", (status, own, chip[-4:].hex()), (0, shown, "ffdefdff"))
     status, _, _, own = run(["-patmega328p", "-P", "emu:chip.bin", *recipe, "-Uefuse:v:0B101:m"])
-    shown.append(f"efuse {note} 3, 4, 5, 6, 7; given as 1: efuse:v:0xFD:m")
+    shown.append(f"{note} efuse: efuse:v:0B101:m is given as efuse:v:0xFD:m")
     check_equal("the same over emu:", (status, own, room.read("chip.bin")[-4:].hex()), (0, shown, "ffdefdff"))
     room.put("mine.toml", (TOP / "parts/classic.toml").read_bytes())
     status, _, _, own = run(["--parts", "mine.toml", "-pm328p", "-P", "emu:own.bin", *recipe])
@@ -896,12 +878,10 @@ def retries_that_are_refused():
 
     def ran(*words):
         status, _, _, own = run(["-p", "m328p", "-P", device, "--retry", "1", *words], env=fails)
-        return status, own[0].partition("may not repair this one: ")[2]
+        return status, own[0].partition("--retry: -U ")[2].partition(" may go wrong in a second run")[0]
 
     two = ["-U", "flash:w:blink.hex:i", "-U", "flash:w:late.hex:i"]
-    check_equal(
-        "--retry without avrstk_session", ran(*two), (1, "it isn't known whether two images share a page of flash")
-    )
+    check_equal("--retry without avrstk_session", ran(*two), (1, "flash:w:late.hex:i"))
     # (what prints the pages of a plan is beside avrstk)
     (room.folder / "avrstk_session").symlink_to(SESSION)
     for words, why in table("retries"):
@@ -910,7 +890,7 @@ def retries_that_are_refused():
     check_equal("--retry 007", run([*FLASH, "-P", device, "--retry=007"], env=fails)[3], [UNOPENED])
     for text in ["-1", "x", "100", "\u0663"]:
         status, _, _, own = run([*FLASH, "-P", device, f"--retry={text}"])
-        check_equal(f"--retry {text}", (status, own), (1, [f"--retry {text}: not a number from 0 to 99"]))
+        check_equal(f"--retry {text}", (status, own), (1, [f"--retry {text}: give a number from 0 to 99"]))
     os.close(line)
 
 
@@ -920,11 +900,8 @@ def the_part_of_the_chip():
     words = ["-p", "auto", "-U", "flash:w:blink.hex:i", "-U", "lock:w:0x3F:m"]
     programmer = Boards(silent(0x1B), {}, {})
     status, _, printed, own = run([*words, "--retry", "1", "-P", str(programmer.device)])
-    note, again = (
-        "lock of m328p has no bits 6, 7; given as 1: lock:w:0xFF:m",
-        "no answer: trying again, 1 of 1",
-    )
-    check_equal("its lines", (status, own), (0, [again, "-p auto takes m328p, whose signature is 1E 95 0F", note]))
+    note, again = "m328p lacks bits of lock: lock:w:0x3F:m is given as lock:w:0xFF:m", "no answer: trying again, 1 of 1"
+    check_equal("its lines", (status, own), (0, [again, "-p auto takes m328p", note]))
     check("the run's own lines alone", printed.startswith(lines(SIGNATURE, "chip erased")), printed)
     check_equal("the chip", programmer.end(), wanted)
     _, _, _, own, _ = over(["-p", "auto", "-U", "flash:w:gone.hex:i"], {})
@@ -932,7 +909,7 @@ def the_part_of_the_chip():
     check_equal(
         "what its session sent is known",
         own,
-        ["-p auto takes m328p, whose signature is 1E 95 0F", f"check its name and permissions; {sent}"],
+        ["-p auto takes m328p", f"check its name and permissions; {sent}"],
     )
     for board, hint in table("auto"):
         status, _, printed, own, chip = over(words, board_of(board))
@@ -942,15 +919,15 @@ def the_part_of_the_chip():
     check_equal(
         "another part than the session asks for", printed, lines("device signature = 1E 98 01", "error: no answer")
     )
-    for more in [["-P", "emu:chip.bin"], [*CLASSIC, "-P", os.devnull]]:
-        status, _, printed, own = run([*words, *more])
-        check(
-            f"{more}", (status, printed) == (1, b"") and own[-1].startswith("-p auto is for a serial device, and"), own
-        )
+    for more, why in [
+        (["-P", "emu:chip.bin"], "-p auto is for a serial device, not -P emu:chip.bin"),
+        ([*CLASSIC, "-P", os.devnull], "-p auto takes no --parts"),
+    ]:
+        check_equal(f"{more}", run([*words, *more])[::3], (1, [why]))
     each = ["--each", "eeprom@512={n}", "--counter", "untaken", "--from", "5"]
     _, _, _, own, _ = over(["-p", "auto", *each], board_of("part t85"))
     has = "--each: eeprom of t85 has 512 bytes: nothing was written"
-    check_equal("a text outside the chip's EEPROM", own, ["-p auto takes t85, whose signature is 1E 93 0B", has])
+    check_equal("a text outside the chip's EEPROM", own, ["-p auto takes t85", has])
     check("no number was taken", not (room.folder / "untaken").exists())
 
 
@@ -1037,10 +1014,8 @@ def few_lines():
     ]
     board = Boards({}, silent(0x13), {})
     status, _, _, own = run([*quiet, "-P", str(board.device)])
-    shown = ["efuse of m328p has no bits 3, 4, 5, 6, 7; given as 1: efuse:w:0xFD:m"]
-    shown.append(
-        "warning: lfuse:w:0:m selects an external clock: the chip only works while a clock drives its pin XTAL1 or CLKI"
-    )
+    shown = ["m328p lacks bits of efuse: efuse:w:5:m is given as efuse:w:0xFD:m"]
+    shown.append("warning: lfuse:w:0:m selects an external clock: then a programmer may not reach the chip")
     check_equal("-q twice", (status, own), (0, shown))
     check("the chip", board.end()[:228] == flashed()[:228])
     board = Board()
@@ -1080,7 +1055,7 @@ def backups_that_fail():
         (
             board_of("part t85"),
             ["-p", "t85", "--restore", "a backup"],
-            f"a backup is of a chip with the signature 1E950F, and t85 has 1E930B: {UNOPENED}",
+            f"a backup has the signature 1E950F, and t85 1E930B: {UNOPENED}",
         ),
     ]
     sizes = "flash_size = 8192, flash_page = 64, eeprom_size = 512, eeprom_page = 4, eesave_bit = 3"
@@ -1089,24 +1064,19 @@ def backups_that_fail():
     odd = ["--parts", "odd.toml", "-p", "odd", "--restore", "a backup"]
     fails.append(({"part": "t85", "answer": written}, odd, "signature reads as something else than 0x1E,0x95,0x0F"))
     room.put("locked.bin", b"\xff" * 33_795 + b"\xfc")
-    locked = "the lock reads as one that hides flash and EEPROM: no backup is kept"
+    locked = "the chip reads as locked; no backup is kept"
     fails.append(({"chip": "locked.bin"}, ["--backup", "gone"], locked))
     for board, words, why in fails:
         status, own = status_and_lines(words, board)
         check(f"{words}: {why}", status == 1 and own[-1].startswith(why) and not (room.folder / "gone").exists(), own)
     cut = hex_of([(0, bytes(512))])
     for file, text, why, words in [
-        ("lock.txt", b"0xfc", "none/lock.txt is of a locked chip, whose flash and EEPROM can't be read", []),
-        ("lock.txt", b"255", "none/lock.txt is not as --backup writes it", []),
+        ("lock.txt", b"0xfc", "none/lock.txt is of a locked chip", []),
+        ("lock.txt", b"255", "none/lock.txt is not of --backup", []),
         ("eeprom.hex", hex_of([(0, b"1")]), "none/eeprom.hex is not the whole EEPROM", []),
         ("eeprom.hex", cut, "none/eeprom.hex is not the whole EEPROM", CLASSIC),
         ("eeprom.hex", cut, "none/eeprom.hex is not the whole EEPROM", ["-p", "auto"]),
-        (
-            "flash.hex",
-            b"".join(cut.splitlines(True)[:-1]),
-            "none/flash.hex has no end record, so it may be cut short",
-            [],
-        ),
+        ("flash.hex", b"".join(cut.splitlines(True)[:-1]), "none/flash.hex has no end record", []),
     ]:
         kept = room.read(f"none/{file}")
         room.put(f"none/{file}", text)
@@ -1184,8 +1154,7 @@ def warnings():
         own = run(["-p", part, "-P", "emu:no.bin", *words.split()])[3]
         room.clear()
         check(f"{part} {words}", bool(own) == bool(wanted) and all(line.startswith(wanted) for line in own), own)
-    why = "it was erased when it was read, or the lock hid it (then -U lock:r:-:h prints a lock whose bit 1 is 0)"
-    hides, locks, done = f"all of flash read as FF: {why}", ["-U", "flash:w:blink.hex:i"], set()
+    hides, locks, done = "all of flash read as FF", ["-U", "flash:w:blink.hex:i"], set()
     for words, shown in ("", [hides]), ("-A", []), ("-q -q", []):
         check_equal(f"erased {words}", over(["-p", "m328p", *words.split(), "-U", "flash:r:none.hex:i"])[3], shown)
 
@@ -1350,7 +1319,7 @@ def images_that_are_read_once():
     ]:
         check_equal(wanted, piped([*NO_CHIP, "-U", "flash:w:-"], content)[2].splitlines(True)[0], lines(wanted))
     names_of_images(text)
-    why = f"-P stdio: needs standard input, so no image comes from it: {UNOPENED}"
+    why = f"-P stdio: takes no image from standard input: {UNOPENED}"
     check_equal("no image from frames", run(["-p", "m328p", "-P", "stdio:", "-U", "flash:w:-"])[3], [why])
     # (a file that grows no further: what is judged isn't passed on in part)
     limit = {"preexec_fn": lambda: resource.setrlimit(resource.RLIMIT_FSIZE, (2048, 2048))}
@@ -1359,7 +1328,7 @@ def images_that_are_read_once():
     check_equal(
         "a limit of files",
         (status, printed, own),
-        (1, b"", [f"long.hex can't be given to avrstk: File too large: {UNOPENED}"]),
+        (1, b"", [f"long.hex: File too large: {UNOPENED}"]),
     )
     room.put("net:", text)
     line, device = terminal()
@@ -1376,44 +1345,22 @@ def images_that_are_read_once():
 
 
 def over_a_bootloader():
-    """With -c wiring flash is written once, from address 0 on, and nothing erases the chip. The srec_cat command of a
-    refusal makes an image that is taken."""
-    # (BELOW.hex may be a reading of all flash)
-    images = {"BELOW.hex": [(0, b"\1"), (0x1C0, b"\2")], "a.hex": [(0x100, b"x" * 256)], "b.hex": [(0, b"y" * 256)]}
+    """With -c wiring flash is written once, from address 0 on, and nothing erases the chip."""
+    images = {"a.hex": [(0x100, b"x" * 256)], "b.hex": [(0, b"y" * 256)]}
     images["-gap.hex"] = images["gap.hex"] = [(0, b"x"), (256, b"x")]
     images["twice.hex"] = [(0, b"xy"), (1, b"z"), (256, b"x")]
     room.put("f.elf", elf_with(b"x" * 256, address=0x100))
     for name, runs in images.items():
         room.put(name, hex_of(runs))
-    held = {name: image_of(room.read(name)) for name in images}
     room.put("c d.srec", b"S10402007A7F\nS9030000FC\n")
-    # (srec_cat takes the second name for a number)
     room.put("e.bin", bytes(130))
     room.put("0x7F", bytes(130))
-    zeros = dict.fromkeys(range(130), 0)
-    held.update({"c d.srec": {0x200: ord("z")}, "e.bin": zeros, "0x7F": zeros})
     for words, wanted in table("bootloader"):
         words = ["-c", "wiring", *shlex.split(words)]
         board = Board(talk=b".")
         status, _, printed, own = run(["-p", "m328p", "-P", board.device, *words])
         check(f"{words}", (status, board.opened, printed, own[-1][: len(wanted)]) == (1, 0, b"", wanted), (status, own))
         board.end()
-        line = re.search(r"Type (.*), and give joined.hex", own[-1])
-        if not line or not shutil.which("srec_cat"):
-            if line:
-                leave_out("the joined image", "srec_cat is not installed")
-            continue
-        subprocess.run(["sh", "-c", line[1]], cwd=room.folder, check=True)
-        names = [name for name in held if shlex.quote(name) in line[1]]
-        image = {at: byte for name in names for at, byte in held[name].items()}
-        chip = bytes(image.get(at, 0xFF) for at in range(32_768))
-        status, _, printed, own = run([*NO_CHIP, "-c", "wiring", "-D", "-U", "flash:w:joined.hex"])
-        check(f"{line[1]}: joined", (status, room.read("no.bin")[:32_768] == chip) == (0, True), (status, printed, own))
-        (room.folder / "no.bin").unlink()
-        # (a file of this name would stay)
-        *_, own = run([*NO_CHIP, *words])
-        check_equal("another name", own[-1].partition(" -o ")[2].split()[0], "joined1.hex")
-        (room.folder / "joined.hex").unlink()
 
 
 def files_of_one_command():
@@ -1623,7 +1570,7 @@ def elf_files_that_are_refused():
         printed = started.stderr.read().decode()
         _, status, used = os.wait4(started.pid, 0)
         started.returncode = os.waitstatus_to_exitcode(status)
-        end = ";" if "another -p" in why else ":"
+        end = ";" if ", not m328p" in why else ":"
         check_equal(text, (started.returncode, printed), (1, f"avrstk-serial: {why}{end} {UNOPENED}\n"))
         check(f"{text}: a second, 100 MB", used.ru_utime < 1 and used.ru_maxrss < 100_000, used)
 
@@ -1634,11 +1581,8 @@ def elf_files_for_other_chips():
         status, _, _, own = run([*NO_CHIP, "-F", "-U", text])
         check(f"{text} -F", (status, own[0].startswith("warning: ")) == (0, True), own)
     status, _, _, own, chip = over(["-p", "auto", "-U", "flash:w:tiny.elf"])
-    check(
-        "-p auto",
-        (status, set(chip), own[-1][-30:]) == (1, {0xFF}, "both (-F takes any chip); nothing was written"[-30:]),
-        own,
-    )
+    wanted = (1, {0xFF}, "tiny.elf is for 1E930B, not m328p; nothing was written")
+    check("-p auto", (status, set(chip), own[-1]) == wanted, own)
     check_equal("its own chip", run(["-p", "attiny85", "-P", "emu:tiny.bin", "-U", "flash:w:tiny.elf"])[0], 0)
     high = run(["-p", "t85", "-P", "emu:tiny.bin", "-U", "flash:w:high.elf"])
     check_equal("too high", high[2], lines("error: high.elf: address 0001FFFF out of range"))
@@ -1781,20 +1725,24 @@ def changed(before, after):
 # What a reader does after a hint: the words that he finds in it, and the next command with the files of its case. After
 # a hint without a next command the walk ends.
 FOLLOWED = [
-    (r"build or download the file again", another_file),
+    (r"build or download the file again|doesn't begin with a record: ", another_file),
+    (
+        r" is (?:not )?ELF: give (:[eis])",
+        lambda words, _, found: [*words[:-1], re.sub("(:[eis])?$", found[1], words[-1], count=1)],
+    ),
     (
         r"give the ELF file itself, as (\w+:w:)NAME.elf",
         lambda words, _, found: [*words[:3], f"{found[1]}main.elf", *words[4:]],
     ),
     (r"give -D, not -e, and for flash give one image that begins at 0", on_this_device(on_a_bootloader)),
     (
-        r"^-c wiring is for a bootloader, which can't",
+        r"^-c wiring is for a board's own bootloader, which can't",
         lambda words, case, _: on_a_bootloader(words, case)
         if "loads" in case
         else without(without(words, "-c"), "wiring"),
     ),
     (r"may refuse this: use a programmer\. If this is one, ", on_this_device(lambda *_: None)),
-    (r"from 0 on without gaps", another_file),
+    (r"^a Mega's bootloader erases pages from 0 on: give one image", another_file),
     (
         r"check -p and the image",
         lambda words, case, _: other_part(words, case["part"], "blink.hex") if "part" in case else None,
@@ -1815,7 +1763,7 @@ FOLLOWED = [
     (r"a format is one letter: give -U (\S+);", changed("^flash:.*", r"\1")),
     (r"a value is written as 0xE2", changed(":E2:", ":0xE2:")),
     (
-        r"belongs to no option: is one, such as (-U), missing before it",
+        r"^no option takes \S+ here \((-U) MEMORY:OP:FILE:FORMAT is one word",
         lambda words, _, found: [*words[:-1], found[1], words[-1]],
     ),
     (
@@ -2359,7 +2307,7 @@ def unread_command_lines():
         (["-p", "m8", "-z", "--json", "unread.json"], ("option -z not recognized", "m8", None)),
         (
             ["--json=unread.json", "-P", "x", "--backup", "y", "-e"],
-            ("--backup reads all memories of the part: it takes no -e", None, "x"),
+            ("--backup takes no -e", None, "x"),
         ),
         (["--json", "unread.json", "-Pa", "-Pb", "--wait"], ("option --wait requires argument", None, None)),
     ]:
@@ -2488,7 +2436,7 @@ def one_run_at_a_time():
     first = start([*FLASH, "-P", device, "-b", "57600", "--wait", "0"], env=fake)
     wait_until(lambda: speed(line) == (57_600, 57_600))
     status, _, printed, own = run([*FLASH, "-P", device, "-b", "9600"])
-    wanted = f"{device}: cannot be opened: another program has it"
+    wanted = f"{device}: cannot be opened: it is busy"
     check("a second run at once", (status, own[-1:]) == (1, [wanted]), (status, printed, own))
     check_equal("the first one's speed", speed(line), (57_600, 57_600))
     if ANYONE:
@@ -2583,7 +2531,7 @@ def strangers():
     check_equal("the stranger receives", received, b"")
     room.put("go", b"")
     _, printed = started.communicate(timeout=PATIENCE)
-    line = b"avrstk-serial: a caller of this run's port was refused: /proc doesn't show that it is avrstk\n"
+    line = b"avrstk-serial: a call was refused: /proc doesn't show that avrstk made it\n"
     check_equal("the run", (started.returncode, printed, board.end() == wanted), (0, line + lines(*FIRMWARE), True))
 
 
@@ -2606,7 +2554,7 @@ def names_and_interrupts():
     ]:
         started = start([*FLASH, "-P", device])
         _, printed = started.communicate(timeout=PATIENCE)
-        wanted = f"avrstk-serial: {shown}: there is no such device (is the cable in?)\n".encode()
+        wanted = f"avrstk-serial: {shown}: {LISTED}\n".encode()
         check_equal(f"the name {device}", (started.returncode, printed), (1, wanted))
     for name in ["avrstk_serial", "avrstk_common", "glob"]:
         started = start(["-p", "?"], env={"PYTHONPATH": str(room.folder), "SENDS_AT": name})

@@ -28,7 +28,7 @@ def bytes_of(folder: str, memory: str) -> list[int]:
     """Returns the values of a file."""
     text = text_of(folder, memory).strip()
     if not re.fullmatch(r"0x[0-9a-f]{1,2}(,0x[0-9a-f]{1,2})*", text):
-        raise Fault(f"{folder}/{memory}.txt is not as --backup writes it")
+        raise Fault(f"{folder}/{memory}.txt is not of --backup")
     return [int(value, 16) for value in text.split(",")]
 
 
@@ -43,14 +43,13 @@ def back_up(words: Words, folder: str, runs: Callable[[], int]) -> int:
     words.report.stage = "arguments"
     try:
         words.updates = [Update(f"{memory}:r:{folder}/{memory}.{end}") for memory, end in FILES.items()]
-        try:
-            status = runs()
-        except Fault as fault:
-            raise Fault(f"{fault}; no backup is kept")
+        status = runs()
         if not status and not bytes_of(folder, "lock")[0] & 2:
             words.report.stage = "refused"
-            raise Fault("the lock reads as one that hides flash and EEPROM: no backup is kept")
+            raise Fault("the chip reads as locked")
         is_whole = not status
+    except Fault as fault:
+        raise Fault(f"{fault}; no backup is kept")
     finally:
         if not is_whole:
             # (a file that another program put there stays, and the folder with it)
@@ -87,13 +86,13 @@ def restored(words: Words, folder: str) -> list[Update]:
     signature = "".join(f"{byte:02X}" for byte in bytes_of(folder, "signature"))
     own, eeprom = words.signature(), records_of(text_of(folder, "eeprom").encode())
     if not bytes_of(folder, "lock")[0] & 2:
-        raise Fault(f"{folder}/lock.txt is of a locked chip, whose flash and EEPROM can't be read")
+        raise Fault(f"{folder}/lock.txt is of a locked chip")
     if own and own != signature:
-        raise Fault(f"{folder} is of a chip with the signature {signature}, and {words.part} has {own}")
+        raise Fault(f"{folder} has the signature {signature}, and {words.part} {own}")
     if sorted(eeprom) != list(range(len(eeprom))) or has_more(words, signature, len(eeprom)):
         raise Fault(f"{folder}/eeprom.hex is not the whole EEPROM")
     if not ENDS[b":"].search(text_of(folder, "flash").encode()):
-        raise Fault(f"{folder}/flash.hex has no end record, so it may be cut short")
+        raise Fault(f"{folder}/flash.hex has no end record")
     # (if all of flash is FF, the erase restores it)
     flash = f"{folder}/flash.hex:i" if DATA.search(text_of(folder, "flash").encode()) else "0xFF:m"
     values = [f"{memory}:w:0x{bytes_of(folder, memory)[0]:02X}:m" for memory in ["efuse", "hfuse", "lfuse", "lock"]]

@@ -27,7 +27,7 @@ READ, WRITE = selectors.EVENT_READ, selectors.EVENT_WRITE
 
 # avrstk has these parts without a part file; the others are in one that comes with it
 BUILT_IN = {"m328p", "t85", "m2560"}
-NO_PARTS = "the part file classic.toml is not there, or not the one of avrstk (install.sh puts it under share/avrstk)"
+NO_PARTS = "classic.toml is missing, or has no parts"
 
 
 class Fault(Exception):
@@ -249,10 +249,14 @@ def part_words(part: str | None, file: str | None) -> list[str]:
 
 def program() -> str:
     """Returns the program that AVRSTK names, or the one beside the script."""
-    found = os.environ.get("AVRSTK") or os.path.join(HERE, "avrstk")
-    if not shutil.which(found):
-        raise Fault(f"{found} is not there, or can't be run: avrstk is needed beside this script, or named by AVRSTK")
-    return found
+    return runnable(os.environ.get("AVRSTK") or os.path.join(HERE, "avrstk"))
+
+
+def runnable(file: str) -> str:
+    """Returns this path of a program, which has to be there."""
+    if not shutil.which(file):
+        raise Fault(f"{file} is missing, or can't be run")
+    return file
 
 
 def asked(*command: str, messages_to: int | None = None) -> str:
@@ -281,10 +285,7 @@ def beside(file: str, name: str) -> str | None:
 def session_program(messages_to: int | None = None) -> str:
     """Returns the path of avrstk_session, which serves one client. ./avrstk's messages go to `messages_to`."""
     file = built(messages_to)
-    found = beside(file, "avrstk_session") or os.path.join(os.path.dirname(file), "avrstk_session")
-    if not shutil.which(found):
-        raise Fault(f"{found} is not there, or can't be run: it is built and installed with avrstk")
-    return found
+    return runnable(beside(file, "avrstk_session") or os.path.join(os.path.dirname(file), "avrstk_session"))
 
 
 def reported_session() -> str:

@@ -73,10 +73,8 @@ def headers_of(elf: bytes) -> tuple[list[Segment], list[tuple[str, Header]]]:
     if elf[4:7] != b"\1\1\1" or struct.unpack_from("<2HI", elf, 16) != (2, 83, 1):
         raise IndexError
     loads, at, _, _, size, count, wide, many, names = struct.unpack_from("<3I6H", elf, 28)
-    if (count and size != 32) or (many and wide != 40):
-        raise ValueError("has headers of another size than ELF's")
-    if count + many > MOST:
-        raise ValueError(f"has more than {MOST:,} headers")
+    if (count and size != 32) or (many and wide != 40) or count + many > MOST:
+        raise IndexError
     if max(loads + 32 * count, at + 40 * many) > len(elf):
         raise IndexError
     segments = [Segment(*row) for row in struct.iter_unpack("<8I", elf[loads : loads + 32 * count])]
@@ -104,22 +102,15 @@ def place_of(segments: list[Segment], section: Header) -> int | None:
 
 
 def checked_place(name: str, section: Header, segments: list[Segment], left: int) -> int:
-    """Returns the load address of a section. Raises ValueError with the reason if the section can't be read. `left` is
-    how many of the file's bytes no section had."""
-    if section.kind not in KINDS or section.flags & ~FLAGS:
-        raise ValueError(f"has a section {name} of a kind that isn't read")
-    if section.size > left:
-        raise ValueError(f"has a section {name} that is too long: with it the sections have more bytes than the file")
+    """Returns the load address of a section. Raises ValueError if the section can't be read: its kind isn't known, it
+    is longer than `left`, it isn't in exactly one segment, or it isn't in one memory, which is that of its name."""
     place = place_of(segments, section) if segments else section.address
-    if place is None:
-        raise ValueError(f"has a section {name} that isn't in exactly one segment")
-    homes = [memory for memory, (low, high) in KNOWN.items() if low <= place and place + section.size <= high]
-    where = f"{section.size} bytes at {place:08X}"
-    if not homes:
-        raise ValueError(f"has a section {name} that fits no memory ({where})")
-    if name in NAMED and NAMED[name] not in homes:
-        raise ValueError(f"has a section {name} outside {NAMED[name]} ({where})")
-    return place
+    is_known = section.kind in KINDS and not section.flags & ~FLAGS
+    if place is not None and is_known and section.size <= left:
+        homes = [memory for memory, (low, high) in KNOWN.items() if low <= place and place + section.size <= high]
+        if homes and NAMED.get(name, homes[0]) in homes:
+            return place
+    raise ValueError(f"has a section {name} that isn't taken")
 
 
 def sections_of(elf: bytes) -> tuple[list[Section], str | None]:
@@ -128,7 +119,7 @@ def sections_of(elf: bytes) -> tuple[list[Section], str | None]:
     try:
         segments, sections = headers_of(elf)
     except (struct.error, IndexError):
-        raise ValueError("is damaged, or no linked ELF file for AVR (machine 83) with sections")
+        raise ValueError("isn't taken as a linked ELF file for AVR")
     found: list[Section] = []
     left = len(elf)
     for name, header in sections:
@@ -140,7 +131,7 @@ def sections_of(elf: bytes) -> tuple[list[Section], str | None]:
     found.sort(key=lambda section: section.place)
     for one, other in zip(found, found[1:]):
         if one.place + len(one.held) > other.place:
-            raise ValueError(f"has sections {one.name} and {other.name} that overlap at {other.place:08X}")
+            raise ValueError(f"has sections {one.name} and {other.name} that overlap")
     notes = [
         elf[header.offset : header.offset + min(header.size, MOST)] for name, header in sections if name == DEVICE_NOTE
     ]

@@ -10,23 +10,12 @@ from avrstk_each import Each
 from avrstk_faults import xor
 from avrstk_report import Report, fault_of, write
 from avrstk_rows import try_rows
-from avrstk_hints import CHANGING, ENTER, LEAVE, MAYBE_CHANGED, NO_CHIP, NO_SIGNATURES, ONE_IMAGE, OPEN_LOCK
-from avrstk_hints import (
-    POWER_CYCLE,
-    SIGN_ON,
-    UNCHANGED,
-    Outcome,
-    erases,
-    hint,
-    may_erase_kept,
-    may_lock,
-    overwritten,
-    same,
-    state_of,
-)
+from avrstk_hints import CHANGING, ENTER, LEAVE, MAYBE_CHANGED, NO_CHIP, NO_SIGNATURES, ONE_IMAGE, SIGN_ON, UNCHANGED
+from avrstk_hints import Outcome, erases, hint, may_erase_kept, may_lock, overwritten, state_of
 from avrstk_station import made, station
 from avrstk_version1 import SPEEDS, Bridge
-from avrstk_words import FORMATS, FUSES, MEMORIES, UNOPENED, Update, Words, is_port, long_name, overlaps, parts_of
+from avrstk_words import FORMATS, FUSES, MEMORIES, UNOPENED, UNWRITTEN, Update, Words, is_port, long_name, overlaps
+from avrstk_words import parts_of
 
 import contextlib
 import copy
@@ -36,9 +25,7 @@ import getopt
 import glob
 import grp
 import os
-import pwd
 import re
-import shlex
 import shutil
 import socket
 import stat
@@ -49,37 +36,29 @@ import termios
 import time
 from typing import Callable
 
+# options that are refused, and why
 REFUSED = {
-    "-B": "-B is not supported: leave it out; no programmer's clock is set (avrdude -B sets that of an STK500)",
-    "-E": "-E is not supported: it is for programmers whose pins avrdude drives",
-    "-O": "-O is not supported: the oscillator is not calibrated",
-    "-i": "-i is not supported: leave it out; no programmer's clock is set",
-    "-x": "-x is not supported: no parameter of the programmer is set",
-    "-t": "-t is not supported: there is no terminal mode; -U reads, writes and compares memories",
-    "-T": "-T is not supported: there is no terminal mode; -U reads, writes and compares memories",
-    "-y": "-y is not supported: erase cycles are not counted in EEPROM",
-    "-Y": "-Y is not supported: erase cycles are not counted in EEPROM",
-    "--serve": "--serve is for the emulated programmer: give it to avrstk",
-    "--chip": "--chip is for the emulated programmer: give it to avrstk",
+    **dict.fromkeys(["-B", "-i"], "no programmer's clock is set"),
+    **dict.fromkeys(["-t", "-T"], "there is no terminal mode"),
+    **dict.fromkeys(["-y", "-Y"], "erase cycles are not counted"),
+    **{"-E": "no parallel port is driven", "-O": "no oscillator is calibrated", "-x": "no parameter is set"},
+    **dict.fromkeys(["--serve", "--chip"], "give it to avrstk"),
 }
 
-# AVRDUDE's names of programmers with this protocol on a serial device, and of others that users often ask for
+# AVRDUDE's names of programmers with these protocols on a serial device
 SPEAKING = ["avrispv2", "stk500", "stk500v2", "wiring", *SPEEDS]
-PROGRAMMERS = {
-    **dict.fromkeys(["usbasp", "usbtiny"], "a programmer with a protocol of its own over USB, without a serial device"),
-    "avrispmkii": "a programmer on USB without a serial device, whose commands have no frames",
-}
 
 # the serial devices of USB that are here
 DEVICES = sorted(glob.glob("/dev/ttyACM*") + glob.glob("/dev/ttyUSB*"))
-NONE_HERE = "no /dev/ttyACM* or /dev/ttyUSB* is found now"
+LISTED = "-P '?' lists devices"
 
 # Linux's tcgets2 and tcsets2. Their 44 bytes: four words of flags, a byte, 19 control characters, two speeds
 TCGETS2, TCSETS2, BOTHER = 0x802C542A, 0x402C542B, 0x1000
 
-FAR = "a Mega's bootloader reads EEPROM above 255 at other addresses"
-OWN_PAGES = "a bootloader of version 1 erases each page that it writes, and two of these images share a page"
-ONE_WRITE = "a Mega's bootloader erases pages from 0 on, so one command writes flash once, from 0 on without gaps"
+USED = "this command uses that file twice"
+FAR = "a Mega's bootloader reads EEPROM above 255 at other addresses: use a programmer"
+OWN_PAGES = "two images share a page: give one image"
+ONE_WRITE = f"a Mega's bootloader erases pages from 0 on: {ONE_IMAGE}"
 
 # the command that sends their address, and those that carry the bytes of a memory
 LOAD_ADDRESS = 0x06
@@ -87,14 +66,11 @@ CARRYING = {0x13: "writing flash", 0x14: "reading flash", 0x15: "writing eeprom"
 
 # fuses that keep an ISP programmer from the chip, by parts' long names: what a value does, its memory, its bits and
 # how these read then (by the parts' data sheets and the headers of avr-libc; of other parts' crystals nothing is sure)
-GONE = "no ISP programmer reaches the chip then"
-EXTERNAL = "selects an external clock: the chip only works while a clock drives its pin XTAL1 or CLKI"
-SLOW = "selects a slow clock: many programmers are too fast for the chip then"
-CRYSTAL = "selects a crystal of 32 kHz: without it the chip may not run, and with it many programmers are too fast"
-RESET = f"turns the reset pin off (RSTDISBL): {GONE}"
-DEBUG = "turns debugWIRE on (DWEN): after its next power-up no ISP programmer reaches the chip unless it is locked"
+GONE = "then a programmer may not reach the chip"
+EXTERNAL, SLOW, CRYSTAL = (f"selects {clock}" for clock in ("an external clock", "a slow clock", "a crystal of 32 kHz"))
+RESET, DEBUG = "turns the reset pin off (RSTDISBL)", "turns debugWIRE on (DWEN)"
 RISKS = [
-    ("", (f"has SPIEN off: most parts keep it on; else {GONE}", "hfuse", 0x20, 0x20)),
+    ("", ("has SPIEN off", "hfuse", 0x20, 0x20)),
     ("(?!attiny88)", (EXTERNAL, "lfuse", 0x0F, 0)),
     ("attiny88", (EXTERNAL, "lfuse", 0x03, 0)),
     ("attiny88", (SLOW, "lfuse", 0x03, 3)),
@@ -114,7 +90,8 @@ RISKS = [
 def list_devices() -> None:
     """Prints the devices, each with its name that doesn't change at the next plug, which tells what it is."""
     names = {os.path.realpath(link): link for link in glob.glob("/dev/serial/by-id/*")}
-    show("\n".join(f"  {device:13} {names.get(device, '')}".rstrip() for device in DEVICES) or f"  {NONE_HERE}")
+    rows = [f"  {device:13} {names.get(device, '')}".rstrip() for device in DEVICES]
+    show("\n".join(rows) or "  no /dev/ttyACM* or /dev/ttyUSB* was found")
 
 
 def list_parts() -> None:
@@ -129,79 +106,60 @@ def list_parts() -> None:
     show("\n".join(rows))
 
 
-def unrepaired(words: Words) -> str | None:
-    """Returns why a second run may not repair the chip; None if it does. (docs/TROUBLESHOOTING has the conditions.)"""
+def unrepaired(words: Words) -> Update | None:
+    """Returns the update for which a second run may not repair the chip, or may lose data; None if there is none.
+    (docs/TROUBLESHOOTING has the conditions.)"""
     written: set[str] = set()
     is_dry = "-n" in words.flags
     for update in words.updates:
-        if update.is_stream():
-            return f"a second one may write to {'standard output' if update.file == '-' else update.file} again"
-        if update.operation == "v" and update.memory not in written:
-            return f"it compares {update.memory}, which it didn't write before"
+        if update.is_stream() or update.operation == "v" and update.memory not in written:
+            return update
         if update.operation == "w" and not is_dry:
-            if "lock" in written:
-                return "it writes after the lock"
-            if update.memory == "flash" and "flash" in written:
-                pages = words.plan().pages
-                if not pages:
-                    return "it isn't known whether two images share a page of flash"
-                if overlaps(pages):
-                    return "it writes a page of flash twice"
+            is_twice = update.memory == "flash" and "flash" in written
+            pages = words.plan().pages if is_twice else []
+            if "lock" in written or is_twice and (not pages or overlaps(pages)):
+                return update
             written.add(update.memory)
-    if is_dry:
-        return None
-    lost = overwritten(words)
-    if lost:
-        return f"a second one may overwrite {lost[0]} with what this one wrote"
-    if may_erase_kept(words, words.updates):
-        return "a second one may erase EEPROM that this one keeps"
+    return None if is_dry else unkept(words)
+
+
+def unkept(words: Words) -> Update | None:
+    """Returns the update with which a second run may overwrite a file, erase EEPROM that the first run keeps, or find
+    the chip locked; None if there is none."""
     is_used = any(update.memory in ("flash", "eeprom") for update in words.updates)
-    return (
-        "a second one may find the chip locked" if may_lock(words.updates) and is_used and not erases(words) else None
-    )
+    for update in words.updates:
+        is_lost = update.operation == "r" and update.file in overwritten(words)
+        is_erased = update.writes("hfuse") and may_erase_kept(words, [update])
+        if is_lost or is_erased or is_used and not erases(words) and may_lock([update]):
+            return update
+    return None
 
 
 def judge_device(device: str | None) -> str:
     """Checks a device without opening it: opening can reset a board. Returns its name."""
     if not device:
-        raise Fault(f"no device given (-P); {'found now: ' + ', '.join(DEVICES) if DEVICES else NONE_HERE}")
-    if re.match(r"usb(:|$)", device):
-        raise Fault(f"-P {device} is for programmers without a serial device: use avrdude. For others see -P '?'")
+        raise Fault(f"no device given (-P): {LISTED}")
+    state: os.stat_result | None = None
     try:
-        state = os.stat(device)
+        with contextlib.suppress(FileNotFoundError):
+            state = os.stat(device)
     except OSError as fault:
         # (a folder on the way may be closed)
-        is_missing = isinstance(fault, FileNotFoundError)
-        raise Fault(f"{device}: there is no such device ({no_device(device)})" if is_missing else text_of(fault))
-    if not stat.S_ISCHR(state.st_mode):
-        raise Fault(f"{device}: not a serial device")
+        raise Fault(text_of(fault))
+    if not state or not stat.S_ISCHR(state.st_mode):
+        raise Fault(f"{device}: no such device ({LISTED})")
     if not os.access(device, os.R_OK | os.W_OK):
-        raise Fault(f"{device}: you may not read and write it ({no_right(state)})")
+        raise Fault(f"{device}: you may not read and write it ({rights(state)})")
     return device
 
 
-def no_device(device: str) -> str:
-    """Returns why there may be no device with this name."""
-    if re.fullmatch(r"COM\d+", device, re.I):
-        return "Linux has other names, such as /dev/ttyACM0 or /dev/ttyUSB0: see -P '?'"
-    if re.fullmatch(r"[^/]+:\d+", device):
-        return "for STK500v2 over a network give -P net:HOST:PORT"
-    if os.path.exists(f"/dev/{device}") and not os.path.isdir(f"/dev/{device}"):
-        return f"it is /dev/{device}"
-    return "is the cable in?"
-
-
-def no_right(state: os.stat_result) -> str:
-    """Returns how to get the right to use a device, or who has it."""
-    # (a number may have no name, and in a container a device's group may be nobody's)
-    owner, group = str(state.st_uid), str(state.st_gid)
-    with contextlib.suppress(KeyError):
-        owner = pwd.getpwuid(state.st_uid).pw_name
+def rights(state: os.stat_result) -> str:
+    """Returns who may use a device."""
+    group = str(state.st_gid)
+    # (a number may have no name)
     with contextlib.suppress(KeyError):
         group = grp.getgrgid(state.st_gid).gr_name
-    if state.st_gid != 0 and state.st_mode & 0o60 == 0o60 and not re.fullmatch(r"\d+|nogroup|nobody", group):
-        return f"often: sudo usermod -aG {shlex.quote(group)} $USER, and log in again"
-    return f"its owner is {owner}, its group {group}, its mode {stat.S_IMODE(state.st_mode):o}"
+    return f"its group is {group}, its mode {stat.S_IMODE(state.st_mode):o}"
 
 
 class Device:
@@ -223,7 +181,7 @@ class Device:
         except OSError as fault:
             self.close()
             is_taken = fault.errno in (errno.EBUSY, errno.EWOULDBLOCK)
-            raise Fault(f"{name}: cannot be {act}: {'another program has it' if is_taken else fault.strerror}")
+            raise Fault(f"{name}: cannot be {act}: {'it is busy' if is_taken else fault.strerror}")
 
     def set_speed(self, baud: int) -> None:
         """Sets the speed; raises OSError if the device takes another one instead."""
@@ -458,7 +416,7 @@ class Run:
             return
         line.close()
         if is_avrstk is False:
-            print_line("a caller of this run's port was refused: /proc doesn't show that it is avrstk")
+            print_line("a call was refused: /proc doesn't show that avrstk made it")
 
     def open(self, line: socket.socket) -> None:
         """Opens the device and waits for the board. Only the last SIGN_ON that avrstk sends meanwhile is passed on."""
@@ -522,13 +480,12 @@ def other_program() -> str | None:
 
 def why_other(words: Words) -> str | None:
     """Returns why these options are for another program; None if they are for avrstk."""
-    if words.programmer.lower() not in SPEAKING:
-        return f"-c {words.programmer} is not known here"
-    if re.match(r"usb(:|$)", words.device or ""):
-        return f"-P {words.device} names no serial device"
-    if words.parts_file is None and (words.part or "").lower() not in {*BUILT_IN, *parts(), "auto", "?", ""}:
-        return f"-p {words.part} is not known here"
-    return None
+    unknown = {
+        "-c": words.programmer.lower() not in SPEAKING,
+        "-P": re.match(r"usb(:|$)", words.device or ""),
+        "-p": words.parts_file is None and (words.part or "").lower() not in {*BUILT_IN, *parts(), "auto", "?", ""},
+    }
+    return next((f"{option} {words.last[option]} is not known here" for option in unknown if unknown[option]), None)
 
 
 def leave_to_other(words: Words) -> None:
@@ -536,7 +493,7 @@ def leave_to_other(words: Words) -> None:
     why = why_other(words)
     other = other_program() if why else None
     if why and not other and os.environ.get("AVRSTK_ELSE"):
-        print_line(f"AVRSTK_ELSE names no other program here: {os.environ['AVRSTK_ELSE']}")
+        print_line(f"AVRSTK_ELSE={os.environ['AVRSTK_ELSE']} names no other program")
     # (it doesn't know the script's own options, and takes one port)
     has_own = words.unproved or any(option.startswith("--") for option in words.last)
     if other and not words.is_station and not has_own:
@@ -573,35 +530,37 @@ def judge(words: Words) -> None:
         judge_part(words, UNOPENED)
     for device in words.devices:
         if re.fullmatch("net:[^:]*", device):
-            raise Fault(f"-P {device}: a port of a network is -P net:HOST:PORT")
+            raise Fault(f"-P {device}: give net:HOST:PORT")
     if not re.fullmatch(r"0*[0-9]{1,2}", words.retry):
-        raise Fault(f"--retry {words.retry}: not a number from 0 to 99")
+        raise Fault(f"--retry {words.retry}: give a number from 0 to 99")
     if not words.has_port and not os.path.exists("/proc/net"):
-        raise Fault("/proc/net is not there, by which a run sees whether avrstk calls it")
+        raise Fault("/proc/net is needed, and missing")
     if int(words.retry):
-        if words.has_port:
-            raise Fault(f"--retry is for a serial device, not -P {words.device}")
+        need_device(words, "--retry")
         unfit = unrepaired(words)
         if unfit:
-            raise Fault(f"--retry: the same command again may not repair this one: {unfit}")
+            raise Fault(f"--retry: {options_of(words, unfit)} may go wrong in a second run")
+
+
+def need_device(words: Words, option: str) -> None:
+    """Refuses an option over a port of avrstk's own."""
+    if words.has_port:
+        raise Fault(f"{option} is for a serial device, not -P {words.device}")
 
 
 def judge_options(words: Words) -> None:
     """Refuses options that are not avrstk-serial's, or have a value that they don't take."""
-    name = words.programmer.lower()
-    if name not in SPEAKING:
-        unknown = "not known here: -c '?' lists the names. For another programmer use avrdude"
-        what = f"{PROGRAMMERS[name]}: use avrdude -c {words.programmer}" if name in PROGRAMMERS else unknown
-        raise Fault(f"-c {words.programmer} is {what}")
+    if words.programmer.lower() not in SPEAKING:
+        raise Fault(f"{why_other(words)}: -c '?' lists the names, and avrdude has others")
     for option in words.last:
         if option in REFUSED:
-            raise Fault(REFUSED[option])
+            raise Fault(f"{option} is not supported: {REFUSED[option]}")
     if not words.speeds:
         raise Fault(f"-b {words.last.get('-b')}: not a speed")
     if not re.fullmatch(r"(?=\.?[0-9])[0-9]*(\.[0-9]*)?", words.wait) or float(words.wait) > 3:
         raise Fault(f"--wait {words.wait}: give seconds from 0 to 3, such as 0.5")
-    if words.is_version1 and words.has_port:
-        raise Fault(f"-c {words.programmer} is for a serial device, not -P {words.device}")
+    if words.is_version1:
+        need_device(words, f"-c {words.programmer}")
 
 
 def check(words: Words, earlier: frozenset[int] = frozenset()) -> None:
@@ -631,17 +590,15 @@ def judge_rows(words: Words) -> None:
             raise Fault("--yes is for --try-rows=all")
         return
     if words.trial not in ("safe", "all"):
-        raise Fault(f"--try-rows={words.trial}: there is --try-rows, and --try-rows=all")
+        raise Fault(f"--try-rows={words.trial}: give --try-rows or --try-rows=all")
     for option in words.last:
         if option not in own:
-            raise Fault(f"--try-rows tries a programmer, and takes no {option}")
+            raise Fault(f"--try-rows takes no {option}")
     if words.is_station:
         raise Fault("--try-rows is for one board")
-    if words.has_port:
-        raise Fault(f"--try-rows is for a serial device, not -P {words.device}")
+    need_device(words, "--try-rows")
     if words.trial == "all" and "--yes" not in words.last:
-        risk = "may erase and write the chip, its fuses and its lock, and fail to restore them"
-        raise Fault(f"--try-rows=all {risk}: add --yes if you can lose this chip; {UNOPENED}")
+        raise Fault(f"--try-rows=all may erase and lock the chip: add --yes if you can lose it; {UNOPENED}")
 
 
 def judge_files(words: Words, begin: str = "") -> None:
@@ -651,27 +608,23 @@ def judge_files(words: Words, begin: str = "") -> None:
     devices = [device for device in words.devices if device != "all" and not is_port(device)]
     for update in words.updates if not begin else []:
         if update.is_image and any(is_one(update.file, device) for device in devices):
-            raise Fault(f"-U {update.given}: that file is the device: {UNOPENED}")
+            raise Fault(f"-U {update.given}: {USED}: {UNOPENED}")
     ports = [device.partition("emu:")[2] for device in words.devices]
-    chips = [f"{port}{end}" for port in ports for end in ("", ".avrstk-new", ".avrstk-lock") if port]
-    inputs = {update.file: "an image" for update in words.updates if update.is_image and update.file != "-"}
-    inputs.update({words.parts_file or data_file("classic.toml"): "the part file"})
-    inputs.update(dict.fromkeys(devices, "the device"))
-    inputs.update(dict.fromkeys(chips, "one of the chip's"))
-    inputs.update({words.last["--rows"]: "the table"} if "--rows" in words.last else {})
-    # (without a part file)
-    inputs.pop(os.devnull, None)
+    inputs = {f"{port}{end}" for port in ports for end in ("", ".avrstk-new", ".avrstk-lock") if port}
+    inputs |= {update.file for update in words.updates if update.is_image and update.file != "-"}
+    inputs |= {words.parts_file or data_file("classic.toml"), *devices, words.last.get("--rows", "")}
+    # (without a part file, and without a table)
+    inputs -= {os.devnull, ""}
     outputs = [(f"-U {update.given}", update.file) for update in words.updates if update.operation == "r"]
     names = [option for option in ("-l", "--backup", "--counter", "--json") if option in words.last]
     outputs += [(f"{option} {words.last[option]}", words.last[option]) for option in names]
     outputs = [output for output in outputs if output[1] != "-"]
     for number, (word, file) in enumerate(outputs):
-        taken = next((what for name, what in inputs.items() if name and is_one(file, name)), None)
         # (a stream takes several outputs)
         is_file = os.path.isfile(file) or not os.path.exists(file)
-        other = next((before for before, name in outputs[:number] if is_file and is_one(file, name)), None)
-        if word.startswith(begin) and (taken or other):
-            raise Fault(f"{word}: that file is {taken or f'also the one of {other}'}: {UNOPENED}")
+        others = [*inputs, *(name for _, name in outputs[:number] if is_file)]
+        if word.startswith(begin) and any(is_one(file, name) for name in others):
+            raise Fault(f"{word}: {USED}: {UNOPENED}")
 
 
 def is_one(one: str, other: str) -> bool:
@@ -684,20 +637,14 @@ def is_one(one: str, other: str) -> bool:
 def judge_bootloader(words: Words) -> None:
     """Refuses what a bootloader can't do. One of version 1 returns OK all the same, or writes flash in place of EEPROM;
     that of -c wiring erases pages by a count of its own."""
-    writes, is_dry = [update for update in words.updates if update.writes_flash()], "-n" in words.flags
-    name = f"-c {words.programmer}"
-    is_for, programmer = f"{name} is for a bootloader", f"With a programmer leave out {name}"
-    if words.is_version1:
-        programmer = f"With Arduino as ISP give -c arduino_as_isp, and with a programmer of STK500v2 leave out {name}"
-    cures = ["leave out -e"] if "-e" in words.flags else []
-    cures += ["use -D"] if writes and "-D" not in words.flags else []
-    if cures and not is_dry:
-        raise Fault(f"{is_for}, which can't erase the chip: {', and '.join(cures)}. {programmer}; {UNOPENED}")
+    if erases(words):
+        why = "is for a board's own bootloader, which can't erase the chip (-e, or flash without -D)"
+        raise Fault(f"-c {words.programmer} {why}; {UNOPENED}")
     # (avrstk refuses what is no memory)
     for update in words.updates if words.is_version1 else []:
         if update.memory in MEMORIES and update.memory not in ("flash", "signature"):
-            why = f"{is_for}, and only for its flash and signature: use a programmer"
-            raise Fault(f"{options_of(words, update)}: {why}; {UNOPENED}")
+            takes = f"-c {words.programmer} takes only flash and signature"
+            raise Fault(f"{options_of(words, update)}: {takes}; {UNOPENED}")
     judge_pieces(words, UNOPENED)
 
 
@@ -722,45 +669,15 @@ def why_pieces(words: Words) -> str | None:
     writes = [update for update in words.updates if update.writes_flash()]
     if words.is_version1:
         pages = words.flash_pages() if len(writes) > 1 else None
-        cure = joined(writes, []).replace(ONE_IMAGE.capitalize(), "Give one image in place of them")
-        return f"{OWN_PAGES}. {cure}" if pages and overlaps(pages) else None
-    if len(writes) > 1 or writes and words.is_whole() is False:
-        return f"{ONE_WRITE}. {joined(writes, words.flash_pages() or [])}"
-    return None
-
-
-def joined(writes: list[Update], pages: list[tuple[int, int]]) -> str:
-    """Returns what to do in place of these writes: the command that makes one image, if it can be given."""
-    formats = {"i": "-Intel", "s": "-Motorola", "r": "-Binary"}
-    is_file = [os.path.isfile(update.file) and update.file != "-" for update in writes]
-    kinds = [formats.get(update.kind() or "") if known else None for update, known in zip(writes, is_file)]
-    # (- begins an option of srec_cat; other signs, and a number, mean something to it, too)
-    names = [re.sub(r"^(?![\w./])|^(?=(0[xX][0-9A-Fa-f]+|[0-9]+)$)", "./", update.file) for update in writes]
-    words = [word for name, kind in zip(names, kinds) for word in (name, kind or "")]
-    # (what is below the images isn't known: a placeholder, so that nothing below is lost)
-    begin = min(pages or [(0, 0)])[0]
-    words = ["BELOW.hex", "-Intel", "-crop", "0", f"0x{begin:X}"] * bool(begin) + words
-    fill = ["-fill", "0xFF", "0", f"0x{max(at + count for at, count in pages):X}"] if pages else []
-    words = ["(", *words, ")"] if len(words) > 2 and fill else words
-    # (else srec_cat takes no two values at an address, also of one image)
-    over = ["-contradictory-bytes=ignore"]
-    joins = len(writes) > 1 and (not pages or overlaps(pages))
-    made = next(name for name in (f"joined{count or ''}.hex" for count in range(1 << 20)) if not os.path.lexists(name))
-    line = " ".join(map(shlex.quote, ["srec_cat", *over, *words, *fill, "-o", made, "-Intel"]))
-    notes = ["whose gaps are FF"] * bool(fill) + ["in which the last of overlapping images counts"] * joins
-    below = "; BELOW.hex stands for the file of what is to stay below" * bool(begin)
-    advice = f"Type {line}, and give {made}{', ' * bool(notes)}{', and '.join(notes)}{below}"
-    return advice if all(kinds) else ONE_IMAGE.capitalize()
+        return OWN_PAGES if pages and overlaps(pages) else None
+    return ONE_WRITE if len(writes) > 1 or writes and words.is_whole() is False else None
 
 
 def unlike(update: Update, part: str | None, own: str) -> str | None:
-    """Returns what an ELF file states of its chip, if that isn't so for a part with the signature `own`; else None."""
+    """Returns the chip or signature that an ELF file names, if it isn't that of a part with the signature `own`."""
     if update.chip not in (None, long_name(part)) and parts().get(update.chip or "", {}).get("signature") != own:
-        return f"is made for {update.chip}"
-    if update.signature in (None, own):
-        return None
-    names = " or ".join(parts_of(update.signature or ""))
-    return f"has the signature of {names}" if names else f"has the unknown signature {update.signature}"
+        return update.chip
+    return None if update.signature == own else update.signature
 
 
 def judge_part(words: Words, end: str) -> None:
@@ -768,12 +685,12 @@ def judge_part(words: Words, end: str) -> None:
     known = parts() if words.parts_file is None else {}
     own = known.get((words.part or "").lower(), {}).get("signature")
     for update in words.updates if own else []:
-        states = unlike(update, words.part, own or "")
-        if states and "-F" not in words.flags:
-            cure = "give another file or another -p, or -F if the file fits both (-F takes any chip)"
-            raise Fault(f"{update.file} {states}, and the part is {words.part}: {cure}; {end}")
-        if states:
-            words.note(f"warning: {update.file} {states}, and the part is {words.part}")
+        named = unlike(update, words.part, own or "")
+        differs = f"{update.file} is for {named}, not {words.part}"
+        if named and "-F" not in words.flags:
+            raise Fault(f"{differs}; {end}")
+        if named:
+            words.note(f"warning: {differs}")
     writes = words.is_bootloader and any(update.writes_flash() for update in words.updates)
     # (without that program it isn't known which pages are written)
     if writes and reported_session():
@@ -789,7 +706,7 @@ def is_far(words: Words, update: Update) -> bool:
 def why_far(words: Words) -> str | None:
     """Returns why a bootloader can't read EEPROM as the command does; None if it can."""
     far = next((update for update in words.updates if is_far(words, update)), None)
-    return f"{options_of(words, far)}: {FAR}: use a programmer" if far else None
+    return f"{options_of(words, far)}: {FAR}" if far else None
 
 
 def risk_of_loader(words: Words) -> str | None:
@@ -807,12 +724,12 @@ def risk_of_loader(words: Words) -> str | None:
 def warn(words: Words) -> None:
     """Warns of fuses that can make the chip unreachable, even if -q is given twice, and of what isn't proved."""
     if words.is_version1:
-        words.note("version 1 has no checksums: such a run is tested, not proved")
+        words.note("a run of version 1 is tested, not proved")
     name = words.chip()
     writes = [update for update in words.updates if update.operation == "w" and update.memory in FUSES]
     values = [(update, update.value()) for update in writes]
     found = [
-        f"warning: {update.given} {what}"
+        f"warning: {update.given} {what}: {GONE}"
         for names, (what, memory, mask, risky) in RISKS
         for update, value in values
         if name and re.match(names, name) and update.memory == memory and value is not None and value & mask == risky
@@ -905,37 +822,50 @@ def ask(
         report.lines[before:] = [line for line in report.lines[before:] if line.startswith("device signature")]
     if is_loader:
         report.stage = "refused"
-        raise Fault(f"the device refuses command 1C, as a bootloader does: {risk}; nothing was written")
+        raise Fault(f"the device refuses command 1C, as a bootloader does: {risk}; {UNWRITTEN}")
     if outcome.status:
         # (-p auto takes any part to ask)
         messages.put(b"".join(line for line in lines if not line.startswith(b"avrstk: warning: signature is ")))
-        if outcome.left_at_error and outcome.error == "no answer" and not ended_by() and not words.has_port:
-            why = "the session before the run got no valid reply to its last command; nothing was written"
-            raise Fault(f"{why}. {POWER_CYCLE.capitalize()}, and {same(words)}")
         if not words.has_port:
             outcome.is_before = True
             raise Fault(hint(outcome, ended_by()))
     return outcome, b"".join(lines).decode()
 
 
+def ask_first(words: Words, risk: str | None) -> Outcome:
+    """Makes the session before a run that a bootloader may do otherwise, and returns its outcome. A bootloader of
+    version 1 replies OK to all that a restore sends, but reads each fuse as 00."""
+    flags = [flag for flag in words.flags if flag in ("-F", "-q")]
+    files = {fuse: os.memfd_create(fuse, 0) for fuse in ("lfuse", "hfuse", "lock") if words.is_version1}
+    reads = [Update(f"{fuse}:r:/dev/fd/{file}:r") for fuse, file in files.items()]
+    try:
+        outcome, _ = ask(words, flags, [*asking(words.restore), *reads], risk=risk)
+        found = [os.pread(file, 1, 0) for file in files.values()]
+    finally:
+        for file in files.values():
+            os.close(file)
+    if files and set(found) == {b"\0"}:
+        words.report.stage = "refused"
+        raise Fault(f"{', '.join(files)} read as 00, as from a bootloader; {UNWRITTEN}")
+    return outcome
+
+
 def detect(words: Words) -> set[int]:
     """Takes the part of the chip's signature for -p auto. Returns the commands that were sent."""
-    if words.has_port or words.parts_file is not None:
-        raise Fault("-p auto is for a serial device, and without --parts")
+    need_device(words, "-p auto")
+    if words.parts_file is not None:
+        raise Fault("-p auto takes no --parts")
     if not parts():
         raise Fault(NO_PARTS)
     outcome, lines = ask(words, ["-F", "-n"], [], "m328p")
     (signature,) = re.findall(r"^avrstk: device signature = ((?:\w\w ?){3})$", lines, re.M)
     names = parts_of(signature)
     words.report.stage = "no chip" if signature in NO_SIGNATURES else "arguments" if names else "other part"
-    has = f"-p auto: the device signature is {signature}, which"
     if signature in NO_SIGNATURES:
-        raise Fault(f"-p auto: {NO_CHIP}; nothing was written")
-    if not names:
-        raise Fault(f"{has} no part of classic.toml has; nothing was written")
-    if len(names) > 1:
-        raise Fault(f"{has} several parts have: give one of them by -p: {', '.join(names)}; nothing was written")
-    words.note(f"-p auto takes {names[0]}, whose signature is {signature}")
+        raise Fault(f"-p auto: {NO_CHIP}; {UNWRITTEN}")
+    if len(names) != 1:
+        raise Fault(f"-p auto: parts with signature {signature}: {', '.join(names) or 'none'}; {UNWRITTEN}")
+    words.note(f"-p auto takes {names[0]}")
     words.part = names[0]
     return outcome.commands
 
@@ -1022,36 +952,33 @@ def execute(words: Words) -> int:
     sent: set[int] = set()
     if words.part == "auto":
         sent |= detect(words)
-        judge_part(words, "nothing was written")
+        judge_part(words, UNWRITTEN)
         if words.each:
             # (only now the size of a memory is known, and no number is taken yet)
-            words.report.stage, words.each.end = "file", "nothing was written"
+            words.report.stage, words.each.end = "file", UNWRITTEN
             words.each.judge(words)
     risk = risk_of_loader(words)
     if risk and not sent:
         # (what avrstk refuses opens no device)
         check(words)
     if risk or words.restore is not None:
-        flags = [flag for flag in words.flags if flag in ("-F", "-q")]
-        outcome, _ = ask(words, flags, asking(words.restore), risk=risk)
+        outcome = ask_first(words, risk)
         sent |= outcome.commands
         if words.each:
-            words.each.end = "nothing was written"
+            words.each.end = UNWRITTEN
         if outcome.status:
             return outcome.status
     # (a backup has the bits as they were read)
     bits = words.bits() if words.parts_file is None and words.restore is None else {}
     for update in words.updates:
-        lacks = update.mask(bits)
-        if lacks:
-            print_line(f"{update.memory} of {words.part} has {lacks}")
+        if update.mask(bits):
+            print_line(f"{words.part} lacks bits of {update.memory}: {update.given} is given as {update.text}")
     warn(words)
     outcome = ran(words, earlier=frozenset(sent))
     if outcome.status and not words.has_port:
         raise Fault(hint(outcome, ended_by()))
     if not outcome.status and words.backup is None and "flash: 0 bytes read" in words.report.last_lines():
-        hidden = f": it was erased when it was read, or the lock hid it ({OPEN_LOCK})"
-        words.note("all of flash read as FF" + hidden * (not words.is_bootloader))
+        words.note("all of flash read as FF")
     return outcome.status
 
 

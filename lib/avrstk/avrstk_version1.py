@@ -87,7 +87,7 @@ class Line:
                 # (another program has read the bytes)
                 continue
             if not piece:
-                raise OSError("the connection to the device broke")
+                raise OSError
             held += piece
         return held
 
@@ -277,7 +277,7 @@ class Bridge:
     def keep_alive(self) -> None:
         """Sends a byte of noise each half second: avrstk repeats a command after a second without a byte."""
         if not self.is_open:
-            raise OSError("the run has ended")
+            raise OSError
         if time.monotonic() > self.talked + 0.5:
             self.inner.send(b"U")
             self.talked = time.monotonic()

@@ -25,6 +25,7 @@ if TYPE_CHECKING:
 FUSES = ["lfuse", "hfuse", "efuse", "lock"]
 MEMORIES = ["flash", "eeprom", *FUSES, "signature", "calibration"]
 UNOPENED = "nothing was sent, and the device was not opened"
+UNWRITTEN = "nothing was written"
 
 # formats by file name extension
 ENDINGS = {".hex": "i", ".ihex": "i", ".eep": "i", ".srec": "s", ".s19": "s", ".mot": "s"}
@@ -36,6 +37,7 @@ MOST, MOST_OF_ELF = 1 << 26, 1 << 20
 
 # a file of records begins so, by avrstk's rule, and a record with data so
 RECORD = re.compile(rb"(?:[ \t\r]*\n)*(?::[0-9A-Fa-f]{10}|S[0-9][0-9A-Fa-f]{8})")
+BEGIN = re.compile(rb"(?:[ \t\r]*\n)*[:S]")
 DATA = re.compile(rb"^(?::(?!00)..(?:....)00|S1(?!03)|S2(?!04)|S3(?!05))", re.M)
 # the beginning of a record after a blank, or after a line that ends in CR alone
 MARKED = re.compile(rb"[ \t\r](?::|S[123])")
@@ -43,12 +45,11 @@ ENDS = {b":": re.compile(rb"^:00....01", re.M), b"S": re.compile(rb"^S[789]", re
 
 # how files begin that are neither firmware nor text. (cpio's old form has binary numbers, and a name below 256 bytes)
 PACKED = {
-    **{"an ar archive": rb"!<(arch|thin)>\n", "a zip archive": rb"PK(\x03\x04|\x05\x06)"},
-    **{"a tar archive": rb"(?s:.{257})ustar", "a cpio archive": rb"07070[127][0-9A-Fa-f]{30}|(?s:\xc7\x71.{19}\0)"},
-    **{"a 7z archive": rb"7z\xbc\xaf\x27\x1c", "a rar archive": rb"Rar!\x1a\x07"},
-    **{"a gzip file": rb"\x1f\x8b\x08", "an xz file": rb"\xfd7zXZ\0", "a bzip2 file": rb"BZh[1-9]"},
-    **{"a zstd file": rb"\x28\xb5\x2f\xfd", "an lz4 file": rb"(\x04\x22\x4d|\x02\x21\x4c)\x18"},
-    **{"an HTML page": rb"(?i)(\xef\xbb\xbf)?\s*<(!doctype html|html|head|body)\b"},
+    **{"ar": rb"!<(arch|thin)>\n", "zip": rb"PK(\x03\x04|\x05\x06)", "tar": rb"(?s:.{257})ustar"},
+    **{"cpio": rb"07070[127][0-9A-Fa-f]{30}|(?s:\xc7\x71.{19}\0)", "7z": rb"7z\xbc\xaf\x27\x1c"},
+    **{"rar": rb"Rar!\x1a\x07", "gzip": rb"\x1f\x8b\x08", "xz": rb"\xfd7zXZ\0", "bzip2": rb"BZh[1-9]"},
+    **{"zstd": rb"\x28\xb5\x2f\xfd", "lz4": rb"(\x04\x22\x4d|\x02\x21\x4c)\x18"},
+    **{"HTML": rb"(?i)(\xef\xbb\xbf)?\s*<(!doctype html|html|head|body)\b"},
 }
 
 # options of AVRDUDE and of avrstk
@@ -57,6 +58,12 @@ LONG = ["parts=", "serve=", "chip=", "wait=", "retry=", "backup=", "restore=", "
 LONG += ["each=", "from=", "rows=", "counter=", "version", "help"]
 
 IGNORED = {"-C", "-s", "-u"}
+
+# options that come without these others
+EXCLUDED = {
+    "--backup": {"-U", "-e", "-F", "--each", "--restore"},
+    "--restore": {"-U", "-e", "-D", "-V", "-n", "-F"},
+}
 
 # options without a value that go to avrstk
 FLAGS = {"-e", "-D", "-V", "-n", "-F", "-A", "-q", "-v"}
@@ -143,16 +150,10 @@ class Words:
         self.speeds = known if baud is None else (int(baud),) if re.fullmatch(r"0*[1-9][0-9]{0,8}", baud) else ()
         self.given = [value for name, value in options if name == "-U"]
         self.updates = [Update(update) for update in self.given]
-        excluded_by = [
-            ("--backup", "reads all memories of the part", "-U -e -F --each --restore"),
-            ("--restore", "erases and writes the chip, and compares it", "-U -e -D -V -n -F"),
-        ]
-        for name, what, excluded in excluded_by:
-            found = [option for option in excluded.split() if name in last and option in last]
+        for name in filter(last.__contains__, EXCLUDED):
+            found = sorted(EXCLUDED[name] & last.keys()) + [f"-c {self.programmer}"] * self.is_bootloader
             if found:
-                raise Fault(f"{name} {what}: it takes no {' or '.join(found)}")
-            if name in last and self.is_bootloader:
-                raise Fault(f"{name} needs a programmer, and -c {self.programmer} is for a bootloader")
+                raise Fault(f"{name} takes no {' or '.join(found)}")
         self.flags = [name for name, _ in options if name in FLAGS]
         # the images by their names, as far as they were read
         self.contents: dict[str, bytes | None] = {}
@@ -183,7 +184,7 @@ class Words:
     def content(self, file: str) -> bytes | None:
         """Returns the bytes of an image, which are read once; None if it can't be opened, which avrstk reports."""
         if file == "-" and (self.device or "").startswith("stdio:"):
-            raise Fault(f"-P stdio: needs standard input, so no image comes from it: {UNOPENED}")
+            raise Fault(f"-P stdio: takes no image from standard input: {UNOPENED}")
         if file not in self.contents:
             self.contents[file] = read_whole(file)
         return self.contents[file]
@@ -283,28 +284,10 @@ def judge_words(options: Sequence[tuple[str, str]], others: Sequence[str]) -> No
     """Refuses options without a value, and words without an option."""
     for option, value in options:
         if option in ("-p", "-P", "-b", "-c") and value.startswith("-"):
-            missing = f"is one missing before {value.partition('=')[0]}?"
-            raise Fault(f"{option} takes no value that begins with -: {missing}")
-    if not others:
-        return
-    other, update = others[0], dict(options).get("-U", "")
-    memory, _, rest = update.partition(":")
-    whole = " ".join([update, *others])
-    if update and " " in Update(whole).file and os.path.isfile(Update(whole).file):
-        raise Fault(f"a name with blanks needs quotes: give -U {shlex.quote(whole)}")
-    if memory in MEMORIES and rest in ("", "r", "w", "v", "r:", "w:", "v:"):
-        pieces = [word.strip(":") for word in [update, *others] if word.strip(":")]
-        joined = Update(":".join(pieces))
-        is_one = [option for option, _ in options].count("-U") == 1 and re.fullmatch("[^:]+", joined.file)
-        is_clear = is_one and joined.operation in ("r", "w", "v")
-        cure = f"give -U {shlex.quote(joined.given)}" if is_clear else "MEMORY:OP:FILE:FORMAT"
-        raise Fault(f"an update is one word: {cure}")
-    if "--try-rows" in dict(options) and other[:1] != "-":
-        raise Fault(f"{other} belongs to no option: there is --try-rows, and --try-rows=all")
-    if re.match("-.", other):
-        raise Fault(f"{other.partition('=')[0]} is after --, which ends the options")
-    cure = "is one, such as -U, missing before it, or quotes around a name with blanks?"
-    raise Fault(f"{other} belongs to no option: {cure}")
+            raise Fault(f"{option} needs a value before {value}")
+    if others:
+        other = re.sub("^(-.*?)=.*", r"\1", others[0])
+        raise Fault(f"no option takes {other} here (-U MEMORY:OP:FILE:FORMAT is one word)")
 
 
 class Update:
@@ -361,14 +344,14 @@ class Update:
         found = next(int(text, base) for text, base in zip(digits.groups(), (16, 2, 8, 10)) if text)
         return found if found < 256 else None
 
-    def mask(self, bits: Mapping[str, int]) -> str | None:
-        """Gives bits that the part's fuse or lock doesn't have as 1, as the part reads them. Returns what it lacks."""
-        value = self.value()
-        lacks = [str(bit) for bit in range(8) if not (bits.get(self.memory, 0xFF) | (value or 0)) >> bit & 1]
-        if value is None or not lacks:
-            return None
-        self.text = f"{self.memory}:{self.operation}:0x{value | ~bits[self.memory] & 0xFF:02X}:m"
-        return f"no bit{'s'[:len(lacks) > 1]} {', '.join(lacks)}; given as 1: {self.text}"
+    def mask(self, bits: Mapping[str, int]) -> bool:
+        """Gives bits that the part's fuse or lock doesn't have as 1, as the part reads them. Returns whether it changes
+        the value."""
+        value, lacks = self.value(), ~bits.get(self.memory, 0xFF) & 0xFF
+        if value is None or not lacks & ~value:
+            return False
+        self.text = f"{self.memory}:{self.operation}:0x{value | lacks:02X}:m"
+        return True
 
     def judge(self, content: bytes | None) -> None:
         """Refuses what avrstk would notice late, or not at all. Hands avrstk the bytes of an image that is judged."""
@@ -383,9 +366,8 @@ class Update:
         folder, is_target = os.path.dirname(self.file) or ".", self.operation == "r" and self.file != "-"
         if (is_target or self.is_image) and os.path.isdir(self.file):
             return "is a folder"
-        if is_target and not os.path.isdir(folder):
-            return f"cannot be created, since no folder {folder} can be reached"
-        if is_target and not os.access(self.file if os.path.exists(self.file) else folder, os.W_OK):
+        place = self.file if os.path.exists(self.file) else folder
+        if is_target and not (os.path.isdir(folder) and os.access(place, os.W_OK)):
             return "cannot be written"
         return None
 
@@ -398,22 +380,22 @@ class Update:
         is_elf, begins, is_detected = front[:4] == b"\x7fELF", RECORD.match(front), self.format in (None, "a")
         if is_elf and (is_detected or self.format == "e"):
             return self.fault_of_elf(held)
-        if is_elf and self.format == "r":
-            cure = f": give {self.given_as('e')}" * (self.memory in AREAS)
-            return f"is ELF, not the bytes of a memory{cure}"
+        if is_elf:
+            return "is ELF: give :e" if self.memory in AREAS else "is ELF"
         end = ENDS[begins[0].split()[0][:1]].search(held) if begins and self.format != "r" else None
         # (avrstk reports where records are that it can't read)
         is_marked = DATA.search(held) or MARKED.search(held, 0, end.start() if end else len(held))
         is_blank = self.format in ("i", "s") and not held.strip()
         if not held or is_blank or begins and self.format != "r" and not is_marked:
-            return "has no data (did its build fail?)"
+            return "has no data"
         # (a note may be after the end, too)
         if end and any(RECORD.match(held, found.start()) for found in DATA.finditer(held, end.end())):
-            return "has data after its end record, which would not be read; to join files use srec_cat"
+            return "has data after its end record"
+        if self.format in ("i", "s") and not BEGIN.match(held):
+            return "doesn't begin with a record"
         if self.format == "e" or is_detected and not packed_as(front) and self.file.lower().endswith(OF_ELF):
             form = form_of(held)
-            cure = f": it has {FORMATS[form]}: give {self.given_as(form)}" if form and self.memory in MEMORIES else ""
-            return f"is not ELF{', despite its name' * (self.format != 'e')}{cure}"
+            return f"is not ELF: give :{form}" if form else "is not ELF"
         return self.fault_of_detected(front) if is_detected else None
 
     def given_as(self, form: str) -> str:
@@ -422,15 +404,11 @@ class Update:
 
     def fault_of_detected(self, front: bytes) -> str | None:
         """Returns why a file whose format is detected is no image, by its first bytes; None if it is one."""
-        packed = packed_as(front)
-        if packed:
-            return f"begins like {packed}: give it as raw bytes (:r) only if its bytes are meant"
-        if RECORD.match(front) or not (is_text(front, 20) or self.memory == "flash" and is_text(front.strip(b"\0"), 2)):
-            return None
-        cure = "give it as raw bytes (:r) only if its characters are meant"
-        if self.memory in FUSES:
-            cure = f"give its value, as {self.memory}:{self.operation}:0xNN:m"
-        return f"looks like text, and doesn't begin with a record: {cure}"
+        kind = packed_as(front)
+        if not kind and not RECORD.match(front):
+            is_like_text = is_text(front, 20) or self.memory == "flash" and is_text(front.strip(b"\0"), 2)
+            kind = "text" if is_like_text else None
+        return f"looks like {kind}: give :r only if its bytes are meant" if kind else None
 
     def fault_of_elf(self, held: bytes) -> str | None:
         """Takes what an ELF file has for this memory, and the chip that it names. Returns why it can't be written."""
@@ -438,7 +416,7 @@ class Update:
             # (avrstk refuses it)
             return None
         if self.memory not in AREAS:
-            return f"is ELF, which isn't read for {self.memory}"
+            return "is ELF"
         try:
             sections, self.chip = sections_of(held)
         except ValueError as fault:
@@ -452,7 +430,7 @@ class Update:
         if not self.elf:
             return f"has no byte of {self.memory}"
         if size > MOST_OF_ELF:
-            return f"has {size:,} bytes of {self.memory}, more than {MOST_OF_ELF:,}"
+            return f"has more than {MOST_OF_ELF:,} bytes of {self.memory}"
         return None
 
     def hand_on(self, content: bytes | None, end: str = UNOPENED) -> None:
@@ -467,7 +445,7 @@ class Update:
                 while rest:
                     rest = rest[os.write(file, rest) :]
             except OSError as fault:
-                raise Fault(f"{self.file} can't be given to avrstk: {fault.strerror}: {end}")
+                raise Fault(f"{self.file}: {fault.strerror}: {end}")
         if self.elf:
             self.named = "e"
         # (a file that can't be opened has no ELF: avrstk, which doesn't know :e, reports it as Intel HEX)
@@ -493,11 +471,6 @@ class Update:
         other.text = f"{self.memory}:{self.operation}:{os.devnull}{form}"
         return other
 
-    def kind(self) -> str | None:
-        """Returns the letter of an image's format, which is detected if none is given; None of values."""
-        detected = form_of(self.front) or "r"
-        return detected if self.format in (None, "a") else self.format
-
     def writes(self, memory: str) -> bool:
         return self.operation == "w" and self.memory == memory
 
@@ -522,7 +495,7 @@ def read_whole(file: str) -> bytes | None:
                 ready({stream: READ})
             held += piece or b""
     except OSError as fault:
-        raise Fault(f"{file} can't be read: {fault.strerror}: {UNOPENED}")
+        raise Fault(f"{file}: {fault.strerror}: {UNOPENED}")
     raise Fault(f"{file} has more than {MOST:,} bytes: {UNOPENED}")
 
 
