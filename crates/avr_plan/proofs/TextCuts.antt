@@ -9,19 +9,24 @@ use Rattle.std.specs.Str.Pattern.{FindsTextPrefix, StripsPrefix, SplitsAroundMat
 use Rattle.std.proofs.lemmas.Str.Pattern.{split_parts, IsSplitOnceResult, NoCharPasses-char, drop_at_char}
 use Rattle.avr_plan.specs.Split.{after_prefix, split_first, split_last, colon}
 
+-- No character of the text is a colon.
 abbrev pub HasNoColon : List ℕ → Type 0
 HasNoColon text = (i : ℕ) → i < length text → get_or text i 0 ≢ colon
 
+-- A text without a colon has none after its first character.
 no_colon_after : (c : ℕ) (cs : List ℕ) → HasNoColon (c ∷ cs) → HasNoColon cs
 no_colon_after c cs h i l = h (suc i) (omega arith)
 
+-- The first character of such a text is no colon.
 no_colon_first : (c : ℕ) (cs : List ℕ) → HasNoColon (c ∷ cs) → (c == colon) ≡ false
 no_colon_first c cs h = let apart : c ≢ colon = h 0 (omega arith) in grind (arith, nat_tests)
 
+-- What follows a prefix is the rest.
 pub after_prefix-append : (ps rest : List ℕ) → after_prefix ps (ps ++ rest) ≡ Some rest
 after_prefix-append [] rest = refl
 after_prefix-append (p ∷ ps) rest = let e = after_prefix-append ps rest in grind (arith, nat_tests, e)
 
+-- Nothing follows a prefix that the text does not begin with.
 pub after_prefix-lacks : (ps text : List ℕ) → ((rest : List ℕ) → text ≢ ps ++ rest) → after_prefix ps text ≡ None
 after_prefix-lacks [] text h = absurd (h text refl)
 after_prefix-lacks (p ∷ ps) [] h = refl
@@ -31,34 +36,38 @@ after_prefix-lacks (p ∷ ps) (c ∷ cs) h = ⊎_elim
     (λ e. rw e refl)
     (cases_Bool (p == c))
 
--- the clause of `strip_prefix` at a text
+-- What the clause of `strip_prefix` says of a text is the definition.
 pub strips_prefix : (prefix text : List ℕ) (r : Option (Bor (List ℕ)))
     → MatchOption r (FindsTextPrefix prefix text None) (λ x. StripsPrefix (FindsTextPrefix prefix) text x.now)
     → option_map (λ s. s.now) r ≡ after_prefix prefix text
 strips_prefix prefix text r h = search (rules, after_prefix-lacks, after_prefix-append)
 
+-- A text without a colon is not split at the first one.
 split_first-none : (text : List ℕ) → HasNoColon text → split_first text ≡ None
 split_first-none [] h = refl
 split_first-none (c ∷ cs) h = rw (no_colon_first c cs h, split_first-none cs (no_colon_after c cs h)) refl
 
+-- A text is split at its first colon.
 split_first-parts : (xs ys : List ℕ) → HasNoColon xs → split_first (xs ++ colon ∷ ys) ≡ Some (xs, ys)
 split_first-parts [] ys h = refl
 split_first-parts (x ∷ xs) ys h = rw (no_colon_first x xs h, split_first-parts xs ys (no_colon_after x xs h)) refl
 
--- the clause of `split_once` at a colon
+-- What the clause of `split_once` says of a colon is the definition.
 pub splits_first : (text : List ℕ) (r : Option (Bor (List ℕ) × Bor (List ℕ))) → IsSplitOnceResult colon text r
     → option_map (λ s. (s.0.now, s.1.now)) r ≡ split_first text
 splits_first text r h = search (rules, split_first-none, split_parts, split_first-parts)
 
+-- A text without a colon is not split at the last one.
 split_last-none : (text : List ℕ) → HasNoColon text → split_last text ≡ None
 split_last-none [] h = refl
 split_last-none (c ∷ cs) h = rw (no_colon_first c cs h, split_last-none cs (no_colon_after c cs h)) refl
 
+-- A text is split at its last colon.
 pub split_last-parts : (xs ys : List ℕ) → HasNoColon ys → split_last (xs ++ colon ∷ ys) ≡ Some (xs, ys)
 split_last-parts [] ys h = rw (split_last-none ys h) refl
 split_last-parts (x ∷ xs) ys h = rw (split_last-parts xs ys h) refl
 
--- the clause of `rsplit_once` at a colon
+-- What the clause of `rsplit_once` says of a colon is the definition.
 pub splits_last : (text : List ℕ) (r : Option (Bor (List ℕ) × Bor (List ℕ)))
     → MatchOption r (RFindsChar colon text None) (λ x. SplitsAroundMatch (RFindsChar colon) text x.0.now x.1.now)
     → option_map (λ s. (s.0.now, s.1.now)) r ≡ split_last text

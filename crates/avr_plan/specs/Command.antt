@@ -1,7 +1,7 @@
 -- The command line: its options, as `clap` reads them, and what they give.
-use Rattle.std.specs.Prelude.{ℕ, true, false, List, [], ◌∷◌, ◌≡◌, Some, codes, pos, Result, unwrap_or, fold}
+use Rattle.std.specs.Prelude.{ℕ, true, false, List, [], ◌∷◌, ◌≡◌, Some, codes, pos, Result, unwrap_or}
 use Rattle.clap.specs.declared.builder.arg.Arg.{Arg}
-use Rattle.clap.specs.Words.{App, Row, Rule, rule_of, new_app, new_rule, with_rule, matches_of, first_of, all_of}
+use Rattle.clap.specs.Words.{App, Row, Rule, rule_of, new_app, new_rule, matches_of, first_of, all_of}
 use Rattle.clap.specs.declared.builder.ArgAction.{ArgAction}
 use Rattle.clap.specs.declared.builder.ArgAction.TheVariants.{SetTrue, Append, Count}
 use Rattle.clap.specs.declared.builder.value_parser.ValueParser.TheVariants.{Signed}
@@ -49,12 +49,9 @@ kind_rule id (kind.Value short name values.Number) =
 kind_rule id (kind.Flag short action) = flag_rule id short action
 kind_rule id (kind.LongValue name) = long_rule id
 
+-- inside: the rule of an option by its row in the code's table
 abbrev pub option_rule : CommandOption → Rule
 option_rule o = kind_rule o.id.now o.kind
-
--- the command with these options, too
-abbrev pub with_rules : App → List Rule → App
-with_rules = fold with_rule
 
 -- an option with this rule, of its own command alone
 pub record IsOption (arg : Arg) (rule : Rule) : Type 0 where

@@ -1,9 +1,9 @@
 -- What a desk records while an image file is read.
-use Rattle.std.specs.Prelude.{◌≡◌, ◌≤◌, ℕ, List, ◌++◌, length, Option, Bool, false, Result, Ok, Err, MatchBool}
+use Rattle.std.specs.Prelude.{◌≡◌, ◌≤◌, ℕ, List, [], ◌++◌, length, Option, Bool, false, Result, Ok, Err, MatchBool}
 use Rattle.avr_plan.specs.declared.update.Format.{Format}
 use Rattle.avr_desk.specs.Fault.{HasSameCounts}
-use Rattle.avr_desk.specs.Files.{after_reading, with_read, FileBreaks, CountsFileFault, EndsOrExceedsLimit}
-use Rattle.avr_desk.specs.Record.{DeskState, ChangesRecord, Bytes}
+use Rattle.avr_desk.specs.Files.{after_reading, with_read, CountsFileFault, EndsOrExceedsLimit}
+use Rattle.avr_desk.specs.Record.{DeskState, Record, ChangesRecord, Bytes}
 use Rattle.avr_desk.specs.declared.files.FileFault.{FileFault}
 use Rattle.avr_desk.specs.declared.files.FileFault.TheVariants.{NotRead}
 use Rattle.avr_records.specs.declared.kind.Ending.{Ending}
@@ -17,53 +17,43 @@ use Rattle.avr_plan.specs.declared.image_file.ReadFault.TheVariants.{File, Image
 abbrev pub ImageOrFault : Type 0
 ImageOrFault = Result (List (Option ℕ) × Ending) ReadFault
 
--- The result is this image, or the fault of this file. The desk hasn't failed.
-abbrev pub IsImageResult : ImageOrBadFile → ImageOrFault → Type 0
-IsImageResult given (Ok good) = Ok good ≡ given
-IsImageResult given (Err (Image bad)) = Err bad ≡ given
-IsImageResult given (Err (File fault)) = ⊥
+-- The file was read, and `Gives` holds of its image or fault. Or it was not read, and `Breaks` holds of the fault.
+abbrev pub MatchRead : (ImageOrBadFile → Type 0) → (FileFault → Type 0) → ImageOrFault → Type 0
+MatchRead Gives Breaks (Ok good) = Gives (Ok good)
+MatchRead Gives Breaks (Err (Image bad)) = Gives (Err bad)
+MatchRead Gives Breaks (Err (File fault)) = Breaks fault
 
 -- Only a fault of the desk is counted, not one of the image.
 abbrev pub CountsReadFault : DeskState → DeskState → ReadFault → Type 0
 CountsReadFault old new (File fault) = CountsFileFault old new fault
 CountsReadFault old new (Image bad) = HasSameCounts old new
 
--- Some bytes of the open file were read, and its end wasn't seen.
-abbrev pub IsReadInPart : DeskState → DeskState → Type 0
-IsReadInPart old new = (bytes : Bytes) × ChangesRecord (after_reading bytes false) old new
+-- Reading failed: some bytes of the open file were read, and its end wasn't seen.
+abbrev pub BreaksReading : DeskState → DeskState → FileFault → Type 0
+BreaksReading old new fault = (fault ≡ NotRead) × (bytes : Bytes) × ChangesRecord (after_reading bytes false) old new
 
 -- The open file was read to its end, or its first 1,024 bytes were read; or reading failed.
 abbrev pub FirstBytesAreRead : DeskState → DeskState → Result FirstBytes FileFault → Type 0
 FirstBytesAreRead old new (Ok prefix) = ChangesRecord (after_reading prefix.bytes.items prefix.ended) old new
     × MatchBool prefix.ended (length prefix.bytes.items ≤ 1024) (length prefix.bytes.items ≡ 1024)
-FirstBytesAreRead old new (Err fault) = (fault ≡ NotRead) × IsReadInPart old new
+FirstBytesAreRead old new (Err fault) = BreaksReading old new fault
 
--- After `before` the rest of the open file was read, to its end or past the limit. `given` is the image of both.
-pub record ReadsRest (limit : ℕ) (found : Found) (size : ℕ) (before : Bytes) (old new : DeskState)
-    (given : ImageOrBadFile) : Type 0 where
+-- After the bytes `before`, a file was read to its end or past the limit, which the desk records as `after_bytes` says.
+-- `given` is what `image_of` makes of all bytes.
+pub record ReadsToEnd (limit : ℕ) (before : Bytes) (after_bytes : Bytes → Bool → Record → Record)
+    (image_of : Bytes → ImageOrBadFile) (old new : DeskState) (given : ImageOrBadFile) : Type 0 where
   pub bytes : Bytes
   pub ended : Bool
-  pub kept : ChangesRecord (after_reading bytes ended) old new
+  pub kept : ChangesRecord (after_bytes bytes ended) old new
   pub whole : EndsOrExceedsLimit limit (record { bytes = before ++ bytes; ended = ended })
-  pub gives : given ≡ image_of_file_within limit found (before ++ bytes) size
+  pub gives : given ≡ image_of (before ++ bytes)
 
--- The rest was read and the result is the file's, or reading failed.
-abbrev pub RestIsRead : ℕ → Found → ℕ → Bytes → DeskState → DeskState → ImageOrFault → Type 0
-RestIsRead limit found size before old new (Ok good) = ReadsRest limit found size before old new (Ok good)
-RestIsRead limit found size before old new (Err (Image bad)) = ReadsRest limit found size before old new (Err bad)
-RestIsRead limit found size before old new (Err (File fault)) = (fault ≡ NotRead) × IsReadInPart old new
+-- The rest of the open file was read.
+abbrev pub ReadsRest : ℕ → Found → ℕ → Bytes → DeskState → DeskState → ImageOrBadFile → Type 0
+ReadsRest limit found size before =
+    ReadsToEnd limit before after_reading (λ bytes. image_of_file_within limit found bytes size)
 
--- The file was opened and read to its end or past the limit. `given` is its image.
-pub record ReadsImage (limit : ℕ) (format : Format) (size : ℕ) (name : Bytes) (old new : DeskState)
-    (given : ImageOrBadFile) : Type 0 where
-  pub bytes : Bytes
-  pub ended : Bool
-  pub kept : ChangesRecord (with_read name bytes ended) old new
-  pub whole : EndsOrExceedsLimit limit (record { bytes = bytes; ended = ended })
-  pub gives : given ≡ image_within limit format bytes size
-
--- The file was read and the result is its image or fault, or opening or reading failed.
-abbrev pub ImageIsRead : ℕ → Format → ℕ → Bytes → DeskState → DeskState → ImageOrFault → Type 0
-ImageIsRead limit format size name old new (Ok good) = ReadsImage limit format size name old new (Ok good)
-ImageIsRead limit format size name old new (Err (Image bad)) = ReadsImage limit format size name old new (Err bad)
-ImageIsRead limit format size name old new (Err (File fault)) = FileBreaks name old new fault
+-- The file of this name was opened and read.
+abbrev pub ReadsImage : ℕ → Format → ℕ → Bytes → DeskState → DeskState → ImageOrBadFile → Type 0
+ReadsImage limit format size name =
+    ReadsToEnd limit [] (with_read name) (λ bytes. image_within limit format bytes size)

@@ -1,10 +1,10 @@
--- The lines of warnings and errors while a plan is made.
+-- The messages of errors while a plan is made, in pieces.
 use Rattle.std.specs.Prelude.{ℕ, List, [], ◌∷◌, codes, decimal}
 use Rattle.byteorder.specs.Endian.{big_bytes}
 use Rattle.avr_desk.specs.Record.{Bytes}
 use Rattle.avr_image.specs.declared.fault.ImageFault.{ImageFault}
 use Rattle.avr_image.specs.declared.fault.ImageFault.TheVariants as image_fault
-use Rattle.avr_desk.specs.Lines.{digits, warning, error, file_pieces, memory_pieces, too_long_pieces}
+use Rattle.avr_desk.specs.Lines.{digits, file_pieces, memory_pieces, too_long_pieces}
 use Rattle.avr_part.specs.Fault.{field_name}
 use Rattle.avr_part.specs.Mem.{name_of}
 use Rattle.avr_part.specs.declared.fault.PartFault.{PartFault}
@@ -18,9 +18,6 @@ use Rattle.avr_plan.specs.declared.intake.BadFile.TheVariants as bad_file
 use Rattle.avr_plan.specs.declared.image_file.ReadFault.{ReadFault}
 use Rattle.avr_plan.specs.declared.image_file.ReadFault.TheVariants as read_fault
 
-abbrev pub no_end_line : Bytes → Bytes
-no_end_line file = warning (file ∷ codes ": no end record" ∷ [])
-
 -- ---- parts
 
 -- Any other fault of a part file is a failed allocation.
@@ -31,17 +28,13 @@ part_file_pieces file (part_fault.BadValue field) = file ∷ codes ": " ∷ fiel
 part_file_pieces file part_fault.BadSizes = file ∷ codes ": sizes do not fit" ∷ []
 part_file_pieces file fault = memory_pieces
 
-abbrev pub part_file_line : Bytes → PartFault → Bytes
-part_file_line file fault = error (part_file_pieces file fault)
-
+-- No part has this id.
 abbrev pub no_part_pieces : Bytes → List Bytes
 no_part_pieces id = codes "no part " ∷ id ∷ []
 
-abbrev pub no_part_line : Bytes → Bytes
-no_part_line id = error (no_part_pieces id)
-
 -- ---- images
 
+-- What is wrong in this line of a file.
 abbrev pub in_line_pieces : Bytes → ℕ → Bytes → List Bytes
 in_line_pieces file line text = file ∷ codes ": line " ∷ decimal line ∷ text ∷ []
 
@@ -71,13 +64,12 @@ bad_file_pieces file (bad_file.Raw fault) = memory_pieces
 bad_file_pieces file bad_file.Elf = file ∷ codes ": ELF is not read" ∷ []
 bad_file_pieces file bad_file.TooLong = too_long_pieces file LARGEST_IMAGE_FILE
 
-abbrev pub bad_file_line : Bytes → BadFile → Bytes
-bad_file_line file bad = error (bad_file_pieces file bad)
-
+-- Why a file gave no image.
 abbrev pub image_pieces : Bytes → ReadFault → List Bytes
 image_pieces file (read_fault.File fault) = file_pieces file fault
 image_pieces file (read_fault.Image bad) = bad_file_pieces file bad
 
+-- What is wrong with the value at this place.
 abbrev pub value_pieces : Mem → ℕ → Bytes → List Bytes
 value_pieces memory place text = name_of memory ∷ codes ": value " ∷ decimal place ∷ text ∷ []
 
@@ -88,11 +80,6 @@ values_pieces memory (image_fault.BadNumber place) = value_pieces memory place (
 values_pieces memory (image_fault.TooLarge place) = value_pieces memory place (codes ": above 255")
 values_pieces memory fault = memory_pieces
 
-abbrev pub values_line : Mem → ImageFault → Bytes
-values_line memory fault = error (values_pieces memory fault)
-
+-- The memory cannot be written.
 abbrev pub read_only_pieces : Mem → List Bytes
 read_only_pieces memory = name_of memory ∷ codes " is read-only" ∷ []
-
-abbrev pub read_only_line : Mem → Bytes
-read_only_line memory = error (read_only_pieces memory)

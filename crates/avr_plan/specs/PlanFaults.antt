@@ -7,7 +7,7 @@ use Rattle.avr_desk.specs.Fault.{CountsNeverFall, HasFailedToReport}
 use Rattle.avr_desk.specs.Lines.{error, file_fault_line, memory_line, too_long_line}
 use Rattle.avr_desk.specs.Record.{DeskState, Bytes}
 use Rattle.avr_desk.specs.OutputEvents.{ReportsLine}
-use Rattle.avr_plan.specs.Lines.{image_pieces, no_part_line, part_file_line, read_only_line, values_line}
+use Rattle.avr_plan.specs.Lines.{image_pieces, no_part_pieces, part_file_pieces, read_only_pieces, values_pieces}
 use Rattle.avr_plan.specs.declared.part_choice.TheConstants.{LARGEST_PART_FILE}
 use Rattle.avr_plan.specs.declared.plan_fault.PartsFault.{PartsFault}
 use Rattle.avr_plan.specs.declared.plan_fault.PartsFault.TheVariants as of_parts
@@ -28,13 +28,13 @@ ReportsLast line old new = (between : DeskState) × (CountsNeverFall old between
 abbrev pub ReportsPartsFault : Option Bytes → DeskState → DeskState → PartsFault → Type 0
 ReportsPartsFault (Some file) old new (of_parts.File fault) = ReportsLast (file_fault_line file fault) old new
 ReportsPartsFault (Some file) old new of_parts.TooLong = ReportsLast (too_long_line file LARGEST_PART_FILE) old new
-ReportsPartsFault (Some file) old new (of_parts.Parts fault) = ReportsLast (part_file_line file fault) old new
+ReportsPartsFault (Some file) old new (of_parts.Parts fault) = ReportsLast (error (part_file_pieces file fault)) old new
 ReportsPartsFault None old new fault = ⊥
 
 -- For `Unwarned` no line follows: the warning could not be printed.
 abbrev pub ReportsTaskFault : Update → DeskState → DeskState → TaskFault → Type 0
-ReportsTaskFault u old new ReadOnly = ReportsLast (read_only_line u.memory) old new
-ReportsTaskFault u old new (Values fault) = ReportsLast (values_line u.memory fault) old new
+ReportsTaskFault u old new ReadOnly = ReportsLast (error (read_only_pieces u.memory)) old new
+ReportsTaskFault u old new (Values fault) = ReportsLast (error (values_pieces u.memory fault)) old new
 ReportsTaskFault u old new (File fault) = ReportsLast (error (image_pieces u.file fault)) old new
 ReportsTaskFault u old new Memory = ReportsLast memory_line old new
 ReportsTaskFault u old new Unwarned = HasFailedToReport old new
@@ -48,5 +48,5 @@ ReportsTasksFault updates old new fault = ⊥
 -- The line of each fault of a plan was reported.
 abbrev pub ReportsPlanFault : Settings → DeskState → DeskState → PlanFault → Type 0
 ReportsPlanFault s old new (PartFile fault) = ReportsPartsFault s.parts old new fault
-ReportsPlanFault s old new NoPart = ReportsLast (no_part_line s.part) old new
+ReportsPlanFault s old new NoPart = ReportsLast (error (no_part_pieces s.part)) old new
 ReportsPlanFault s old new (OfUpdate index fault) = ReportsTasksFault s.updates old new (OfUpdate index fault)

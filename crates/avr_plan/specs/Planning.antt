@@ -1,5 +1,5 @@
 -- The stages of a plan in order: the part file, the part, and each update with its file.
-use Rattle.std.specs.Prelude.{ℕ, Bool, false, nat_le, nat_lt, List, [], ◌∷◌, ◌++◌, length, Option, Some, None, Result, Ok, Err, IsErr, if◌then◌else◌}
+use Rattle.std.specs.Prelude.{ℕ, Bool, false, nat_le, nat_lt, List, [], ◌∷◌, ◌++◌, length, Option, Some, None, Result, Ok, Err, IsErr, codes, if◌then◌else◌}
 use Rattle.std.specs.Result.{result_map_both}
 use Rattle.avr_desk.specs.Record.{DeskState, Bytes}
 use Rattle.avr_plan.specs.declared.settings.Settings.{Settings}
@@ -10,7 +10,7 @@ use Rattle.avr_plan.specs.declared.update.Op.{Op}
 use Rattle.avr_plan.specs.declared.update.Op.TheVariants as op
 use Rattle.avr_plan.specs.declared.update.Update.{Update}
 use Rattle.avr_image.specs.Values.{image_of_values}
-use Rattle.avr_desk.specs.Lines.{too_long_line}
+use Rattle.avr_desk.specs.Lines.{error, warning, too_long_line}
 use Rattle.avr_desk.specs.OutputEvents.{OutputEvent, PrintsLine, ReportsLine}
 use Rattle.avr_part.specs.BuiltIn.{part_of_id}
 use Rattle.avr_part.specs.Mem.{is_writable}
@@ -22,7 +22,7 @@ use Rattle.avr_records.specs.declared.kind.Ending.TheVariants.{Ended, NoEnd}
 use Rattle.avr_plan.specs.declared.image_file.TheConstants.{LARGEST_IMAGE_FILE}
 use Rattle.avr_plan.specs.declared.part_choice.TheConstants.{LARGEST_PART_FILE}
 use Rattle.avr_plan.specs.ImageFile.{image_within}
-use Rattle.avr_plan.specs.Lines.{bad_file_line, no_end_line, no_part_line, part_file_line, read_only_line, values_line}
+use Rattle.avr_plan.specs.Lines.{bad_file_pieces, no_part_pieces, part_file_pieces, read_only_pieces, values_pieces}
 use Rattle.avr_plan.specs.Plan.{Plan}
 use Rattle.avr_desk.specs.Stage.{Stage, ◌>>=◌, result_stage, output_stage, file_stage}
 use Rattle.avr_plan.specs.declared.planned.Task.{Task}
@@ -30,14 +30,14 @@ use Rattle.avr_plan.specs.declared.planned.Task.TheVariants.{Write, Verify, Read
 
 -- ---- the part
 
--- The result, with a fault's line in place of the fault.
-abbrev pub or_line : {A E : Type 0} → (E → Bytes) → Result A E → Result A Bytes
-or_line line result = result_map_both (λ good. good) line result
+-- The result, with the line of an error in place of the fault, whose message has these pieces.
+abbrev pub or_line : {A E : Type 0} → (E → List Bytes) → Result A E → Result A Bytes
+or_line pieces result = result_map_both (λ good. good) (λ fault. error (pieces fault)) result
 
 -- The parts of a part file with these bytes, or the line that refuses it.
 abbrev pub checked_parts : Bytes → Bytes → Result (List Part) Bytes
 checked_parts file bytes =
-    if nat_le (length bytes) LARGEST_PART_FILE then or_line (λ bad. part_file_line file bad.fault) (parts_of bytes)
+    if nat_le (length bytes) LARGEST_PART_FILE then or_line (λ bad. part_file_pieces file bad.fault) (parts_of bytes)
     else Err (too_long_line file LARGEST_PART_FILE)
 
 -- The parts of the part file. Without one there are none.
@@ -47,11 +47,11 @@ parts_stage (Some file) = file_stage file LARGEST_PART_FILE (checked_parts file)
 
 -- The part with this id. Parts of the file come before the built-in ones.
 abbrev pub part_stage : Bytes → List Part → Stage Part
-part_stage id parts = result_stage (or_line (λ fault. no_part_line id) (part_of_id id parts))
+part_stage id parts = result_stage (or_line (λ fault. no_part_pieces id) (part_of_id id parts))
 
 -- No part has this id, and this was reported.
 abbrev pub LacksPart : Bytes → List Part → DeskState → DeskState → Type 0
-LacksPart id parts old new = IsErr (part_of_id id parts) × ReportsLine old new (no_part_line id)
+LacksPart id parts old new = IsErr (part_of_id id parts) × ReportsLine old new (error (no_part_pieces id))
 
 -- ---- the image of an update
 
@@ -62,11 +62,13 @@ is_warned switches NoEnd = nat_lt switches.quiet 2
 
 -- The warning about a missing end record, if it is due.
 abbrev pub warning_events : Switches → Bytes → Ending → List OutputEvent
-warning_events switches file ending = if is_warned switches ending then PrintsLine (no_end_line file) ∷ [] else []
+warning_events switches file ending =
+    if is_warned switches ending then PrintsLine (warning (file ∷ codes ": no end record" ∷ [])) ∷ [] else []
 
 -- The image of a file with these bytes, or the line that refuses it.
 abbrev pub checked_image : Bytes → Format → ℕ → Bytes → Result (List (Option ℕ) × Ending) Bytes
-checked_image file format size bytes = or_line (bad_file_line file) (image_within LARGEST_IMAGE_FILE format bytes size)
+checked_image file format size bytes =
+    or_line (bad_file_pieces file) (image_within LARGEST_IMAGE_FILE format bytes size)
 
 -- Reads the image of a file, and warns of a missing end record.
 abbrev pub file_image_stage : Switches → Bytes → Format → ℕ → Stage (List (Option ℕ))
@@ -78,7 +80,7 @@ file_image_stage switches file format size = do
 -- Immediate values are on the command line. Any other image is in a file.
 abbrev pub image_stage : Switches → Mem → ℕ → Bytes → Format → Stage (List (Option ℕ))
 image_stage switches memory size file Immediate =
-    result_stage (or_line (values_line memory) (image_of_values file size))
+    result_stage (or_line (values_pieces memory) (image_of_values file size))
 image_stage switches memory size file format = file_image_stage switches file format size
 
 -- ---- the tasks
@@ -91,7 +93,7 @@ update_image switches part u = image_stage switches u.memory (size_of u.memory p
 abbrev pub write_stage : Switches → Part → Update → Stage Task
 write_stage switches part u =
     if is_writable u.memory then (update_image switches part u >>= λ image. result_stage (Ok (Write u.memory image)))
-    else result_stage (Err (read_only_line u.memory))
+    else result_stage (Err (error (read_only_pieces u.memory)))
 
 -- The task of an update with this operation.
 abbrev pub op_stage : Switches → Part → Update → Op → Stage Task
@@ -99,6 +101,7 @@ op_stage switches part u op.Write = write_stage switches part u
 op_stage switches part u op.Verify = update_image switches part u >>= λ image. result_stage (Ok (Verify u.memory image))
 op_stage switches part u op.Read = result_stage (Ok (Read u.memory u.format u.file))
 
+-- The task of an update.
 abbrev pub task_stage : Switches → Part → Update → Stage Task
 task_stage switches part u = op_stage switches part u u.op
 

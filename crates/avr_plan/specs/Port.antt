@@ -1,12 +1,12 @@
 -- The port that the text of `-P` or of `--serve` names.
-use Rattle.std.specs.Prelude.{◌==◌, ◌&&◌, ℕ, Bool, false, not, is_some, nat_le, nat_lt, length, Option, Some, None, Result, Ok}
+use Rattle.std.specs.Prelude.{◌==◌, ◌&&◌, ℕ, Bool, false, not, is_some, nat_le, nat_lt, length, Option, Some, None, Result, Ok, ok_or}
 use Rattle.std.specs.Prelude.{Err, codes, if◌then◌else◌}
 use Rattle.std.specs.List.{list_all}
 use Rattle.std.specs.Option.{option_map_or}
 use Rattle.std.specs.Char.{is_ascii_digit}
 use Rattle.std.specs.Str.{bytes_eq}
 use Rattle.std.specs.Str.Parse.{digits_value}
-use Rattle.avr_part.specs.PartFile.{Bytes}
+use Rattle.avr_part.specs.PartFile.{Bytes, ◌>>=◌}
 use Rattle.avr_plan.specs.Split.{after_prefix, split_last}
 use Rattle.avr_plan.specs.declared.settings.Port.{Port}
 use Rattle.avr_plan.specs.declared.settings.Port.TheVariants.{Stdio, Emulated, Network, Served}
@@ -38,8 +38,7 @@ port_of text =
 
 -- the port of `-P`, which has to be given
 abbrev pub port_of_option : Option Bytes → Result Port SettingsFault
-port_of_option None = Err (BadPort None)
-port_of_option (Some text) = port_of text
+port_of_option given = ok_or given (BadPort None) >>= port_of
 
 -- the port of `--serve`, by its number, with the file of `--chip`
 abbrev pub port_to_serve : Bytes → Option ℕ → Option Bytes → Result Port SettingsFault

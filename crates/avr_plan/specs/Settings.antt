@@ -100,16 +100,12 @@ run_settings part e = do
   streams ← checked_streams port updates e.parts e.chip
   Ok (record { part = part; port = port; parts = e.parts; updates = updates; switches = e.switches })
 
--- no switch is given
-abbrev pub no_switches : Switches
-no_switches = switches_of []
-
 -- the settings of an emulator that serves at a port; programmer, updates and switches don't count
 abbrev pub serve_settings : Bytes → Bytes → Entries → Result Settings SettingsFault
 serve_settings part text e = do
   port ← port_to_serve text (port_number text) e.chip
   streams ← checked_streams port [] e.parts e.chip
-  Ok (record { part = part; port = port; parts = e.parts; updates = []; switches = no_switches })
+  Ok (record { part = part; port = port; parts = e.parts; updates = []; switches = switches_of [] })
 
 -- the settings of a service if `--serve` is given, else of a run
 abbrev pub settings_of : Entries → Result Settings SettingsFault

@@ -9,6 +9,7 @@ after_prefix [] text = Some text
 after_prefix (p ∷ ps) [] = None
 after_prefix (p ∷ ps) (c ∷ cs) = if p == c then after_prefix ps cs else None
 
+-- the code of `:`
 abbrev pub colon : ℕ
 colon = 58
 

@@ -26,6 +26,7 @@ op_name Read = codes "r"
 op_name Write = codes "w"
 op_name Verify = codes "v"
 
+-- the operation with this letter
 abbrev pub op_named : Bytes → Option Op
 op_named name = find (λ op. bytes_eq name (op_name op)) (Read ∷ Write ∷ Verify ∷ [])
 

@@ -1,7 +1,7 @@
 //! The options of the command line, and how `clap` reads them.
-ghost use Rattle.std.specs.Prelude.{◌≡◌, IfOk, IfErr, true, map, string_bytes};
-ghost use Rattle.clap.specs.Words.{app_of, rows_of, found_of, matches_of, takes, kind_of, fault_of, FailsBy};
-ghost use Rattle.avr_plan.specs.Command.{IsOption, avrstk, option_rule, with_rules};
+ghost use Rattle.std.specs.Prelude.{◌≡◌, IfOk, IfErr, true, fold, map, string_bytes};
+ghost use Rattle.clap.specs.Words.{app_of, with_rule, rows_of, found_of, matches_of, takes, kind_of, fault_of, FailsBy};
+ghost use Rattle.avr_plan.specs.Command.{IsOption, avrstk, option_rule};
 
 use clap::error::ErrorKind;
 use clap::{Arg, ArgAction, ArgMatches, Command, Error, value_parser};
@@ -167,7 +167,7 @@ fn with_options<'a>(
     mut command: Command<'a>,
     options: &[CommandOption],
 ) -> Result<Command<'a>, AllocError>
-    ensures { IfOk result (λ c. app_of c ≡ with_rules (app_of command.entry) (map option_rule options.now)) }
+    ensures { IfOk result (λ c. app_of c ≡ fold with_rule (app_of command.entry) (map option_rule options.now)) }
 {
     for option in options {
         command = command.arg(option_arg(alloc, option))?;

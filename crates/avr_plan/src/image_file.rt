@@ -5,8 +5,8 @@ ghost use Rattle.avr_desk.specs.Record.{DeskState, Bytes};
 ghost use Rattle.avr_records.specs.declared.kind.Found.{Found as AnyFound};
 ghost use Rattle.avr_plan.specs.Faults.{read_fault_number};
 ghost use Rattle.avr_plan.specs.ImageFile.{kind_of, image_of_file};
-ghost use Rattle.avr_desk.specs.Files.{CountsFileFault};
-ghost use Rattle.avr_plan.specs.ImageReading.{IsImageResult, FirstBytesAreRead, RestIsRead, ImageIsRead, CountsReadFault};
+ghost use Rattle.avr_desk.specs.Files.{CountsFileFault, FileBreaks};
+ghost use Rattle.avr_plan.specs.ImageReading.{BreaksReading, CountsReadFault, FirstBytesAreRead, MatchRead, ReadsImage, ReadsRest};
 ghost use Rattle.avr_plan.specs.Intake.{WasFed, record_bytes_fed};
 ghost use Rattle.ghosts.specs.Preserves.{Preserves};
 ghost use Rattle.avr_part.specs.Part.{size_of};
@@ -107,7 +107,7 @@ fn read_first_bytes<D: Desk>(desk: &mut D) -> Result<FirstBytes, FileFault>
 
 fn finish(intake: Intake) -> Result<(Image, Ending), ReadFault>
     ensures given { (found : AnyFound) (size : ℕ) (text : Bytes) → WasFed found size intake text
-        → IsImageResult (image_of_file found text size) result }
+        → MatchRead (λ given. given ≡ image_of_file found text size) (λ fault. ⊥) result }
     ensures counted { IfErr result (λ fault. (old new : DeskState) → HasSameCounts old new
         → CountsReadFault old new fault) }
 {
@@ -125,7 +125,8 @@ fn read_rest<D: Desk>(
 ) -> Result<(Image, Ending), ReadFault>
     requires { record_bytes_fed intake + left < 2 ^ 31 }
     ensures read { (limit : ℕ) (found : AnyFound) (size : ℕ) (before : Bytes) → WasFed found size intake before
-        → length before + left ≡ limit → RestIsRead limit found size before (D.view desk.old) (D.view desk.new) result }
+        → length before + left ≡ limit → MatchRead (ReadsRest limit found size before (D.view desk.old)
+        (D.view desk.new)) (BreaksReading (D.view desk.old) (D.view desk.new)) result }
     ensures follows { CountsNeverFall (D.view desk.old) (D.view desk.new) }
     ensures counted { IfErr result (CountsReadFault (D.view desk.old) (D.view desk.new)) }
     ensures sound { OnOk result (HasSameCounts (D.view desk.old) (D.view desk.new)) }
@@ -175,7 +176,8 @@ pub fn read_image<D: Desk>(
     format: Format,
     size: u32,
 ) -> Result<(Image, Ending), ReadFault>
-    ensures read { ImageIsRead LARGEST_IMAGE_FILE format size name.now (D.view desk.old) (D.view desk.new) result }
+    ensures read { MatchRead (ReadsImage LARGEST_IMAGE_FILE format size name.now (D.view desk.old) (D.view desk.new))
+        (FileBreaks name.now (D.view desk.old) (D.view desk.new)) result }
     ensures follows { CountsNeverFall (D.view desk.old) (D.view desk.new) }
     ensures counted { IfErr result (CountsReadFault (D.view desk.old) (D.view desk.new)) }
     ensures sound { OnOk result (HasSameCounts (D.view desk.old) (D.view desk.new)) }

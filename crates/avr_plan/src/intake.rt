@@ -90,7 +90,7 @@ impl Intake {
     /// Feeds the next bytes of the file. After a fault, more bytes change nothing.
     pub(crate) fn fed(self, piece: &[u8]) -> Intake
         requires { record_bytes_fed self + length piece.now < 2 ^ 32 }
-        ensures takes { (found : AnyFound) (size : ℕ) (text : Bytes) → WasFed found size self text
+        ensures feeds { (found : AnyFound) (size : ℕ) (text : Bytes) → WasFed found size self text
             → WasFed found size result (text ++ piece.now) }
         ensures count { record_bytes_fed result ≤ record_bytes_fed self + length piece.now }
     {

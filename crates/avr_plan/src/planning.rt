@@ -43,8 +43,7 @@ fn update_task<D: Desk>(
     update: &Update,
 ) -> Result<Task, TaskFault>
     ensures goes { RunsStage (OnlyAtStart (op_allocates update.now update.now.op)) (task_stage switches part.now
-        update.now)
-        (D.view desk.old) (D.view desk.new) (with_status result) }
+        update.now) (D.view desk.old) (D.view desk.new) (with_status result) }
     ensures notice { IfErr result (ReportsTaskFault update.now (D.view desk.old) (D.view desk.new)) }
     ensures fitted { IfOk result (IsFitted part.now) }
     ensures same { tasks.new.items ≡ tasks.old.items }

@@ -1,7 +1,7 @@
 //! The settings of a run, and why a command line has none.
 ghost use Rattle.std.specs.Prelude.{◌≡◌, [], None, IfOk};
 ghost use Rattle.avr_plan.specs.Faults.{settings_fault_number};
-ghost use Rattle.avr_plan.specs.Settings.{no_switches};
+ghost use Rattle.avr_plan.specs.Settings.{switches_of};
 
 use crate::text::Text;
 use crate::update::{UpdateFault, Updates};
@@ -46,7 +46,7 @@ pub struct Switches {
 impl Switches {
     /// Returns all switches off, and `-q` not given.
     pub fn none() -> Switches
-        ensures { result ≡ no_switches }
+        ensures { result ≡ switches_of [] }
     {
         Switches {
             erase: false,
@@ -94,7 +94,7 @@ impl Settings {
     /// ```
     pub fn for_link(alloc: Global, part: &str) -> Result<Settings, AllocError>
         ensures { IfOk result (λ s. s
-            ≡ record { part = part.now; port = Port.Stdio; parts = None; updates = []; switches = no_switches }) }
+            ≡ record { part = part.now; port = Port.Stdio; parts = None; updates = []; switches = switches_of [] }) }
     {
         Ok(Settings {
             part: Text::new(alloc, part)?,

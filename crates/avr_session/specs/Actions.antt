@@ -24,6 +24,7 @@ pub data Action : Type 0 where
   SaveMemory : Mem → Format → Bytes → Action
   SkipAction : SkippedByDryRun → Action
 
+-- The task writes an image to flash.
 abbrev pub writes_flash : Task → Bool
 writes_flash (Write Flash image) = true
 writes_flash task = false

@@ -7,19 +7,16 @@ use Rattle.avr_session.specs.declared.ending.End.{End}
 use Rattle.avr_session.specs.declared.ending.End.TheVariants as ends
 use Rattle.avr_session.specs.Standing.{Standing, NoFault, Faulty, Over}
 
--- A failed link and a failed allocation stop the run; no other fault does.
-abbrev pub after_outcome : {A : Type 0} → Result A HostFault → Result ⊤ End
-after_outcome (Ok a) = Ok tt
-after_outcome (Err LinkEnded) = Err (ends.Over LinkEnded)
-after_outcome (Err SendFailed) = Err ends.Stopped
-after_outcome (Err RecvFailed) = Err ends.Stopped
-after_outcome (Err Memory) = Err ends.Stopped
-after_outcome (Err fault) = Err (ends.Faulty fault)
-
--- A desk that fails while it reports the outcome stops the run too.
+-- How a session ends or goes on after this outcome and this result of reporting it. A failed desk, a failed link and a
+-- failed allocation stop the run; no other fault does.
 abbrev pub conclusion : {A : Type 0} → Result A HostFault → Result ⊤ DeskFault → Result ⊤ End
-conclusion outcome (Ok done) = after_outcome outcome
 conclusion outcome (Err _) = Err ends.Stopped
+conclusion (Ok a) (Ok done) = Ok tt
+conclusion (Err LinkEnded) (Ok done) = Err (ends.Over LinkEnded)
+conclusion (Err SendFailed) (Ok done) = Err ends.Stopped
+conclusion (Err RecvFailed) (Ok done) = Err ends.Stopped
+conclusion (Err Memory) (Ok done) = Err ends.Stopped
+conclusion (Err fault) (Ok done) = Err (ends.Faulty fault)
 
 -- The state of a session after this result, unless it stopped.
 abbrev pub standing_after : Result ⊤ End → Result Standing ⊤

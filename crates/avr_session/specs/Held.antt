@@ -5,7 +5,7 @@ use Rattle.avr_session.specs.declared.session.Session.{Session}
 use Rattle.avr_session.specs.declared.ending.End.{End}
 use Rattle.avr_session.specs.Actions.{Action}
 use Rattle.avr_session.specs.Concluding.{standing_after}
-use Rattle.avr_session.specs.Outcomes.{EndsWithFaultLine}
+use Rattle.avr_session.specs.Outcomes.{EndsWithFaultLine, outcome_of}
 use Rattle.avr_session.specs.Performing.{Performing, DoesPlanActions}
 use Rattle.avr_session.specs.Runs.{devices}
 use Rattle.ghosts.specs.Preserves.{Preserves}
@@ -26,7 +26,7 @@ pub record RunsSessionPart {D L : Type 0} (link : Links L) (desk : Desks D) (Par
   pub same_desk : new.desk.ghost_name ≡ old.desk.ghost_name
   pub link_kept : Preserves link.started_as old.link.now new.link.now
   pub desk_kept : Preserves desk.started_as old.desk.now new.desk.now
-  pub last_line : EndsWithFaultLine new.plan.now.part (desk.view new.desk.now) result
+  pub last_line : EndsWithFaultLine new.plan.now.part (desk.view new.desk.now) (outcome_of result)
 
 -- These actions of the plan were done in order, up to the first fault.
 abbrev pub Does : {D L : Type 0} → Links L → Desks D → List Action → Session D L → Session D L → Result ⊤ End → Type 0

@@ -47,5 +47,6 @@ fault_pieces part (ReadOnly mem) = read_only_pieces mem
 fault_pieces part Memory = memory_pieces
 fault_pieces part RecvFailed = unreceived_pieces
 
+-- The line that reports a fault of the host.
 unfoldable pub fault_line : Part → HostFault → Bytes
 fault_line part fault = error (fault_pieces part fault)

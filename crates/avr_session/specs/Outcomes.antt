@@ -29,10 +29,9 @@ ComesTo plan old new outcome.Stopped = StopsSession plan old new
 -- ---- inside: how a session ended
 
 -- If a fault ended the session, the fault's line is the last one reported.
-abbrev pub EndsWithFaultLine : Part → DeskState → Result ⊤ End → Type 0
-EndsWithFaultLine part view (Err (ends.Faulty fault)) = EndWithLine (fault_line part fault) view.kept.messages
-EndsWithFaultLine part view (Err (ends.Over fault)) = EndWithLine (fault_line part fault) view.kept.messages
-EndsWithFaultLine part view result = ⊤
+abbrev pub EndsWithFaultLine : Part → DeskState → Outcome → Type 0
+EndsWithFaultLine part view (outcome.Faulty fault) = EndWithLine (fault_line part fault) view.kept.messages
+EndsWithFaultLine part view _ = ⊤
 
 -- The outcome of a session that ended like this.
 abbrev pub outcome_of : Result ⊤ End → Outcome

@@ -11,6 +11,7 @@ use Rattle.avr_desk.specs.Lines.{error, memory_pieces}
 abbrev pub in_update_pieces : ℕ → Bytes → List Bytes
 in_update_pieces n text = codes "update " ∷ decimal n ∷ text ∷ []
 
+-- The message of each fault of an update.
 abbrev pub update_pieces : ℕ → UpdateFault → List Bytes
 update_pieces n update.BadMemory = in_update_pieces n (codes ": no such memory")
 update_pieces n update.BadOp = in_update_pieces n (codes ": no such operation")
@@ -34,5 +35,6 @@ refusal_pieces (BadUpdate n fault) = update_pieces n fault
 refusal_pieces StandardTaken = codes "standard streams are taken" ∷ []
 refusal_pieces Memory = memory_pieces
 
+-- The line that reports a fault of the settings.
 unfoldable pub refusal_line : SettingsFault → Bytes
 refusal_line fault = error (refusal_pieces fault)

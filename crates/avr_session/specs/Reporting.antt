@@ -8,7 +8,7 @@ use Rattle.stk_host.specs.Dialog.{Emitted}
 use Rattle.avr_desk.specs.declared.desk.Desk.{Ghosts}
 use Rattle.avr_desk.specs.declared.desk.DeskFault.{DeskFault}
 use Rattle.ghosts.specs.Preserves.{Preserves}
-use Rattle.avr_session.specs.Runs.{Cause, FileFailed, PrintingFailed, FileTrouble, cause_line, StopsAt}
+use Rattle.avr_session.specs.Runs.{Cause, FileFailed, PrintingFailed, cause_line, StopsAt}
 
 -- Only a failure of the desk stops output.
 abbrev pub IsOfDesk : Cause → Type 0
@@ -63,13 +63,10 @@ pub record Outputs {D : Type 0} (desk : Ghosts D) (By : DeskState → DeskState 
 abbrev pub Prints : {D : Type 0} → Ghosts D → List OutputEvent → D → D → Result ⊤ DeskFault → Type 0
 Prints desk events old new result = Outputs desk PrintStops events old new result
 
--- The desk failed at a file, and this was reported.
-abbrev pub FileStops : DeskState → DeskState → Bytes → FileTrouble → Bytes → Type 0
-FileStops old new file trouble notice = ReportsFailureAs (cause_line (FileFailed file trouble)) notice old new
-
--- The desk failed at a file or at the messages.
+-- The desk failed at a file, and this was reported; or it failed at the messages.
 abbrev pub DeskStops : DeskState → DeskState → Cause → Bytes → Type 0
-DeskStops old new (FileFailed file trouble) notice = FileStops old new file trouble notice
+DeskStops old new (FileFailed file trouble) notice =
+    ReportsFailureAs (cause_line (FileFailed file trouble)) notice old new
 DeskStops old new cause notice = PrintStops old new cause notice
 
 -- The desk can fail at a file only after a read without a fault, because nothing else is saved.

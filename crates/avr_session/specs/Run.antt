@@ -39,16 +39,12 @@ pub record LacksPlan (settings : Settings) (old new : DeskState) (status : ℕ) 
   pub goes : RunsStage (AtAllocatingUpdate settings) (planned settings) old new (Err status)
   pub bare : settings.parts ≡ None → settings.updates ≡ [] → LacksPart settings.part [] old new
 
--- The plan was made from what the files gave, up to `between`, and its session was run from there.
-pub record RunsPlan (settings : Settings) (old : Devices) (between : DeskState) (new : Devices)
-    (status : ℕ) : Type 0 where
-  pub plan : Plan
-  pub made : StageCompleted (planned settings) old.desk between (Produced plan)
-  pub runs : RunsSession plan (devices old.link between) new status
-
--- A plan was made and its session run; or there is no plan, and nothing was sent or received.
+-- A plan was made from what the files gave, up to `between`, and its session was run from there. Or there is no plan,
+-- and nothing was sent or received.
 abbrev pub RunsSettings : Settings → Devices → DeskState → Devices → ℕ → Type 0
-RunsSettings settings old between new status = RunsPlan settings old between new status
+RunsSettings settings old between new status =
+    ((plan : Plan) × StageCompleted (planned settings) old.desk between (Produced plan)
+    × RunsSession plan (devices old.link between) new status)
     ⊎ (LacksPlan settings old.desk new.desk status × (new.link ≡ old.link))
 
 -- The same for a desk of any type. `between` is the desk when the plan was made.

@@ -1,15 +1,14 @@
 -- The result of a call over a link and a desk: its dialog ran whole, or it broke off.
-use Rattle.std.specs.Prelude.{Bool, true, false, ◌||◌, List, [], ◌∷◌, ◌++◌, ◌≡◌, ◌<◌, ◌≤◌, ◌⊎◌, length, nat_eq, Option, None, codes}
+use Rattle.std.specs.Prelude.{Bool, true, false, ◌||◌, List, [], ◌∷◌, ◌++◌, ◌≡◌, ◌<◌, ◌≤◌, ◌⊎◌, length, nat_eq, None, codes}
 use Rattle.std.specs.List.{list_any, starts_with}
 use Rattle.avr_desk.specs.Record.{DeskState, ChangesRecord, after_err, Bytes}
 use Rattle.avr_desk.specs.Fault as desk
 use Rattle.avr_desk.specs.Fault.{CountsNeverFall, HasSameCounts, HasFailedAt}
 use Rattle.avr_desk.specs.declared.stream.Stream.TheVariants.{File}
 use Rattle.stk_host.specs.Transcript as link
-use Rattle.stk_host.specs.Tape.{on_tape}
-use Rattle.stk_host.specs.Transcript.{Transcript, LinkState, NoneTaken, heard, Grows}
-use Rattle.stk_host.specs.Dialog.{Dialog, Event, Frame, Emitted, played, outputs}
-use Rattle.stk_host.specs.Play.{Progress, Plays, Breaks}
+use Rattle.stk_host.specs.Transcript.{Transcript, LinkState, NoneTaken, Grows}
+use Rattle.stk_host.specs.Dialog.{Dialog, Event, Frame, Emitted, outputs}
+use Rattle.stk_host.specs.Play.{Progress, Plays, Breaks, played_over}
 use Rattle.avr_desk.specs.Lines.{error, memory_line, not_created_pieces, not_written_pieces}
 use Rattle.avr_session.specs.Lines.{unsent_pieces, unreceived_pieces}
 use Rattle.avr_desk.specs.OutputEvents.{OutputEvent, PrintsLine, CreatesFile, WritesFile, WritesOutput, IsPartOfEvent, IsBytePrefixOf, ReportsLineAs, after_events}
@@ -19,6 +18,7 @@ pub record Devices : Type 0 where
   pub link : LinkState
   pub desk : DeskState
 
+-- A link and a desk by their states.
 abbrev pub devices : LinkState → DeskState → Devices
 devices link desk = record { link = link; desk = desk }
 
@@ -80,52 +80,41 @@ pub record StopsInOutput (event : Bytes → OutputEvent) (begun later : List (Ev
   pub part : begun ≡ Emitted (event done) ∷ []
   pub prefix : IsBytePrefixOf done bytes
 
--- Nothing was done of the next event, the creation of this file.
-pub record StopsAtCreation (file : Bytes) (begun later : List (Event OutputEvent)) : Type 0 where
-  pub more : List (Event OutputEvent)
-  pub due : later ≡ Emitted (CreatesFile file) ∷ more
-  pub none : begun ≡ []
-
 -- The last of these events created this file.
 abbrev pub EndsWithCreation : Bytes → List (Event OutputEvent) → Type 0
 EndsWithCreation file whole = (before : List (Event OutputEvent)) × (whole ≡ before ++ Emitted (CreatesFile file) ∷ [])
 
--- A cause stops a run after the whole events, within the next one. Bytes are written to a file that was created just
--- before, or to standard output, whose name is `-`.
+-- A cause stops a run after the whole events, within the next one, or before it if that is the creation of a file.
+-- Bytes are written to a file that was created just before, or to standard output, whose name is `-`.
 abbrev pub StopsAt : Cause → Transcript → List (Event OutputEvent) → List (Event OutputEvent)
     → List (Event OutputEvent) → Type 0
 StopsAt SendingFailed during whole begun later = StopsInFrame during begun later
 StopsAt ReceivingFailed during whole begun later = NoneTaken during × (begun ≡ []) × (later ≡ [])
-StopsAt (FileFailed file NotCreated) during whole begun later = StopsAtCreation file begun later
+StopsAt (FileFailed file NotCreated) during whole begun later =
+    (begun ≡ []) × (more : List (Event OutputEvent)) × (later ≡ Emitted (CreatesFile file) ∷ more)
 StopsAt (FileFailed file NotWritten) during whole begun later =
     (EndsWithCreation file whole × StopsInOutput WritesFile begun later)
     ⊎ ((file ≡ codes "-") × StopsInOutput WritesOutput begun later)
 StopsAt PrintingFailed during whole begun later = StopsInOutput PrintsLine begun later
 StopsAt AllocationFailed during whole begun later = begun ≡ []
 
--- If receiving failed, the run waits for a reply.
-abbrev pub Listens : {A : Type 0} → Cause → Option A → Type 0
-Listens ReceivingFailed outcome = outcome ≡ None
-Listens cause outcome = Unit {0}
-
 -- The cause occurred before any other: by the counts of failures only this device failed. No count shows a failed
 -- allocation, which occurs only if the dialog allocates.
 abbrev pub CauseOccurred : Bool → Devices → Devices → Cause → Type 0
-CauseOccurred allocates old then SendingFailed = link.HasFailed old.link then.link × HasSameCounts old.desk then.desk
-CauseOccurred allocates old then ReceivingFailed = link.HasFailed old.link then.link × HasSameCounts old.desk then.desk
+CauseOccurred allocates old then (FileFailed file trouble) =
+    HasFailedAt File old.desk then.desk × (then.link.failures ≡ old.link.failures)
+CauseOccurred allocates old then PrintingFailed =
+    desk.HasFailedToReport old.desk then.desk × (then.link.failures ≡ old.link.failures)
 CauseOccurred allocates old then AllocationFailed = (allocates ≡ true) × NoDeviceFailed old then
-CauseOccurred allocates old then PrintingFailed = desk.HasFailedToReport old.desk then.desk
-    × (then.link.failures ≡ old.link.failures)
-CauseOccurred allocates old then cause = HasFailedAt File old.desk then.desk × (then.link.failures ≡ old.link.failures)
+CauseOccurred allocates old then cause = link.HasFailed old.link then.link × HasSameCounts old.desk then.desk
 
 -- The cause's line was reported. After a fault's line only the link or the printing can fail, and nothing more is
 -- reported.
 abbrev pub ReportsCause : Bool → Cause → Bytes → DeskState → DeskState → Type 0
 ReportsCause false cause notice old new = ReportsLineAs (cause_line cause) notice old new
-ReportsCause true SendingFailed notice old new = notice ≡ []
-ReportsCause true ReceivingFailed notice old new = notice ≡ []
-ReportsCause true PrintingFailed notice old new = notice ≡ []
-ReportsCause true cause notice old new = ⊥
+ReportsCause true (FileFailed file trouble) notice old new = ⊥
+ReportsCause true AllocationFailed notice old new = ⊥
+ReportsCause true cause notice old new = notice ≡ []
 
 -- The terms of a run: whether it allocates, and whether a fault was reported before.
 pub record Terms : Type 0 where
@@ -164,7 +153,8 @@ pub record RanWhole {R : Type 0} (dialog : Dialog OutputEvent R) (before : Progr
   pub sound : NoDeviceFailed old new
 
 -- The dialog broke off. What was sent and output is a prefix of its events, the last one perhaps in part, and then
--- the report of the cause. If allocation failed, it did so at a moment that `points` allows.
+-- the report of the cause. If receiving failed, the dialog waits for a reply. If allocation failed, it did so at a
+-- moment that `points` allows.
 pub record BrokeOff {R : Type 0} (dialog : Dialog OutputEvent R) (before : Progress) (old new : Devices)
     (terms : Terms) (points : RunAllocationPoints) : Type 0 where
   pub during : Transcript
@@ -174,7 +164,7 @@ pub record BrokeOff {R : Type 0} (dialog : Dialog OutputEvent R) (before : Progr
   pub grows : Grows old.link.transcript during new.link.transcript
   pub breaks : Breaks IsPartOfEvent dialog before during shown
   pub place : StopsAt cause during breaks.prefix.whole breaks.prefix.begun breaks.prefix.later
-  pub listens : Listens cause (played dialog before.next (on_tape before.unread ++ heard during)).outcome
+  pub waits : cause ≡ ReceivingFailed → (played_over dialog before during).outcome ≡ None
   pub stops : StopsAfterOutput terms old new (outputs shown) cause notice
   pub at_point : cause ≡ AllocationFailed → points before during shown
   pub kept : ChangesRecord (λ r. after_err notice (after_events (outputs shown) r)) old.desk new.desk

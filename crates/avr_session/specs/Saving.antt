@@ -5,7 +5,7 @@ use Rattle.avr_desk.specs.Record.{DeskState, ChangesRecord, after_err, Bytes}
 use Rattle.avr_desk.specs.Stream.{SendsPart, after_sent}
 use Rattle.avr_desk.specs.declared.stream.Stream.{Stream}
 use Rattle.avr_session.specs.Runs.{Cause, FileFailed, NotWritten}
-use Rattle.avr_session.specs.Reporting.{FileStops}
+use Rattle.avr_session.specs.Reporting.{DeskStops}
 use Rattle.avr_desk.specs.declared.desk.Desk.{Ghosts}
 use Rattle.avr_desk.specs.declared.desk.DeskFault.{DeskFault}
 
@@ -18,7 +18,8 @@ pub record SendsText {D : Type 0} (desk : Ghosts D) (stream : Stream) (text : By
 
 -- The desk failed at creating or writing this file, and this was reported.
 abbrev pub SaveStops : Bytes → DeskState → DeskState → Cause → Bytes → Type 0
-SaveStops file old new (FileFailed named trouble) notice = (named ≡ file) × FileStops old new named trouble notice
+SaveStops file old new (FileFailed named trouble) notice =
+    (named ≡ file) × DeskStops old new (FileFailed named trouble) notice
 SaveStops file old new cause notice = ⊥
 
 -- A prefix of the bytes was written. Then the desk failed, and this was reported for this file.
@@ -26,7 +27,7 @@ pub record WritesSome (stream : Stream) (file : Bytes) (old new : DeskState) (by
   pub between : DeskState
   pub part : SendsPart stream old between bytes
   pub notice : Bytes
-  pub stops : FileStops old new file NotWritten notice
+  pub stops : DeskStops old new (FileFailed file NotWritten) notice
   pub kept : ChangesRecord (after_err notice) between new
 
 -- All bytes were written and no call failed, or a prefix of them was written.

@@ -6,6 +6,7 @@ use Rattle.avr_plan.specs.declared.settings.Switches.{Switches}
 use Rattle.avr_plan.specs.declared.update.Format.{Format}
 use Rattle.avr_image.specs.Image.{byte_count}
 use Rattle.avr_desk.specs.Lines.{spaced_digits}
+use Rattle.avr_desk.specs.Named.{is_dash}
 use Rattle.avr_desk.specs.OutputEvents.{OutputEvent, PrintsLine, CreatesFile, WritesFile, WritesOutput}
 use Rattle.avr_part.specs.Mem.{name_of}
 use Rattle.avr_part.specs.Part.{Part}
@@ -54,6 +55,7 @@ abbrev pub fault_line_or : {A : Type 0} → Part → (A → List OutputEvent) �
 fault_line_or part good (Ok a) = good a
 fault_line_or part good (Err fault) = PrintsLine (fault_line part fault) ∷ []
 
+-- The line of the signature that was found.
 abbrev pub signature_output : ℕ → Bytes → List OutputEvent
 signature_output quiet found = informs quiet (codes "device signature = " ∷ spaced_digits found ∷ [])
 
@@ -83,7 +85,7 @@ bytes_output quiet mem count done = informs quiet (name_of mem ∷ codes ": " �
 -- The name `-` is standard output.
 abbrev pub saving_output : Bytes → Bytes → List OutputEvent
 saving_output file text =
-    if bytes_eq file (codes "-") then WritesOutput text ∷ [] else CreatesFile file ∷ WritesFile text ∷ []
+    if is_dash file then WritesOutput text ∷ [] else CreatesFile file ∷ WritesFile text ∷ []
 
 -- Trailing FF of flash are dropped, unless `all` is set.
 abbrev pub bytes_to_save : Mem → Bool → Bytes → Bytes

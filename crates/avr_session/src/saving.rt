@@ -9,7 +9,9 @@ ghost use Rattle.ghosts.specs.Preserves.{Preserves};
 
 use crate::file_text::{trimmed, write_text};
 use crate::reports::{Done, report_bytes, report_fault};
-use avr_desk::{Desk, DeskFault, Stream, not_created_message, not_written_message, refuse};
+use avr_desk::{
+    Desk, DeskFault, Stream, is_dash, not_created_message, not_written_message, refuse,
+};
 use avr_part::Mem;
 use avr_plan::{Format, Plan};
 use stk_host::HostFault;
@@ -69,7 +71,7 @@ pub(crate) fn save<D: Desk>(desk: &mut D, target: Target<'_>, bytes: &[u8]) -> R
     ensures { Outputs D.Desk (SaveStops target.entry.file.now)
         (saving_output target.entry.file.now (file_text target.entry.format bytes.now)) desk.old desk.new result }
 {
-    if target.file == "-" {
+    if is_dash(target.file) {
         return write_file(desk, Stream::Output, target, bytes);
     }
     match desk.create(target.file) {

@@ -226,7 +226,7 @@ impl<'a, D: Desk, L: Link> Session<'a, D, L> {
     /// Leaves programming mode after this fault was reported; a second fault is not reported.
     fn leave(&mut self, fault: HostFault) -> End
         requires serves { self.old.host.broken ≡ None }
-        requires notice { EndsWithFaultLine self.old.plan.now.part (D.view self.old.desk.now) (Err (End.Faulty fault)) }
+        requires notice { EndsWithFaultLine self.old.plan.now.part (D.view self.old.desk.now) (Outcome.Faulty fault) }
         ensures { RunsSessionPart L.Link D.Desk (EndsSession self.old.plan.now Faulty) self.old self.new (Err result) }
     {
         let closed = self.host.close(self.link);

@@ -10,7 +10,7 @@ ghost use Rattle.avr_tool.specs.declared.served_run.TheConstants.{READS};
 ghost use Rattle.avr_part.specs.Part.{Part as PartData};
 ghost use Rattle.avr_part.specs.PartFile.{parts_of};
 ghost use Rattle.avr_plan.specs.ImageFile.{image_within};
-ghost use Rattle.avr_plan.specs.Lines.{bad_file_line, part_file_line};
+ghost use Rattle.avr_plan.specs.Lines.{bad_file_pieces, part_file_pieces};
 ghost use Rattle.avr_plan.specs.Planning.{checked_image, checked_parts, or_line};
 ghost use Rattle.avr_records.specs.Record.{longest};
 ghost use Rattle.stk_emu.specs.Lawful.{IsLawful};
@@ -27,9 +27,10 @@ ghost use Rattle.stk_host.specs.Tape.{reply_byte_limit};
 pub fn the_numbers_are()
     ensures line { longest ≡ 600 }
     ensures image_file { (file : List ℕ) (format : AnyFormat) (size : ℕ) (bytes : List ℕ)
-        → checked_image file format size bytes ≡ or_line (bad_file_line file) (image_within 4194304 format bytes size) }
+        → checked_image file format size bytes
+        ≡ or_line (bad_file_pieces file) (image_within 4194304 format bytes size) }
     ensures part_file { (file bytes : List ℕ) → checked_parts file bytes ≡
-        (if nat_le (length bytes) 65536 then or_line (λ bad. part_file_line file bad.fault) (parts_of bytes)
+        (if nat_le (length bytes) 65536 then or_line (λ bad. part_file_pieces file bad.fault) (parts_of bytes)
         else Err (too_long_line file 65536)) }
     ensures chip_file { (part : PartData) (file bytes : List ℕ) → checked_chip part file bytes ≡
         (if nat_le (length bytes) 4194304 then chip_or_line part file bytes else Err (too_long_line file 4194304)) }

@@ -31,7 +31,7 @@ use Rattle.avr_laws.specs.HeldImage.{HoldsImageAs}
 use Rattle.avr_laws.specs.AskedPlan.{GivesText, HasImage, IsTaskOf, AreTasksOf, ArePartsOf, IsAsked}
 use Rattle.avr_plan.specs.ImageFile.{image_within, kind_of, image_of_file}
 use Rattle.avr_plan.specs.Plan.{Plan}
-use Rattle.avr_plan.specs.Lines.{no_part_line}
+use Rattle.avr_plan.specs.Lines.{no_part_pieces}
 use Rattle.avr_plan.specs.Planning.{planned, checked_parts, or_line, parts_stage, part_stage, tasks_stage, task_stage, op_stage, update_image, image_stage, file_image_stage, checked_image, warning_events}
 use Rattle.avr_laws.proofs.Limits.{LARGEST_IMAGE_FILE, LARGEST_PART_FILE}
 use Rattle.avr_plan.specs.declared.planned.Task.{Task}
@@ -209,7 +209,7 @@ module _ (Gives : GivesText) where
   known o other is = search rules
 
   -- a part that was made
-  part_given : (id : Bytes) (r : Result Part PartFault) (part : Part) → or_line (λ fault. no_part_line id) r ≡ Ok part
+  part_given : (id : Bytes) (r : Result Part PartFault) (part : Part) → or_line (λ fault. no_part_pieces id) r ≡ Ok part
       → r ≡ Ok part
   part_given id r part is = search rules
 

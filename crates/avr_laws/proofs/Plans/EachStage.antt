@@ -7,6 +7,7 @@ use Rattle.avr_plan.specs.declared.update.Format.TheVariants as format
 use Rattle.avr_plan.specs.declared.update.Op.{Op}
 use Rattle.avr_plan.specs.declared.update.Op.TheVariants as op
 use Rattle.avr_plan.specs.declared.update.Update.{Update}
+use Rattle.avr_desk.specs.Lines.{error}
 use Rattle.avr_desk.specs.Record.{Bytes}
 use Rattle.avr_desk.specs.Stage.{Stage, ◌>>=◌, output_stage, result_stage, file_stage}
 use Rattle.avr_part.specs.BuiltIn.{part_of_id}
@@ -15,7 +16,7 @@ use Rattle.avr_part.specs.Part.{Part}
 use Rattle.avr_part.specs.declared.part.Mem.{Mem}
 use Rattle.avr_laws.proofs.Limits.{LARGEST_IMAGE_FILE, LARGEST_PART_FILE}
 use Rattle.avr_laws.specs.FilesRead.{part_file, image_file, file_of_op, files_of, files_read}
-use Rattle.avr_plan.specs.Lines.{read_only_line, no_part_line}
+use Rattle.avr_plan.specs.Lines.{read_only_pieces, no_part_pieces}
 use Rattle.avr_plan.specs.Plan.{Plan}
 use Rattle.avr_plan.specs.Planning.{checked_parts, parts_stage, or_line, part_stage, warning_events, checked_image, image_stage, update_image, write_stage, op_stage, task_stage, tasks_stage, planned}
 use Rattle.avr_plan.specs.declared.planned.Task.{Task}
@@ -60,9 +61,10 @@ module _ (Holds : (A : Type 0) → Stage A → List Bytes → Type 0)
         where
           by_memory : (b : Bool) → Holds Task
               (if b then (update_image s part u >>= λ bytes. result_stage (Ok (Write u.memory bytes)))
-              else result_stage (Err (read_only_line u.memory))) (if b then image_file u.file u.format else [])
+              else result_stage (Err (error (read_only_pieces u.memory))))
+              (if b then image_file u.file u.format else [])
           by_memory true = update_holds u (Write u.memory)
-          by_memory false = settled Task (Err (read_only_line u.memory))
+          by_memory false = settled Task (Err (error (read_only_pieces u.memory)))
 
       -- an update, by its operation
       operation_holds : (u : Update) (o : Op) → Holds Task (op_stage s part u o) (file_of_op u o)
@@ -88,5 +90,5 @@ module _ (Holds : (A : Type 0) → Stage A → List Bytes → Type 0)
       onward (List Part) Plan (parts_stage s.parts) (λ all. part_stage s.part all >>= after_part) (part_file s.parts)
       (files_of s.updates) (parts s.parts)
       (λ all. onward Part Plan (part_stage s.part all) after_part [] (files_of s.updates)
-      (settled Part (or_line (λ fault. no_part_line s.part) (part_of_id s.part all)))
+      (settled Part (or_line (λ fault. no_part_pieces s.part) (part_of_id s.part all)))
       (λ part. search (rules, last, tasks)))

@@ -23,7 +23,7 @@ use Rattle.avr_plan.proofs.Files.Sizes.{image-size}
 use Rattle.avr_plan.proofs.Stages.Tasks.{all_one}
 use Rattle.avr_plan.specs.ImageFile.{ImageOrBadFile, image_within}
 use Rattle.avr_plan.specs.Plan.{Plan, IsFitted}
-use Rattle.avr_plan.specs.Lines.{bad_file_line}
+use Rattle.avr_plan.specs.Lines.{bad_file_pieces}
 use Rattle.avr_plan.specs.Planning.{planned, tasks_stage, task_stage, op_stage, write_stage, update_image, file_image_stage, checked_image, or_line, warning_events}
 use Rattle.avr_laws.proofs.Limits.{LARGEST_IMAGE_FILE}
 use Rattle.avr_plan.specs.declared.planned.Task.{Task}
@@ -59,7 +59,8 @@ content_passes : {A : Type 0} (name : Bytes) (limit : ℕ) (judge : Bytes → Re
 content_passes name limit judge opening openings a is = search rules
 
 -- a result that became no line was OK
-pub was_ok : (file : Bytes) (r : ImageOrBadFile) (p : Image × Ending) → or_line (bad_file_line file) r ≡ Ok p → r ≡ Ok p
+pub was_ok : (file : Bytes) (r : ImageOrBadFile) (p : Image × Ending) → or_line (bad_file_pieces file) r ≡ Ok p
+    → r ≡ Ok p
 was_ok file r p is = search rules
 
 -- the image of a file has the memory's size

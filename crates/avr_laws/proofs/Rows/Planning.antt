@@ -3,7 +3,7 @@
 -- exist.
 use Rattle.std.proofs.Common.{◌≡◌, ◌∙◌, ap, arith, ℕ, ◌+◌, ◌<◌, ◌-◌, ◌^◌, ◌⊎◌, inl, inr, List, [], ◌∷◌, ◌++◌, take, get_or, append-nil, refl, true, false, Option, Some, None, Ok, Err, rules}
 use Rattle.std.specs.Prelude.{codes}
-use Rattle.avr_plan.specs.Settings.{no_switches}
+use Rattle.avr_plan.specs.Settings.{switches_of}
 use Rattle.avr_plan.specs.declared.settings.Port.TheVariants.{Stdio}
 use Rattle.avr_plan.specs.declared.settings.Settings.{Settings}
 use Rattle.avr_plan.specs.declared.update.Format.TheVariants.{Ihex, Immediate}
@@ -13,13 +13,13 @@ use Rattle.ghosts.specs.Failures.{NoFailureCounted}
 use Rattle.avr_desk.specs.Record.{DeskState, Record, after_err, showing, Bytes}
 use Rattle.avr_desk.specs.declared.record.Opening.{Opening}
 use Rattle.avr_desk.specs.declared.record.Opening.TheVariants.{Found}
-use Rattle.avr_desk.specs.Lines.{memory_line, not_opened_line}
+use Rattle.avr_desk.specs.Lines.{error, memory_line, not_opened_line}
 use Rattle.avr_desk.specs.OutputEvents.{OutputEvent, Opens, PrintsLine, ReportsLineAs, ReportsFailureAs, after_events}
 use Rattle.avr_part.specs.BuiltIn.{m328p}
 use Rattle.avr_part.specs.declared.part.Mem.TheVariants.{Eeprom, Flash}
 use Rattle.avr_records.specs.declared.kind.Ending.{Ending}
 use Rattle.avr_laws.proofs.Limits.{LARGEST_IMAGE_FILE, LARGEST_PART_FILE}
-use Rattle.avr_plan.specs.Lines.{no_part_line}
+use Rattle.avr_plan.specs.Lines.{no_part_pieces}
 use Rattle.avr_plan.specs.Plan.{Plan}
 use Rattle.avr_plan.specs.Planning.{planned, file_image_stage, checked_image}
 use Rattle.avr_plan.specs.AllocationPoints.{AtAllocatingUpdate, op_allocates}
@@ -59,13 +59,13 @@ wanted = record {
   port = Stdio;
   parts = None;
   updates = of_file ∷ [];
-  switches = no_switches;
+  switches = switches_of [];
 }
 
 -- it begins by opening that file
 
 abbrev task : Stage Task
-task = file_image_stage no_switches file Ihex 32768 >>= λ image. result_stage (Ok (Write Flash image))
+task = file_image_stage (switches_of []) file Ihex 32768 >>= λ image. result_stage (Ok (Write Flash image))
 
 abbrev tasks : Stage (List Task)
 tasks = task >>= λ first. result_stage (Ok (first ∷ []))
@@ -73,7 +73,7 @@ tasks = task >>= λ first. result_stage (Ok (first ∷ []))
 -- planning begins by opening the file
 opening : Begins file (planned wanted)
 opening =
-    begins_then file tasks (λ all. result_stage (Ok (record { part = m328p; tasks = all; switches = no_switches })))
+    begins_then file tasks (λ all. result_stage (Ok (record { part = m328p; tasks = all; switches = switches_of [] })))
     (begins_then file task (λ first. result_stage (Ok (first ∷ []))) (search (rules, begins_then, begins_file)))
 
 -- a line and a text that differ at this place
@@ -191,7 +191,7 @@ abbrev lacking : Settings
 lacking = record wanted { part = codes "t99" }
 
 abbrev refusal : Bytes
-refusal = no_part_line (codes "t99")
+refusal = error (no_part_pieces (codes "t99"))
 
 -- planning is refused, and opens nothing
 lacks : (openings : List Opening) → planned lacking openings

@@ -13,7 +13,7 @@ use Rattle.clap.specs.Takes.{flags_pass, walk_passes}
 use Rattle.clap.specs.Walk.{bundle_met, walked}
 use Rattle.clap.specs.Words.{first_of, matches_of, takes}
 use Rattle.avr_plan.specs.Command.{avrstk, options, settings_from_arguments}
-use Rattle.avr_plan.specs.Settings.{no_switches}
+use Rattle.avr_plan.specs.Settings.{switches_of}
 use Rattle.avr_plan.specs.declared.settings.Port.TheVariants.{Stdio, Emulated, Network, Served}
 use Rattle.avr_plan.specs.declared.settings.Settings.{Settings}
 use Rattle.avr_plan.specs.declared.settings.SettingsFault.{SettingsFault}
@@ -663,7 +663,7 @@ service = record {
   port = Served (codes "5000") (codes "c.bin");
   parts = None;
   updates = [];
-  switches = no_switches;
+  switches = switches_of [];
 }
 
 service_read : settings_from_arguments service_words ≡ Ok service

@@ -17,6 +17,7 @@ use Rattle.avr_part.specs.ChipFile.{chip_file}
 use Rattle.avr_part.specs.Part.{Part}
 use Rattle.avr_part.specs.State.{ChipState as Chip, fresh_state}
 use Rattle.avr_desk.specs.OutputEvents.{CreatesFile, after, after_opening}
+use Rattle.avr_desk.specs.Lines.{error}
 use Rattle.avr_desk.specs.Record.{Bytes, DeskState, Record, after_err, all_uses, nothing_kept, showing, with_absent, with_held, with_none_held, with_replaced}
 use Rattle.avr_desk.specs.declared.record.FileUse.TheVariants.{Opened, Created}
 use Rattle.avr_desk.specs.declared.record.Open.TheVariants.{Closed}
@@ -24,7 +25,7 @@ use Rattle.avr_desk.specs.declared.record.Opening.{Opening}
 use Rattle.avr_desk.specs.declared.record.Opening.TheVariants.{Absent, Found}
 use Rattle.avr_desk.specs.declared.record.Writing.{Writing}
 use Rattle.avr_plan.specs.Command.{avrstk, options, settings_from_arguments}
-use Rattle.avr_plan.specs.Lines.{no_part_line}
+use Rattle.avr_plan.specs.Lines.{no_part_pieces}
 use Rattle.avr_plan.specs.Plan.{Plan}
 use Rattle.avr_plan.specs.declared.settings.Port.TheVariants as port
 use Rattle.avr_plan.specs.declared.settings.Settings.{Settings}
@@ -147,7 +148,7 @@ abbrev Runs : Settings → Devices → Devices → ℕ → Type 0
 Runs s old new status = IsRun s old new status ⊎ IsStopped s old new status
 
 abbrev refusal : Bytes
-refusal = no_part_line (codes "none")
+refusal = error (no_part_pieces (codes "none"))
 
 -- a refused run leaves the desk's files and the link alone
 refused_alone : (new : Devices) (status : ℕ) → Runs unknown begun new status

@@ -10,13 +10,14 @@ use Rattle.avr_records.specs.Reading.{image_in_text}
 use Rattle.avr_records.specs.declared.kind.Kind.{Kind}
 use Rattle.avr_records.specs.declared.fault.RecordFault.{RecordFault}
 
--- a text has a last line
+-- A list that is not empty has a last element.
 cut_last : (first : List ℕ) (more : List (List ℕ))
     → (prefix : List (List ℕ)) × (last : List ℕ) × (first ∷ more ≡ prefix ++ last ∷ [])
 cut_last first [] = ([], first, refl)
 cut_last first (next ∷ more) =
     let rest = cut_last next more in (first ∷ rest.0, rest.1, ap (λ (zs : List (List ℕ)). first ∷ zs) rest.2)
 
+-- The lines of a text and of a longer one: all but the last are the same, and the last goes on.
 record Lengthened (kind : Kind) (text more : List ℕ) : Type 0 where
   prefix : List (List ℕ)
   goes_on : List ℕ
@@ -24,6 +25,7 @@ record Lengthened (kind : Kind) (text more : List ℕ) : Type 0 where
   closed : all_but_last (lines text) ≡ prefix
   lines_are : lines (text ++ more) ≡ prefix ++ goes_on ∷ behind
 
+-- Each text and what follows it have such lines.
 lengthened : (kind : Kind) (text more : List ℕ) → Lengthened kind text more
 lengthened kind text more =
     let some = parts_some is_line_end text in
@@ -38,13 +40,13 @@ lengthened kind text more =
       lines_are = text_goes_on text more cut.0 cut.1 next.0 next.1 is next.2;
     }
 
--- a fault of a line that has ended stays the first one when more bytes come
+-- The first fault among the lines that have ended stays the first one when more bytes come.
 pub ended_lines_fault-more : (kind : Kind) (text more : List ℕ) (size : ℕ) (fault : RecordFault)
     → ended_lines_fault kind text size ≡ Some fault → ended_lines_fault kind (text ++ more) size ≡ Some fault
 ended_lines_fault-more kind text more size fault is =
     let l = lengthened kind text more in search (rules, closed_prefix, map-append, among_stands)
 
--- and it is the fault of the whole file
+-- The first fault among the lines that have ended is the fault of the whole file.
 pub ended_lines_fault-whole : (kind : Kind) (text more : List ℕ) (size : ℕ) (fault : RecordFault)
     → ended_lines_fault kind text size ≡ Some fault → image_in_text kind (text ++ more) size ≡ Err fault
 ended_lines_fault-whole kind text more size fault is =

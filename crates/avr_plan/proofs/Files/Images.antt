@@ -5,13 +5,13 @@ use Rattle.std.proofs.lemmas.Bool.Decides.{nat_tests}
 use Rattle.std.proofs.lemmas.List.{take-take, take-append-le}
 use Rattle.avr_desk.proofs.FileUses.Pieces.{read_next, read_piece}
 use Rattle.avr_plan.specs.declared.update.Format.{Format}
-use Rattle.avr_desk.specs.Files.{after_reading}
+use Rattle.avr_desk.specs.Files.{FileBreaks, after_reading}
 use Rattle.avr_desk.specs.Record.{DeskState, ChangesRecord, after_open, after_read, Bytes}
 use Rattle.avr_desk.specs.declared.files.FileFault.TheVariants.{NotRead}
 use Rattle.avr_records.specs.Detect.{format_of_file}
 use Rattle.avr_records.specs.declared.kind.Found.{Found}
 use Rattle.avr_plan.specs.ImageFile.{ImageOrBadFile, image_of_file, fault_of_long_file, kind_of}
-use Rattle.avr_plan.specs.ImageReading.{ImageOrFault, ReadsRest, RestIsRead, ReadsImage, ImageIsRead, IsImageResult}
+use Rattle.avr_plan.specs.ImageReading.{ImageOrFault, BreaksReading, MatchRead, ReadsImage, ReadsRest}
 use Rattle.avr_plan.specs.Intake.{WasFed}
 use Rattle.avr_plan.specs.declared.intake.BadFile.{BadFile}
 use Rattle.avr_plan.specs.declared.image_file.ReadFault.TheVariants.{File, Image}
@@ -30,6 +30,7 @@ pub record FedSoFar (old now : DeskState) (first last : Intake) (room left : ℕ
 -- one pass of the loop of `read_rest`: a read gave n more bytes
 module _ (old now new : DeskState) (first last : Intake) (room left n : ℕ) (buf : Bytes)
     (going : FedSoFar old now first last room left) (then : ChangesRecord (after_read buf (Ok n)) now new) where
+  -- After this read the bytes so far, with those that it gave, were fed.
   pub going_on : (next : Intake) (rest : ℕ) → (n ≡ 0 → ⊥) → length (take n buf) + rest ≡ left
       → ((found : Found) (size : ℕ) (text : Bytes) → WasFed found size last text
       → WasFed found size next (text ++ take n buf)) → FedSoFar old new first next room rest
@@ -40,15 +41,16 @@ module _ (old now new : DeskState) (first last : Intake) (room left n : ℕ) (bu
     count = omega (arith, going.count, length-append going.bytes (take n buf));
   }
 
-  module _ (limit : ℕ) (found : Found) (size : ℕ) (before : Bytes) (takes : WasFed found size first before)
+  module _ (limit : ℕ) (found : Found) (size : ℕ) (before : Bytes) (was_fed : WasFed found size first before)
       (count : length before + room ≡ limit) where
-    -- the end was seen
+    -- The end was seen: the result is that of all bytes.
     pub rest_ends : (result : ImageOrFault) → n ≡ 0 → 0 < length buf
         → ((found : Found) (size : ℕ) (text : Bytes) → WasFed found size last text
-        → IsImageResult (image_of_file found text size) result) → RestIsRead limit found size before old new result
+        → MatchRead (λ given. given ≡ image_of_file found text size) (λ fault. ⊥) result)
+        → MatchRead (ReadsRest limit found size before old new) (BreaksReading old new) result
     rest_ends result zero some gives = search (rules, length-append, read_next)
 
-    -- more bytes came than the limit allows
+    -- More bytes came than the limit allows: the fault is that of a longer file.
     pub rest_long : (bad : BadFile) → left < n → n ≤ length buf → length buf ≤ 4096
         → ((found : Found) (size : ℕ) (text : Bytes) → WasFed found size last text
         → bad ≡ fault_of_long_file found (text ++ take left buf) size)
@@ -74,14 +76,16 @@ module _ (old now new : DeskState) (first last : Intake) (room left n : ℕ) (bu
 
 -- ---- a whole file
 
+-- The first 1,024 bytes decide the detected format.
 detected-prefix : (prefix more : Bytes) → length prefix ≡ 1024 → format_of_file (prefix ++ more) ≡ format_of_file prefix
 detected-prefix prefix more len = search (rules, take-append-le, more, len)
 
+-- The first 1,024 bytes decide the kind of a file.
 pub kind-prefix : (format : Format) (prefix more : Bytes) → length prefix ≡ 1024
     → kind_of format (prefix ++ more) ≡ kind_of format prefix
 kind-prefix format prefix more len = search (rules, detected-prefix)
 
--- the prefix, then the rest
+-- A file of which the first bytes were read, and then the rest, was read.
 open_rest : (limit : ℕ) (format : Format) (size : ℕ) (name prefix : Bytes) (old mid now new : DeskState)
     (given : ImageOrBadFile) → ChangesRecord (after_open name (Ok tt)) old mid
     → ChangesRecord (after_reading prefix false) mid now → length prefix ≡ 1024
@@ -96,17 +100,18 @@ open_rest limit format size name prefix old mid now new given opened first len r
   gives = search (rules, kind-prefix);
 }
 
+-- If the first bytes were read, and then the rest, the file was; if reading the rest failed, reading the file did.
 pub image_is_rest : (limit : ℕ) (format : Format) (size : ℕ) (name prefix : Bytes) (old mid now new : DeskState)
     (result : ImageOrFault) → ChangesRecord (after_open name (Ok tt)) old mid
     → ChangesRecord (after_reading prefix false) mid now → length prefix ≡ 1024
-    → RestIsRead limit (kind_of format prefix) size prefix now new result → ImageIsRead limit format size name old new
-    result
+    → MatchRead (ReadsRest limit (kind_of format prefix) size prefix now new) (BreaksReading now new) result
+    → MatchRead (ReadsImage limit format size name old new) (FileBreaks name old new) result
 image_is_rest limit format size name prefix old mid now new (Ok good) opened first len rest = search (rules, open_rest)
 image_is_rest limit format size name prefix old mid now new (Err (Image bad)) opened first len rest =
     search (rules, open_rest)
 image_is_rest limit format size name prefix old mid now new (Err (File NotRead)) opened first len rest = (
-  prefix ++ rest.1.0,
-  read_next mid.kept now.kept new.kept prefix rest.1.0 false first rest.1.1
-      ∙ ap (after_reading (prefix ++ rest.1.0) false) opened,
+  prefix ++ rest.1,
+  read_next mid.kept now.kept new.kept prefix rest.1 false first rest.2
+      ∙ ap (after_reading (prefix ++ rest.1) false) opened,
 )
 image_is_rest limit format size name prefix old mid now new (Err (File fault)) opened first len rest = cc rest.0

@@ -9,14 +9,16 @@ use Rattle.avr_records.specs.declared.kind.Ending.{Ending}
 use Rattle.avr_records.specs.declared.kind.Found.{Found}
 use Rattle.avr_plan.specs.ImageFile.{image_of_file, image_within, kind_of}
 
+-- An optional byte for each address.
 abbrev Image : Type 0
 Image = List (Option ℕ)
 
+-- The image of a whole file has the size of the memory.
 whole-size : (found : Found) (bytes : Bytes) (size : ℕ) (p : Image × Ending) → image_of_file found bytes size ≡ Ok p
     → length p.0 ≡ size
 whole-size found bytes size p is = search (rules, from_zero_is_a_span, laid_size, length-replicate)
 
--- an image of a file
+-- The image of a file within a limit has the size of the memory.
 pub image-size : (limit : ℕ) (format : Format) (bytes : Bytes) (size : ℕ) (image : Image) (last : Ending)
     → Ok (image, last) ≡ image_within limit format bytes size → length image ≡ size
 image-size limit format bytes size image last is =

@@ -30,6 +30,7 @@ Along P (Done r) = P [] r
 Along P (Emit e dialog) = Along (λ emitted r. P (e ∷ emitted) r) dialog
 Along {R = R} P (Ask body resume) = (reading : Reading) → Along P (resume reading)
 
+-- If P holds along a dialog, and Q along what follows each of its outputs and results, Q holds along both together.
 pub along_bind : {A R : Type 0} (P : List OutputEvent → A → Type 0) (Q : List OutputEvent → R
     → Type 0) (dialog : Dialog OutputEvent A) (go_on : A → Dialog OutputEvent R) → Along P dialog
     → ((emitted : List OutputEvent) (a : A) → P emitted a → Along (λ more r. Q (emitted ++ more) r) (go_on a))
@@ -39,11 +40,13 @@ along_bind P Q (Emit e dialog) go_on f g =
     along_bind (λ emitted. P (e ∷ emitted)) (λ emitted. Q (e ∷ emitted)) dialog go_on f (λ emitted. g (e ∷ emitted))
 along_bind P Q (Ask body resume) go_on f g = λ reading. along_bind P Q (resume reading) go_on (f reading) g
 
+-- An operation of the host outputs nothing on any path.
 pub along_lifted : {R : Type 0} (dialog : Dialog ⊥ R) → Along (λ emitted r. emitted ≡ []) (lifted dialog)
 along_lifted (Done r) = refl
 along_lifted (Emit e dialog) = absurd e
 along_lifted (Ask body resume) = λ reading. along_lifted (resume reading)
 
+-- What holds after these output events, put before, holds along the dialog that outputs them first.
 pub along_output : {R : Type 0} (Q : List OutputEvent → R
     → Type 0) (xs : List OutputEvent) (dialog : Dialog OutputEvent R)
     → Along (λ more r. Q (xs ++ more) r) dialog → Along Q (emits xs dialog)
@@ -55,6 +58,7 @@ abbrev Ends : {R : Type 0} → (List OutputEvent → R → Type 0) → List Outp
 Ends P emitted None = Unit {0}
 Ends P emitted (Some x) = P emitted x.0
 
+-- What holds along a dialog holds of the output and result of its run over any tape.
 along_play : {R : Type 0} (P : List OutputEvent → R → Type 0) (dialog : Dialog OutputEvent R) (seq : ℕ) (tape : Tape)
     → Along P dialog → Ends P (outputs (played dialog seq tape).events) (played dialog seq tape).outcome
 along_play P (Done r) seq tape f = f
@@ -68,12 +72,15 @@ along_play {R = R} P (Ask body resume) seq tape f =
 
 -- ---- the state of a session
 
+-- The output has the line of a fault just if the state says that a fault was reported.
 abbrev pub FaultAsInState : List OutputEvent → Standing → Type 0
 FaultAsInState emitted standing = reports_fault emitted ≡ has_fault standing
 
+-- This holds on each path of the dialog.
 abbrev pub ReportsFault : Dialog OutputEvent Standing → Type 0
 ReportsFault dialog = Along FaultAsInState dialog
 
+-- A dialog that ran whole output the line of a fault just if its state says so.
 pub fault_reported : {dialog : Dialog OutputEvent Standing} {m n : Progress} {o p : Devices} {standing : Standing}
     → ReportsFault dialog → (ran : RanWhole dialog m o p standing n) → reports_fault (outputs ran.events)
     ≡ has_fault standing
@@ -81,10 +88,12 @@ fault_reported {dialog = dialog} {m = m} f ran =
     subst (λ (p : Played OutputEvent Standing). Ends FaultAsInState (outputs p.events) p.outcome) (ran.plays.plays [])
     (along_play FaultAsInState dialog m.next (on_tape m.unread ++ (heard ran.during ++ [])) f)
 
+-- It holds of two dialogs in order, the second of which a fault skips, if it holds of each.
 pub then_reports : (first more : Dialog OutputEvent Standing) → ReportsFault first → ReportsFault more
     → ReportsFault (first >>= unless_fault more)
 then_reports first more f g = search (rules, along_bind, list_any-append, append-nil)
 
+-- It holds of an operation and its report, if it holds of the report about each outcome.
 operation_reports : {A : Type 0} (operation : Dialog ⊥ (Result A HostFault))
     (outcome_output : Result A HostFault → List OutputEvent)
     → ((outcome : Result A HostFault) → reports_fault (outcome_output outcome) ≡ has_fault (standing outcome))
@@ -94,27 +103,32 @@ operation_reports operation outcome_output f =
     λ emitted outcome none. along_output (λ more after. FaultAsInState (emitted ++ more) after) (outcome_output outcome)
     (Done (standing outcome)) (search rules)
 
+-- It holds of output without the line of a fault, after which no fault is noted.
 output_reports : (outputs : List OutputEvent) → reports_fault outputs ≡ false
     → ReportsFault (emits outputs (Done NoFault))
 output_reports outputs f = search (rules, along_output, append-nil)
 
 -- ---- lines that report no fault, and those that do
 
+-- A fault's line is the line of an error.
 fault_reports : (part : Part) (fault : HostFault) → reports_fault (PrintsLine (fault_line part fault) ∷ []) ≡ true
 unfolding fault_line
 fault_reports part fault = refl
 
+-- The output about bytes that were read has no line of an error.
 pub read_none : (s : Switches) (mem : Mem) (format : Format) (file bytes : Bytes)
     → reports_fault (read_output s mem format file bytes) ≡ false
 read_none s mem format file bytes = search rules
 
 -- ---- the actions of a session
 
+-- It holds of each action of a session.
 pub action_reports : (part : Part) (s : Switches) (action : Action) → ReportsFault (action_dialog part s action)
 action_reports part s OpenSession = search (rules, operation_reports, list_any-append, fault_reports)
 action_reports part s action =
     search (rules, operation_reports, fault_reports, output_reports)
 
+-- It holds of actions in order.
 pub actions_report : (part : Part) (s : Switches) (actions : List Action) → ReportsFault (actions_dialog part s actions)
 actions_report part s [] = refl
 actions_report part s (action ∷ actions) =
@@ -122,16 +136,19 @@ actions_report part s (action ∷ actions) =
 
 -- ---- a prefix of output without a fault has none
 
+-- Output events that are those of a list without the line of a fault have none.
 quiet_by : (begun : List OutputEvent) (events : List (Event OutputEvent)) → map Emitted begun ≡ events
     → reports_fault (outputs events) ≡ false → reports_fault begun ≡ false
 quiet_by begun events is none = ap reports_fault (outputs_by begun events is) ∙ none
 
+-- The event that was begun when a cause stopped the output is no line of a fault, if none follows.
 begun_none : (cause : Cause) (whole begun later : List OutputEvent)
     → StopsAt cause [] (map Emitted whole) (map Emitted begun) (map Emitted later) → reports_fault later ≡ false
     → reports_fault begun ≡ false
 begun_none SendingFailed whole begun later x none = search (rules, quiet_by)
 begun_none cause whole begun later x none = search (rules, quiet_by, outputs_by, or_parts)
 
+-- A prefix of output without the line of a fault has none.
 pub prefix_reports_none : {cause : Cause} {old new : DeskState} {outputs : List OutputEvent}
     (prefix : OutputsPrefix cause old new outputs) → reports_fault outputs ≡ false
     → reports_fault (prefix.whole ++ prefix.begun) ≡ false

@@ -11,7 +11,7 @@ use Rattle.stk_host.specs.Dialog.{Dialog, Done, played}
 use Rattle.stk_host.specs.Play.{Progress, RunsOverLink, BreaksOverLink}
 use Rattle.stk_host.proofs.Dialogs.Lifted.{outputs_raised}
 use Rattle.avr_desk.specs.OutputEvents.{OutputEvent, PrintsLine, ReportsLine}
-use Rattle.avr_session.specs.Concluding.{after_outcome, conclusion, standing_after}
+use Rattle.avr_session.specs.Concluding.{conclusion, standing_after}
 use Rattle.avr_session.specs.Lines.{fault_line}
 use Rattle.avr_session.specs.Session.{standing, reported, opening_output}
 use Rattle.avr_session.specs.AllocationPoints.{AtStartOnly}
@@ -28,15 +28,18 @@ pub data Stop : Type 0 where
   Unreceived : Stop
   Lacks : Stop
 
+-- The fault that the host gives for such a stop.
 abbrev pub fault_at : Stop → HostFault
 fault_at Unsent = SendFailed
 fault_at Unreceived = RecvFailed
 fault_at Lacks = Memory
 
+-- The cause that the run reports for such a stop.
 abbrev pub cause_at : Stop → Cause
 cause_at Lacks = AllocationFailed
 cause_at stop = broken_cause (fault_at stop)
 
+-- The outcome is the fault of this stop.
 abbrev pub StopsAs : {A : Type 0} → Result A HostFault → Stop → Type 0
 StopsAs outcome stop = outcome ≡ Err (fault_at stop)
 
@@ -49,7 +52,7 @@ StopsOver allocates dialog m o p stop = BreaksOverLink (fault_at stop) dialog m 
 abbrev pub Ended : {A : Type 0} → Bool → Dialog ⊥ (Result A HostFault) → Progress → LinkState → LinkState
     → Result A HostFault → Progress → Type 0
 Ended allocates dialog m o p outcome n =
-    (RunsOverLink dialog m o p outcome n × (standing_after (after_outcome outcome) ≡ Ok (standing outcome)))
+    (RunsOverLink dialog m o p outcome n × (standing_after (conclusion outcome (Ok tt)) ≡ Ok (standing outcome)))
     ⊎ ((stop : Stop) × StopsAs outcome stop × StopsOver allocates dialog m o p stop)
 
 -- a stop is reported, if the line of such a fault is the whole output for it
@@ -62,6 +65,7 @@ unfolding cause_line fault_line
 cause_is_reported part is_reported line {d = d} {e = e} {emitted = emitted} reports stop is =
     search (rules, reported_some)
 
+-- Each fault that stops a run has its line alone as the output about opening.
 pub opening_line : (quiet : ℕ) (part : Part) (stop : Stop)
     → opening_output quiet part (Err (fault_at stop)) ≡ PrintsLine (fault_line part (fault_at stop)) ∷ []
 opening_line quiet part stop = search rules

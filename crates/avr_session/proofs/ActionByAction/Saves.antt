@@ -17,12 +17,13 @@ use Rattle.avr_session.specs.Session.{saving_output}
 use Rattle.avr_session.specs.Saving.{SaveStops, WritesSome, WritesAll}
 use Rattle.avr_session.proofs.Runs.Stops.{file_part, output_part, prefix_from}
 
+-- If a file could not be created, nothing of its events was done.
 pub not_created : (old new : DeskState) (file : List ℕ) (result : Result (Unit {0}) DeskFault) (fault : DeskFault)
     (more : List OutputEvent) → result ≡ Err fault → ChangesRecord (after_create file result) old new
     → OutputsPrefix (FileFailed file NotCreated) old new (CreatesFile file ∷ more)
 not_created old new file (Ok done) fault more is kept = cc
 not_created old new file (Err other) fault more is kept =
-    prefix_from [] [] (CreatesFile file ∷ more) (record { more = map Emitted more; due = refl; none = refl }) tt
+    prefix_from [] [] (CreatesFile file ∷ more) (refl, map Emitted more, refl) tt
     (kept ∙ kept_none old.kept)
 
 -- if a file can't be saved, the desk has failed
@@ -39,6 +40,7 @@ text_then old mid new file text (Ok done) kept same writes = search rules
 text_then old mid new file text (Err _) kept same writes =
     search (rules, file_part old mid writes.between file text kept writes.part)
 
+-- A file was created, and then all its bytes were written or a cause stopped them: this is a report.
 pub created_then : (old mid new : DeskState) (file text : List ℕ) (created : Result (Unit {0}) DeskFault)
     (result : Result (Unit {0}) DeskFault) {done : Unit {0}} → created ≡ Ok done
     → ChangesRecord (after_create file created) old mid → CountsFailure File old mid created → CountsNeverFall mid new
@@ -54,6 +56,7 @@ put_out old new file text (Ok done) named writes = writes
 put_out old new file text (Err _) named writes =
     search (rules, output_part old writes.between file text named writes.part)
 
+-- If the name is `-`, the bytes that were written to standard output are what was to be saved.
 pub saved_out : (old new : DeskState) (file text : List ℕ) (result : Result (Unit {0}) DeskFault)
     → bytes_eq file (codes "-") ≡ true → WritesAll Output file old new text result → CountsNeverFall old new
     → Reports (SaveStops file) old new (saving_output file text) result
@@ -64,6 +67,7 @@ pub failed_at_file : (stream : Stream) (old new : DeskState) → (stream ≡ Mes
     → HasFailedAt File old new
 failed_at_file stream old new written failed = search rules
 
+-- If writing broke off and this was reported, a prefix of the bytes was written.
 pub writes_some : (stream : Stream) (file text : List ℕ) (old mid new : DeskState) → SendsPart stream old mid text
     → HasFailedAt File old mid → CountsNeverFall old mid → ReportsLine mid new (cause_line (FileFailed file NotWritten))
     → WritesSome stream file old new text

@@ -27,7 +27,7 @@ use Rattle.avr_session.specs.declared.ending.End.TheVariants as ends
 use Rattle.avr_session.specs.Actions.{Action, action_allocates, actions}
 use Rattle.avr_session.specs.Concluding.{HostIsUsable, conclusion, standing_after}
 use Rattle.avr_session.specs.Lines.{fault_line}
-use Rattle.avr_session.specs.Outcomes.{EndsWithFaultLine}
+use Rattle.avr_session.specs.Outcomes.{EndsWithFaultLine, outcome_of}
 use Rattle.avr_session.specs.Session.{emits, standing, reported, unless_fault, fault_line_or, action_dialog, actions_dialog, ending, session, status_of}
 use Rattle.avr_session.specs.Runs.{Cause, PrintingFailed, cause_line, reports_fault, Devices, devices, start, Terms, before_fault, ReportsCause, StopsAfterOutput, RunAllocationPoints, RanWhole}
 use Rattle.avr_session.specs.Reporting.{DeskStops, PrintStops, ReadStops, Reports}
@@ -46,7 +46,7 @@ use Rattle.avr_session.proofs.ActionByAction.Operations.{Stop, fault_at, cause_a
 abbrev Performs : Bool → Dialog OutputEvent Standing → Performing
 Performs allocates dialog = PerformsOnTerms (before_fault allocates) (AtStartOnly allocates) dialog
 
--- a desk that failed in printing stops the run, whatever was reported
+-- A failed write to the messages stops the run, whatever was reported.
 pub print_stops_run : (terms : Terms) (o : LinkState) (d e : DeskState) → CountsNeverFall d e
     → (emitted : List OutputEvent) (cause : Cause) (notice : List ℕ) → PrintStops d e cause notice
     → StopsAfterOutput terms (devices o d) (devices o e) emitted cause notice
@@ -54,26 +54,26 @@ unfolding cause_line
 print_stops_run terms o d e le emitted PrintingFailed notice stops = search (rules, same_here, follows_here)
 print_stops_run terms o d e le emitted cause notice stops = absurd stops
 
--- so does a desk that failed at a file, if no fault was reported
+-- A desk that failed at a file or at the messages stops the run, if no fault was reported.
 desk_stops_run : (allocates : Bool) (o : LinkState) (d e : DeskState) → CountsNeverFall d e
     → (emitted : List OutputEvent) → reports_fault emitted ≡ false → (cause : Cause) (notice : List ℕ)
     → DeskStops d e cause notice
     → StopsAfterOutput (before_fault allocates) (devices o d) (devices o e) emitted cause notice
 desk_stops_run allocates o d e le emitted none cause notice stops = search (rules, print_stops_run)
 
--- the cause that stops a report, after a prefix of its output
-
+-- If a failed write to the messages stopped a report, it stopped the run after a prefix of this output.
 pub print_stops_report : (terms : Terms) (o : LinkState) {d e : DeskState} {outputs : List OutputEvent}
     {notice : Result (Unit {0}) DeskFault} → Reports PrintStops d e outputs notice
     → StopsReport terms o d e outputs PrintStops
 print_stops_report terms o {d = d} {e = e} reports mid cause prefix notice stops = search (rules, print_stops_run)
 
+-- A stop whose line was reported was reported as the terms of a run without a fault want it.
 notice_by : {R : Type 0} (allocates : Bool) (dialog : Dialog ⊥ R) (m : Progress) (o p : LinkState) {d e : DeskState}
     (stop : Stop) → StopsOver allocates dialog m o p stop → ReportsLine d e (cause_line (cause_at stop))
     → ReportedBy (before_fault allocates) (cause_at stop) (devices o d) (devices p e)
 notice_by allocates dialog m o p {d = d} stop over some = search (rules, stop_come)
 
--- a call of an equal operation
+-- A call of an operation is a call of an equal one.
 pub calls_of : {A : Type 0} {allocates : Bool} {a b : Dialog ⊥ (Result A HostFault)} {old new : HostState}
     {o p : LinkState} {outcome : Result A HostFault} → a ≡ b → Calls allocates a old new o p outcome
     → Calls allocates b old new o p outcome
@@ -85,6 +85,7 @@ module _ {A : Type 0} (operation : Dialog ⊥ (Result A HostFault)) (outcome_out
     {notice : Result (Unit {0}) DeskFault} {result : Result (Unit {0}) End}
     {By : DeskState → DeskState → Cause → List ℕ → Type 0} (reports : Reports By d e (outcome_output outcome) notice)
   where
+    -- On any terms, the operation and its report were performed as one action.
     action_performs : (terms : Terms) → StopsReport terms p d e (outcome_output outcome) By
         → ((stop : Stop) → StopsAs outcome stop → StopsOver terms.allocates operation old.progress o p stop
         → ReportedBy terms (cause_at stop) (devices o d) (devices p e)) → old.broken ≡ None
@@ -93,6 +94,7 @@ module _ {A : Type 0} (operation : Dialog ⊥ (Result A HostFault)) (outcome_out
         (devices p e) (standing_after result)
     action_performs terms why is_reported sound calls is = search (rules, operation_runs)
 
+    -- The same before any fault was reported.
     pub operation_performs : (allocates : Bool) → StopsReport (before_fault allocates) p d e (outcome_output outcome) By
         → ((stop : Stop) → StopsAs outcome stop → ReportsLine d e (cause_line (cause_at stop)))
         → old.broken ≡ None → Calls allocates operation old new o p outcome → result ≡ conclusion outcome notice
@@ -100,6 +102,7 @@ module _ {A : Type 0} (operation : Dialog ⊥ (Result A HostFault)) (outcome_out
         (standing_after result)
     operation_performs allocates why some sound calls = search (rules, action_performs, notice_by)
 
+-- The output in place of an action ran whole, or broke off.
 left_out_runs : (allocates : Bool) (outputs : List OutputEvent) (m : Progress) (o : LinkState) (d e : DeskState)
     (notice : Result (Unit {0}) DeskFault) → Reports PrintStops d e outputs notice
     → Runs (emits outputs (Done NoFault)) m (devices o d) (devices o e) (before_fault allocates) (AtStartOnly allocates)
@@ -107,6 +110,7 @@ left_out_runs : (allocates : Bool) (outputs : List OutputEvent) (m : Progress) (
 left_out_runs allocates outputs m o d e (Ok done) reports = search (rules, ran_from, came_emitted)
 left_out_runs allocates outputs m o d e (Err _) reports = search (rules, broke_output, print_stops_report)
 
+-- The output in place of an action was performed as an action.
 pub left_out_performs : (allocates : Bool) (outputs : List OutputEvent) {host : HostState} {o : LinkState}
     {d e : DeskState} {notice : Result (Unit {0}) DeskFault} (result : Result (Unit {0}) End) → host.broken ≡ None
     → Reports PrintStops d e outputs notice → result ≡ conclusion {A = Unit {0}} (Ok tt) notice
@@ -117,10 +121,11 @@ left_out_performs allocates outputs {host = host} {o = o} {d = d} {e = e} result
 -- the output in place of an action reports no fault
 pub ends_unreported : (part : Part) (view : DeskState) (notice : Result (Unit {0}) DeskFault)
     {result : Result (Unit {0}) End} → result ≡ conclusion {A = Unit {0}} (Ok tt) notice
-    → EndsWithFaultLine part view result
+    → EndsWithFaultLine part view (outcome_of result)
 ends_unreported part view (Ok done) is = rw is tt
 ends_unreported part view (Err _) is = rw is tt
 
+-- A host that did nothing performed a dialog that is done, in each state that its link allows.
 pub nothing_performs : {terms : Terms} {L : RunAllocationPoints} (standing : Standing) (host : HostState) (o : Devices)
     → HostIsUsable (Ok standing) host.broken → PerformsOnTerms terms L (Done standing) host host o o (Ok standing)
 nothing_performs standing host o serves = search (rules, ran_from, came_here, follows_here)
@@ -129,12 +134,14 @@ nothing_performs standing host o serves = search (rules, ran_from, came_here, fo
 module _ {first : Dialog OutputEvent Standing} {K : RunAllocationPoints} {x y : HostState} {o p : Devices}
     (allocates : Bool) (standing : Standing)
     (done : PerformsOnTerms (before_fault allocates) K first x y o p (Ok standing)) where
+  -- What is known of both parts but their run holds of both together.
   after_done : {terms : Terms} {L M : RunAllocationPoints} {more whole : Dialog OutputEvent Standing} {z : HostState}
       {q : Devices} {result : Result Standing (Unit {0})} → PerformsOnTerms terms M more y z p q result
       → Runs whole x.progress o q (before_fault allocates) L result z.progress
       → PerformsOnTerms (before_fault allocates) L whole x z o q result
   after_done {q = q} rest runs = search rules
 
+  -- The action and what follows it were performed as one.
   pub performs_on : {L M : RunAllocationPoints} (more_allocates : Bool) (go_on : Standing → Dialog OutputEvent Standing)
       {z : HostState} {q : Devices} (result : Result Standing (Unit {0})) → (more_allocates ≡ true → allocates ≡ true)
       → ReportsFault first → LacksLater L x.progress done.runs.during done.runs.events M y.progress
@@ -154,10 +161,8 @@ abbrev performs_as : {terms all : Terms} {L M : RunAllocationPoints} {first whol
 performs_as done runs serves =
     record { runs = runs; serves = serves; part = done.part; link = done.link; desk = done.desk }
 
--- memory is allocated in the one or in the other
-
 module _ (allocates more_allocates : Bool) where
-  -- an action at which a session ends
+  -- An action that ended the session ended both, whichever of the two allocates.
   performs_last : {first : Dialog OutputEvent Standing} {L M : RunAllocationPoints} (more : Dialog OutputEvent Standing)
       {x y : HostState} {o p : Devices} (end : End) → LacksLater L x.progress [] [] M x.progress
       → PerformsOnTerms (before_fault allocates) M first x y o p (standing_after (Err end))
@@ -168,6 +173,7 @@ module _ (allocates more_allocates : Bool) where
 
 -- ---- actions that allocate
 
+-- An action that allocates at its start allocates as the only action of a list.
 taking_one : (part : Part) (s : Switches) (action : Action) (m : Progress)
     → LacksLater (AtAllocation part s (action ∷ [])) m [] [] (AtStartOnly (action_allocates action)) m
 taking_one part s action m during shown at = record {
@@ -181,10 +187,12 @@ taking_one part s action m during shown at = record {
   is_played = search rules;
 }
 
+-- If an action of the first list allocates, an action of both lists does.
 taking_prefix : (part : Part) (s : Switches) (xs ys : List Action) (m : Progress)
     → LacksLater (AtAllocation part s (xs ++ ys)) m [] [] (AtAllocation part s xs) m
 taking_prefix part s xs ys m during shown at = search (rules, append_assoc)
 
+-- If an action of the second list allocates after the first ran whole, an action of both lists does.
 taking_then : (part : Part) (s : Switches) (xs ys : List Action) {m n : Progress} {o p : Devices}
     (ran : RanWhole (actions_dialog part s xs) m o p NoFault n)
     → LacksLater (AtAllocation part s (xs ++ ys)) m ran.during ran.events (AtAllocation part s ys) n
@@ -205,11 +213,12 @@ taking_then part s xs ys {m = m} {n = n} ran during shown at =
 
 -- ---- the actions of a plan
 
+-- A host that can be used has done no actions.
 pub does_nothing : (plan : Plan) (host : HostState) (o : Devices) → host.broken ≡ None
     → DoesPlanActions plan [] host host o o (Ok NoFault)
 does_nothing plan host o sound = nothing_performs NoFault host o sound
 
--- the same action, by the other places that may allocate
+-- An action that was performed stays so if allocation may fail at more points.
 performs_lacking : {terms : Terms} {L M : RunAllocationPoints} {dialog : Dialog OutputEvent Standing} {x y : HostState}
     {o p : Devices} → LacksLater L x.progress [] [] M x.progress → (result : Result Standing (Unit {0}))
     → PerformsOnTerms terms M dialog x y o p result → PerformsOnTerms terms L dialog x y o p result
@@ -218,19 +227,20 @@ performs_lacking lack (Ok standing) done = performs_as done done.runs done.serve
 performs_lacking {dialog = dialog} {x = x} {o = o} lack (Err stopped) done = performs_as done
     (broke_on (came_here dialog x.progress o) (λ emitted cause notice stops. stops) lack done.runs) done.serves
 
+-- An action that was performed is a list of one action that was done.
 pub does_one : (plan : Plan) (action : Action) {x y : HostState} {o p : Devices} {result : Result Standing (Unit {0})}
     → Performs (action_allocates action) (action_dialog plan.part plan.switches action) x y o p result
     → DoesPlanActions plan (action ∷ []) x y o p result
 does_one plan action {x = x} {y = y} {o = o} {p = p} {result = result} done =
     search (rules, or-false, actions_dialog_one, performs_lacking, taking_one)
 
--- the same actions, in another form
+-- Actions that were done are done as an equal list.
 pub does_same : (plan : Plan) (xs ys : List Action) {x y : HostState} {o p : Devices}
     {result : Result Standing (Unit {0})}
     → xs ≡ ys → DoesPlanActions plan xs x y o p result → DoesPlanActions plan ys x y o p result
 does_same plan xs ys {x = x} {y = y} {o = o} {p = p} {result = result} same done = search rules
 
--- one that is an operation of the host, and the print about its outcome
+-- An operation of the host and the lines about its outcome were done as an action.
 pub does_printed : (plan : Plan) (action : Action) {A : Type 0} {a b : Dialog ⊥ (Result A HostFault)}
     (outcome_output : Result A HostFault → List OutputEvent) {x y : HostState} {o p : LinkState} {d e : DeskState}
     {outcome : Result A HostFault} {notice : Result (Unit {0}) DeskFault} {result : Result (Unit {0}) End}
@@ -245,6 +255,7 @@ does_printed plan action {b = b} outcome_output dialog line sound same calls rep
     (calls_of same calls) is))
 
 module _ (plan : Plan) (xs ys : List Action) where
+  -- Actions of two lists that were performed in order, the second unless a fault skips them, were done as one list.
   does_both : {x y : HostState} {o p : Devices} {result : Result Standing (Unit {0})}
       → PerformsOnTerms (before_fault (list_any action_allocates xs || list_any action_allocates ys))
       (AtAllocation plan.part plan.switches (xs ++ ys)) (actions_dialog plan.part plan.switches xs
@@ -253,6 +264,7 @@ module _ (plan : Plan) (xs ys : List Action) where
   does_both {x = x} {y = y} {o = o} {p = p} {result = result} done =
       search (rules, list_any-append, actions_dialog_append)
 
+  -- If actions were done without a fault, and then others, the actions of both lists were done in order.
   pub does_then : {x y z : HostState} {o p q : Devices} (result : Result Standing (Unit {0}))
       → DoesPlanActions plan xs x y o p (Ok NoFault) → DoesPlanActions plan ys y z p q result
       → DoesPlanActions plan (xs ++ ys) x z o q result
@@ -261,19 +273,20 @@ module _ (plan : Plan) (xs ys : List Action) where
       (performs_as done done.runs done.serves) _ (unless_fault (actions_dialog plan.part plan.switches ys)) result
       (search rules) (actions_report _ plan.switches xs) (taking_then plan.part plan.switches xs ys done.runs) rest)
 
-  -- the others are skipped
+  -- If actions ended in a fault, the actions of both lists ended in it, because the others are skipped.
   pub does_last : {x y : HostState} {o p : Devices} (end : End)
       → DoesPlanActions plan xs x y o p (standing_after (Err end)) → DoesPlanActions plan (xs ++ ys) x y o p
       (standing_after (Err end))
   does_last {x = x} end done = search (rules, does_both, performs_last, taking_prefix)
 
--- a read, whose data are in a vector
+-- ---- a read, whose bytes are in a vector
 
+-- What an outcome carries does not decide how the session goes on.
 pub given_concluded : {A : Type 0} (a : A) (outcome : Result (Unit {0}) HostFault)
     (notice : Result (Unit {0}) DeskFault) → conclusion (result_and outcome (Ok a)) notice ≡ conclusion outcome notice
 given_concluded a outcome notice = search rules
 
--- why a run stops depends on the fault alone
+-- A read that stopped the run was reported by the line of its cause: the bytes don't matter.
 pub given_reported : {A : Type 0} (a : A) (good : A → List OutputEvent) {d e : DeskState} (part : Part)
     (outcome : Result (Unit {0}) HostFault) {notice : Result (Unit {0}) DeskFault}
     → Reports (ReadStops outcome) d e (fault_line_or part good (result_and outcome (Ok a))) notice
@@ -282,7 +295,7 @@ given_reported a good part (Ok ok) reports stop is = absurd (cc)
 given_reported a good part (Err fault) reports stop is =
     cause_is_reported part (fault_line_or part good) (λ stop. refl) reports stop is
 
--- only if bytes were read is there something to save, and they are reported without a fault
+-- What stopped the report of a read stopped the run: only bytes that were read are saved, and no fault was reported.
 pub read_stops_report : (part : Part) (good : List ℕ → List OutputEvent) (items : List ℕ) → reports_fault (good items)
     ≡ false → (outcome : Result (Unit {0}) HostFault) (allocates : Bool) (o : LinkState) {d e : DeskState}
     {notice : Result (Unit {0}) DeskFault}
@@ -293,22 +306,25 @@ read_stops_report part good items none (Ok done) allocates o {d = d} {e = e} rep
     search (rules, desk_stops_run, prefix_reports_none)
 read_stops_report part good items none (Err fault) allocates o reports = search (rules, print_stops_report)
 
--- the end of a session
+-- ---- the end of a session
 
+-- What stopped the first part of a dialog stopped the whole.
 pub performs_until : {terms : Terms} {L : RunAllocationPoints} {first : Dialog OutputEvent Standing}
     (go_on : Standing → Dialog OutputEvent Standing) {x y : HostState} {o p : Devices} (stopped : Unit {0})
     → PerformsOnTerms terms L first x y o p (Err stopped)
     → PerformsOnTerms terms L (first >>= go_on) x y o p (Err stopped)
 performs_until go_on stopped done = search (rules, broke_part)
 
+-- The terms after a fault was reported: nothing is allocated.
 abbrev reported_before : Terms
 reported_before = record { allocates = false; has_reported = true }
 
--- a failed link isn't reported there, and nothing is allocated
+-- After a fault was reported nothing is allocated, and a failed link is not reported.
 silent_at : {R : Type 0} (dialog : Dialog ⊥ R) (m : Progress) (o p : LinkState) (d : DeskState) (stop : Stop)
     → StopsOver false dialog m o p stop → ReportsCause true (cause_at stop) [] d d
 silent_at dialog m o p d stop over = search rules
 
+-- After a fault was reported, a failed link is reported as the terms want it: not at all.
 reported_nothing : {A R : Type 0} (dialog : Dialog ⊥ R) (m : Progress) (o p : LinkState) {outcome : Result A HostFault}
     (d : DeskState) (stop : Stop) → StopsAs outcome stop
     → StopsOver false dialog m o p stop → ReportedBy reported_before (cause_at stop) (devices o d) (devices p d)
@@ -326,14 +342,14 @@ quietly_performs {old = old} {o = o} {p = p} d sound calls is =
     record { emits = (kept_none d.kept, same_here d); follows = follows_here d } in
     search (rules, action_performs, print_stops_report, reported_nothing)
 
--- after it nothing more goes over the link
+-- After programming mode was left, nothing more goes over the link.
 pub quietly_over : {first : Dialog OutputEvent Standing} {L : RunAllocationPoints} {x y : HostState} {o p : Devices}
     (standing : Standing) → PerformsOnTerms reported_before L first x y o p (Ok standing)
     → PerformsOnTerms reported_before L (first >>= λ _. Done Over) x y o p (Ok Over)
 quietly_over {y = y} {p = p} standing done =
     performs_as done (ran_on (came_part (λ _. Done Over) done.runs) (ran_from (came_here (Done Over) y.progress p))) tt
 
--- a session in this state after its actions ends like this
+-- Actions that were done, and then the end for their state, were performed as a whole session.
 pub ends_so : (plan : Plan) (standing : Standing) {x y z : HostState} {o p q : Devices}
     (result : Result Standing (Unit {0})) → DoesPlanActions plan (actions plan) x y o p (Ok standing)
     → EndsSession plan standing y z p q result → PlaysSession plan x z o q result
@@ -341,7 +357,7 @@ ends_so plan standing result done rest =
     performs_on _ standing done false (ending plan.part plan.switches) result (λ e. absurd (cc))
     (actions_report _ plan.switches (actions plan)) (λ during shown never. let e = never.0 in absurd (cc)) rest
 
--- a whole session, run to its status, or stopped in this state
+-- A whole session that was performed ran to the status of its state.
 pub session_played : (plan : Plan) {x y : HostState} {o p : Devices} (standing : Standing) → x.progress ≡ start
     → PlaysSession plan x y o p (Ok standing) → RanToStatus (session plan) o p (status_of standing)
 unfolding session
@@ -349,6 +365,7 @@ session_played plan {x = x} {y = y} {o = o} {p = p} standing first done =
     let ran = ran_on (came_part (λ standing. Done (status_of standing)) done.runs)
     (ran_from (came_here (Done (status_of standing)) y.progress p)) in search rules
 
+-- A session that stopped broke off.
 pub session_stopped : (plan : Plan) {x y : HostState} {o p : Devices} (stopped : Unit {0}) → x.progress ≡ start
     → PlaysSession plan x y o p (Err stopped) → StopsSession plan o p
 unfolding session

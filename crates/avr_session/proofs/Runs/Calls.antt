@@ -1,5 +1,5 @@
 -- How a call over a link and a desk goes on in its dialog.
-use Rattle.std.proofs.Common.{◌≡◌, ℕ, ◌≤◌, true, ◌||◌, List, [], ◌∷◌, ◌++◌, append_assoc, append-nil, length, map, refl, sym, ap, ◌∙◌, subst, rules}
+use Rattle.std.proofs.Common.{◌≡◌, ℕ, ◌≤◌, true, ◌||◌, List, [], ◌∷◌, ◌++◌, None, append_assoc, append-nil, length, map, refl, sym, ap, ◌∙◌, subst, rules}
 use Rattle.std.proofs.Math.Bool.{or_assoc}
 use Rattle.std.proofs.lemmas.List.Folds.{list_any-append}
 use Rattle.avr_desk.specs.Fault.{HasSameCounts}
@@ -19,7 +19,7 @@ use Rattle.avr_desk.specs.OutputEvents.{OutputEvent, IsPartOfEvent, after_events
 use Rattle.avr_desk.proofs.Stages.Outputs.{kept_on, kept_none, after_append}
 use Rattle.avr_desk.proofs.Lines.ReportedAs.{follows_on, follows_same, same_here, same_on}
 use Rattle.avr_session.specs.Session.{emits}
-use Rattle.avr_session.specs.Runs.{Devices, devices, NoDeviceFailed, Cause, SendingFailed, ReceivingFailed, AllocationFailed, reports_fault, StopsAt, Listens, RunAllocationPoints, Terms, StopsAfterOutput, RanWhole, BrokeOff}
+use Rattle.avr_session.specs.Runs.{Devices, devices, NoDeviceFailed, Cause, SendingFailed, ReceivingFailed, AllocationFailed, reports_fault, StopsAt, RunAllocationPoints, Terms, StopsAfterOutput, RanWhole, BrokeOff}
 use Rattle.avr_session.specs.Reporting.{IsOfDesk, OutputsPrefix, OutputsPrefixAndReports}
 use Rattle.avr_session.proofs.Runs.Stops.{place_behind, outputs_emitted, map_append}
 
@@ -29,6 +29,7 @@ pub record Point (R : Type 0) : Type 0 where
   pub progress_at : Progress
   pub devices : Devices
 
+-- A point by its three parts.
 abbrev pub point : {R : Type 0} → Dialog OutputEvent R → Progress → Devices → Point R
 point left progress_at devices = record { left = left; progress_at = progress_at; devices = devices }
 
@@ -42,26 +43,30 @@ pub record Came {R : Type 0} (x y : Point R) : Type 0 where
   pub kept : ChangesRecord (after_events (outputs events)) x.devices.desk y.devices.desk
   pub sound : NoDeviceFailed x.devices y.devices
 
--- if no call failed until a moment and none after it, none failed
+-- Between a state and itself no call failed.
 pub none_failed_here : (o : Devices) → NoDeviceFailed o o
 none_failed_here o = (refl, same_here o.desk)
 
+-- If no call failed until a moment and none after it, none failed.
 pub none_failed_on : (o p q : Devices) → NoDeviceFailed o p → NoDeviceFailed p q → NoDeviceFailed o q
 none_failed_on o p q first then = (then.0 ∙ first.0, same_on o.desk p.desk q.desk first.1 then.1)
 
--- output events among events
+-- ---- output events among events
 
+-- The output events of two lists are those of both.
 pub outputs_append : (x y : List (Event OutputEvent)) → outputs (x ++ y) ≡ outputs x ++ outputs y
 outputs_append [] y = refl
 outputs_append (Emitted output ∷ x) y = ap (λ ss. output ∷ ss) (outputs_append x y)
 outputs_append (_ ∷ x) y = outputs_append x y
 
+-- The record after the output of two lists is that after the second, on the record after the first.
 after_both : (x y : List (Event OutputEvent)) (r : Record)
     → after_events (outputs (x ++ y)) r ≡ after_events (outputs y) (after_events (outputs x) r)
 after_both x y r = ap (λ ss. after_events ss r) (outputs_append x y) ∙ after_append (outputs x) (outputs y) r
 
--- how far a call has come
+-- ---- how far a call has come
 
+-- A call has come so far, by these facts.
 abbrev came : {R : Type 0} {x y : Point R} (during : Transcript) (events : List (Event OutputEvent))
     → Grows x.devices.link.transcript during y.devices.link.transcript
     → TranscriptLeads x.left x.progress_at during events y.left y.progress_at
@@ -78,11 +83,13 @@ came during events grows leads few kept sound = record {
   sound = sound;
 }
 
+-- A call that did nothing has come to where it was.
 unfoldable pub came_here : {R : Type 0} (dialog : Dialog OutputEvent R) (m : Progress) (o : Devices)
     → Came (point dialog m o) (point dialog m o)
 came_here dialog m o = came [] [] (grows_none o.link.transcript) (leads_here dialog m) (λ f. f)
     (kept_none o.desk.kept) (none_failed_here o)
 
+-- A call that came to a point, and from there to another, came to that one.
 pub came_on : {R : Type 0} {x y z : Point R} → Came x y → Came y z → Came x z
 came_on {x = x} {y = y} {z = z} f g =
     let o = x.devices in
@@ -93,25 +100,27 @@ came_on {x = x} {y = y} {z = z} f g =
     (leads_on f.leads g.leads) (λ few. g.few (f.few few)) (search (rules, kept_on, after_both))
     (none_failed_on o p q f.sound g.sound)
 
--- a dialog was run whole: the call has come to its result
+-- ---- a dialog that ran whole
 
+-- A call that came to its result ran whole.
 pub ran_from : {R : Type 0} {a : Dialog OutputEvent R} {m n : Progress} {o p : Devices} {result : R}
     → Came (point a m o) (point (Done result) n p) → RanWhole a m o p result n
 ran_from f = search rules
 
--- so a part of a dialog was, by its transcript
+-- If a dialog ran whole, a call of another one has come as far as this transcript leads it.
 abbrev came_of : {A R : Type 0} {a : Dialog OutputEvent A} {m n : Progress} {o p : Devices} {result : A}
     {b c : Dialog OutputEvent R} (f : RanWhole a m o p result n) → TranscriptLeads b m f.during f.events c n
     → Came (point b m o) (point c n p)
 came_of f leads = came f.during f.events f.grows leads f.few f.kept f.sound
 
+-- If a call came to a point and ran whole from there, it ran whole.
 pub ran_on : {R : Type 0} {x y : Point R} {q : Devices} {result : R} {n : Progress} → Came x y
     → RanWhole y.left y.progress_at y.devices q result n → RanWhole x.left x.progress_at x.devices q result n
 ran_on f ran = ran_from (came_on f (came_of ran (leads_from ran.plays)))
 
--- breaking off
+-- ---- a dialog that broke off
 
--- what stops such a part stops the whole, after these output events
+-- What stops a part of a dialog on some terms stops the whole on its own, after these output events.
 abbrev pub StopsWhole : Terms → Terms → List OutputEvent → Devices → Devices → Devices → Type 0
 StopsWhole some all before o p q = (emitted : List OutputEvent) (cause : Cause) (notice : List ℕ)
     → StopsAfterOutput some p q emitted cause notice → StopsAfterOutput all o q (before ++ emitted) cause notice
@@ -122,7 +131,7 @@ abbrev pub LacksLater : RunAllocationPoints → Progress → Transcript → List
 LacksLater L m transcript events M n = (during : Transcript) (shown : List (Event OutputEvent)) → M n during shown
     → L m (transcript ++ during) (events ++ shown)
 
--- after other output events, if these report as the terms assume
+-- What stops a part stops the whole, if the output before it reports a fault just if the terms of the part say so.
 pub stops_in : (some all : Terms) (before : List OutputEvent) (o p q : Devices) → (some.allocates ≡ true → all.allocates
     ≡ true) → NoDeviceFailed o p → (all.has_reported || reports_fault before) ≡ some.has_reported
     → StopsWhole some all before o p q
@@ -138,6 +147,7 @@ record Placed (cause : Cause) (during : Transcript) (shown events : List (Event 
   events_are : events ≡ whole ++ later
   place : StopsAt cause during whole begun later
 
+-- A cause that stopped events stopped them after more events, too.
 placed_behind : {cause : Cause} {shown events : List (Event OutputEvent)} (first during : Transcript)
     (before : List (Event OutputEvent)) → NoneTaken first
     → Placed cause during shown events → Placed cause (first ++ during) (before ++ shown) (before ++ events)
@@ -150,6 +160,7 @@ placed_behind {cause = cause} first during before none f = record {
   place = place_behind cause first during before f.whole f.begun f.later none f.place;
 }
 
+-- A cause that stopped events stopped them before more events, too, unless the run waits.
 placed_more : {cause : Cause} {during : Transcript} {shown events : List (Event OutputEvent)}
     (more : List (Event OutputEvent)) → (cause ≡ ReceivingFailed → more ≡ []) → Placed cause during shown events
     → Placed cause during shown (events ++ more)
@@ -163,18 +174,21 @@ ReportedBy terms cause o p = (notice : List ℕ) × StopsAfterOutput terms o p [
 module _ {R : Type 0} {dialog : Dialog OutputEvent R} {m : Progress} {o p : Devices} {terms : Terms}
     {L : RunAllocationPoints}
   where
+    -- A call that broke off has such a place in the events of its run.
     placed_of : (f : BrokeOff dialog m o p terms L)
         → Placed f.cause f.during f.shown (played_over dialog m f.during).events
     placed_of f = search rules
 
+    -- A call broke off, by these facts.
     broke_off : (during : Transcript) (shown : List (Event OutputEvent)) (cause : Cause) (notice : List ℕ)
         → Grows o.link.transcript during p.link.transcript
         → Placed cause during shown (played_over dialog m during).events
         → bytes_sent shown ≡ sent during → InTurn dialog m during
-        → Listens cause (played_over dialog m during).outcome → StopsAfterOutput terms o p (outputs shown) cause notice
+        → (cause ≡ ReceivingFailed → (played_over dialog m during).outcome ≡ None)
+        → StopsAfterOutput terms o p (outputs shown) cause notice
         → ChangesRecord (λ r. after_err notice (after_events (outputs shown) r)) o.desk p.desk
         → (cause ≡ AllocationFailed → L m during shown) → BrokeOff dialog m o p terms L
-    broke_off during shown cause notice grows placed all_sent in_turn listens stops kept at_point = record {
+    broke_off during shown cause notice grows placed all_sent in_turn waits stops kept at_point = record {
       during = during;
       shown = shown;
       cause = cause;
@@ -182,21 +196,23 @@ module _ {R : Type 0} {dialog : Dialog OutputEvent R} {m : Progress} {o p : Devi
       grows = grows;
       breaks = search rules;
       place = placed.place;
-      listens = listens;
+      waits = waits;
       stops = stops;
       at_point = at_point;
       kept = kept;
     }
 
+    -- The same for a call without output.
     broke_silent : (during : Transcript) (shown : List (Event OutputEvent)) (cause : Cause) → outputs shown ≡ []
         → ReportedBy terms cause o p → Grows o.link.transcript during p.link.transcript
         → Placed cause during shown (played_over dialog m during).events → bytes_sent shown ≡ sent during
-        → InTurn dialog m during → Listens cause (played_over dialog m during).outcome
+        → InTurn dialog m during → (cause ≡ ReceivingFailed → (played_over dialog m during).outcome ≡ None)
         → (cause ≡ AllocationFailed → L m during shown) → BrokeOff dialog m o p terms L
-    broke_silent during shown cause quiet some grows placed all_sent in_turn listens at_point =
-        broke_off during shown cause some.0 grows placed all_sent in_turn listens
+    broke_silent during shown cause quiet some grows placed all_sent in_turn waits at_point =
+        broke_off during shown cause some.0 grows placed all_sent in_turn waits
         (rw quiet some.1) (rw quiet some.2) at_point
 
+-- If a call came to a point and broke off after it, it broke off.
 pub broke_on : {R : Type 0} {x y : Point R} {q : Devices} {some all : Terms} {L M : RunAllocationPoints}
     (came : Came x y) → StopsWhole some all (outputs came.events) x.devices y.devices q
     → LacksLater L x.progress_at came.during came.events M y.progress_at
@@ -213,34 +229,37 @@ broke_on {R = R} {x = x} {y = y} {q = q} {all = all} came why lack broke =
     (subst (λ (play : Played OutputEvent R). Placed broke.cause (came.during ++ broke.during)
     (came.events ++ broke.shown) play.events) (sym play)
     (placed_behind came.during broke.during came.events came.leads.none_taken (placed_of broke))) whole.all_sent
-    whole.in_turn (subst (λ (play : Played OutputEvent R). Listens broke.cause play.outcome) (sym play) broke.listens)
+    whole.in_turn (λ is. ap (λ (play : Played OutputEvent R). play.outcome) play ∙ broke.waits is)
     (search (rules, outputs_append))
     (search (rules, kept_on, after_both))
     (λ is. lack broke.during broke.shown (broke.at_point is))
 
+-- Allocation fails nowhere.
 abbrev pub Never : RunAllocationPoints
 Never before during shown = ⊥
 
--- after a part without output, if nothing is allocated since
+-- If a part without output ran, and then the rest broke off without allocating, the whole broke off.
 pub broke_quietly : {R : Type 0} {x y : Point R} {q : Devices} {terms : Terms} {L : RunAllocationPoints}
     (came : Came x y) → outputs came.events ≡ [] → BrokeOff y.left y.progress_at y.devices q terms Never
     → BrokeOff x.left x.progress_at x.devices q terms L
 broke_quietly {x = x} {y = y} {q = q} {terms = terms} came quiet broke =
     broke_on came (search rules) (λ during shown never. absurd never) broke
 
--- in an operation of the host; its report follows it
+-- ---- an operation of the host
 
+-- The cause for a fault of the link.
 abbrev pub broken_cause : HostFault → Cause
 broken_cause SendFailed = SendingFailed
 broken_cause fault = ReceivingFailed
 
+-- If the link broke off an operation, the call broke off.
 broke_raised : {A : Type 0} (by : HostFault) {dialog : Dialog ⊥ A} {m : Progress} {o p : Devices} {terms : Terms}
     {L : RunAllocationPoints} → BreaksOverLink by dialog m o.link p.link → ReportedBy terms (broken_cause by) o p
     → BrokeOff (lifted dialog) m o p terms L
 broke_raised SendFailed {dialog = dialog} {m = m} f some =
     let g = by_lifted OutputEvent SendFailed dialog m f.during f.shown f.breaks in
     broke_silent f.during (raised f.shown) SendingFailed (outputs_raised f.shown) some f.grows
-    (search rules) g.all_sent g.in_turn tt (λ is. absurd (cc))
+    (search rules) g.all_sent g.in_turn (λ is. absurd (cc)) (λ is. absurd (cc))
 broke_raised RecvFailed {dialog = dialog} {m = m} f some =
     let g = by_lifted OutputEvent RecvFailed dialog m f.during f.shown f.breaks in
     let none = sym (append-nil (raised f.shown)) in
@@ -251,7 +270,7 @@ broke_raised RecvFailed {dialog = dialog} {m = m} f some =
       shown_is = none;
       events_are = sym g.shown_is ∙ none;
       place = (g.none_taken, refl, refl);
-    }) g.all_sent g.in_turn g.waits (λ is. absurd (cc))
+    }) g.all_sent g.in_turn (λ is. g.waits) (λ is. absurd (cc))
 broke_raised _ f some = absurd f.breaks
 
 -- what follows a part of a dialog
@@ -263,10 +282,12 @@ module _ {A R : Type 0} (go_on : A → Dialog OutputEvent R) where
       came f.during (raised f.events) f.grows (leads_bind go_on (leads_from (plays_lifted f.plays))) (λ _. few)
       (rw (outputs_raised f.events) (kept_none d.kept)) (f.sound, same_here d)
 
+  -- If the first part of a dialog ran whole, the call has come to what follows it.
   unfoldable pub came_part : {a : Dialog OutputEvent A} {m n : Progress} {o p : Devices} {result : A}
       → RanWhole a m o p result n → Came (point (a >>= go_on) m o) (point (go_on result) n p)
   came_part f = came_of f (leads_bind go_on (leads_from f.plays))
 
+  -- If the first part of a dialog broke off, the dialog did.
   pub broke_part : {a : Dialog OutputEvent A} {m : Progress} {o p : Devices} {some all : Terms}
       {L M : RunAllocationPoints} → StopsWhole some all [] o o p → LacksLater L m [] [] M m → BrokeOff a m o p some M
       → BrokeOff (a >>= go_on) m o p all L
@@ -276,30 +297,35 @@ module _ {A R : Type 0} (go_on : A → Dialog OutputEvent R) where
       let bound = sym (played_bind a go_on m.next (on_tape m.unread ++ heard f.during)) in
       broke_off f.during f.shown f.cause f.notice f.grows
       (subst (λ (play : Played OutputEvent R). Placed f.cause f.during f.shown play.events) bound (placed_more
-      (continued play.outcome next).events (search rules) (placed_of f)))
+      (continued play.outcome next).events (λ is. ap (λ o. (continued o next).events) (f.waits is)) (placed_of f)))
       f.breaks.all_sent (breaks_bind IsPartOfEvent go_on f.breaks).in_turn
-      (search rules) (why (outputs f.shown) f.cause f.notice f.stops) f.kept
+      (λ is. ap (λ (p : Played OutputEvent R). p.outcome) (sym bound)
+      ∙ ap (λ o. (continued o next).outcome) (f.waits is)) (why (outputs f.shown) f.cause f.notice f.stops) f.kept
       (λ is. lack f.during f.shown (f.at_point is))
 
+  -- If the link broke off an operation, the dialog that begins with it broke off.
   pub broke_operation : (by : HostFault) {dialog : Dialog ⊥ A} {m : Progress} {o p : Devices} {terms : Terms}
       {L : RunAllocationPoints} → BreaksOverLink by dialog m o.link p.link → ReportedBy terms (broken_cause by) o p
       → BrokeOff (lifted dialog >>= go_on) m o p terms L
   broke_operation by {L = L} f some =
       broke_part {M = L} (λ emitted cause notice s. s) (λ during shown lack. lack) (broke_raised by f some)
 
--- output
+-- ---- output
 
+-- Output events lead to what follows them, without any transcript.
 leads_output : {R : Type 0} (xs : List OutputEvent) (dialog : Dialog OutputEvent R) (m : Progress)
     → TranscriptLeads (emits xs dialog) m [] (map Emitted xs) dialog m
 leads_output [] dialog m = leads_here dialog m
 leads_output (x ∷ xs) dialog m = leads_on (leads_emit x (emits xs dialog) m) (leads_output xs dialog m)
 
+-- The events of a dialog that outputs first are this output, and then those of what follows.
 emits_events : {R : Type 0} (xs : List OutputEvent) (dialog : Dialog OutputEvent R) (seq : ℕ) (u : List ℕ)
     → (played (emits xs dialog) seq (on_tape u ++ [])).events
     ≡ map Emitted xs ++ (played dialog seq (on_tape u ++ [])).events
 emits_events [] dialog seq u = refl
 emits_events (x ∷ xs) dialog seq u = ap (λ es. Emitted x ∷ es) (emits_events xs dialog seq u)
 
+-- Output events send no bytes.
 no_bytes : (xs : List OutputEvent) → bytes_sent (map {B = Event OutputEvent} Emitted xs) ≡ []
 no_bytes [] = refl
 no_bytes (x ∷ xs) = no_bytes xs
@@ -312,11 +338,13 @@ StopsReport terms o d e outputs By = (mid : DeskState) (cause : Cause) (prefix :
     ++ prefix.begun) cause notice
 
 module _ {R : Type 0} (xs : List OutputEvent) (dialog : Dialog OutputEvent R) (m : Progress) (o : LinkState) where
+  -- If output was done, the call has come to what follows it.
   pub came_emitted : {d e : DeskState} → ChangesRecord (after_events xs) d e × HasSameCounts d e
       → Came (point (emits xs dialog) m (devices o d)) (point dialog m (devices o e))
   came_emitted {d = d} {e = e} emitted =
       search (rules, grows_none o.transcript, leads_output xs dialog m, outputs_emitted xs)
 
+  -- If a cause stopped output, the call broke off.
   pub broke_output : {By : DeskState → DeskState → Cause → List ℕ → Type 0} {terms : Terms} {L : RunAllocationPoints}
       {d e : DeskState} → StopsReport terms o d e xs By → OutputsPrefixAndReports By d e xs
       → BrokeOff (emits xs dialog) m (devices o d) (devices o e) terms L
@@ -325,14 +353,14 @@ module _ {R : Type 0} (xs : List OutputEvent) (dialog : Dialog OutputEvent R) (m
       let shown : List OutputEvent = prefix.whole ++ prefix.begun in
       broke_off [] (map Emitted shown) f.cause f.notice (grows_none o.transcript)
       (subst (Placed f.cause [] (map Emitted shown)) (sym (emits_events xs dialog m.next m.unread))
-      (placed_more (played_over dialog m []).events (λ listens. absurd (search rules))
-      (search (rules, map_append)))) (no_bytes shown) tt (search rules)
+      (placed_more (played_over dialog m []).events (λ receives. absurd (search rules))
+      (search (rules, map_append)))) (no_bytes shown) tt (λ is. absurd (subst IsOfDesk is prefix.by_desk))
       (rw (outputs_emitted shown) (why f.between f.cause f.prefix f.notice f.stops))
       (search (rules, kept_on, outputs_emitted)) (λ is. absurd (subst IsOfDesk is prefix.by_desk))
 
--- at once, for a failed allocation
+-- If allocation failed at once, the call broke off before anything happened.
 pub broke_lacking : {R : Type 0} {terms : Terms} {L : RunAllocationPoints} {o p : Devices}
     (dialog : Dialog OutputEvent R) (m : Progress)
     → p.link ≡ o.link → ReportedBy terms AllocationFailed o p → L m [] [] → BrokeOff dialog m o p terms L
 broke_lacking {o = o} dialog m same some lack = broke_silent [] [] AllocationFailed refl some
-    (rw same (grows_none o.link.transcript)) (search rules) refl tt tt (λ is. lack)
+    (rw same (grows_none o.link.transcript)) (search rules) refl tt (λ is. absurd (cc)) (λ is. lack)

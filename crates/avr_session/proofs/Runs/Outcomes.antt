@@ -13,15 +13,16 @@ use Rattle.avr_session.specs.Run.{RunsSession}
 use Rattle.avr_session.specs.Runs.{Devices, start}
 use Rattle.avr_session.proofs.ActionByAction.Sequences.{session_played, session_stopped}
 
+-- A session that was performed comes to the outcome of its result.
 pub session_comes : (plan : Plan) {x y : HostState} {o p : Devices} (result : Result (Unit {0}) End)
-    → x.progress ≡ start → PlaysSession plan x y o p (standing_after result) → EndsWithFaultLine plan.part p.desk result
-    → ComesTo plan o p (outcome_of result)
+    → x.progress ≡ start → PlaysSession plan x y o p (standing_after result)
+    → EndsWithFaultLine plan.part p.desk (outcome_of result) → ComesTo plan o p (outcome_of result)
 session_comes plan (Ok all) first done last = session_played plan NoFault first done
 session_comes plan (Err (ends.Faulty fault)) first done last = (session_played plan Faulty first done, last)
 session_comes plan (Err (ends.Over fault)) first done last = (session_played plan Over first done, last)
 session_comes plan (Err ends.Stopped) first done last = session_stopped plan tt first done
 
--- its outcome has its status
+-- A session that came to an outcome ran to the status of this outcome.
 pub comes_runs : (plan : Plan) (old new : Devices) (outcome : Outcome) → ComesTo plan old new outcome
     → RunsSession plan old new (outcome_status outcome)
 comes_runs plan old new outcome comes = search rules

@@ -12,9 +12,8 @@ use Rattle.avr_session.specs.Run.{RunsSession}
 use Rattle.avr_session.specs.Session.{session}
 use Rattle.avr_session.specs.Stopping.{keeping, IsSound, EndWithLine, RanToStatus}
 
--- sound devices leave only allocation as a cause
-
--- so a run that broke off reports it
+-- If no device failed, allocation is the only cause that is left, so the messages of a run that broke off end with its
+-- line.
 pub broke_lacks : {R : Type 0} {L : RunAllocationPoints} (dialog : Dialog OutputEvent R) (m : Progress)
     (o p : LinkState) (before after : Record) (a b : ℕ × ℕ) (allocates : Bool)
     → IsSound (devices o (keeping before a)) (devices p (keeping after b))

@@ -14,7 +14,7 @@ use Rattle.avr_session.specs.Reporting.{IsOfDesk, OutputsPrefix}
 
 -- ---- events
 
--- more events happened before it
+-- A cause that stops events stops them after more events, too, if no send took bytes before.
 pub place_behind : (cause : Cause) (first during : Transcript) (before whole begun later : List (Event OutputEvent))
     → NoneTaken first → StopsAt cause during whole begun later
     → StopsAt cause (first ++ during) (before ++ whole) begun later
@@ -26,25 +26,25 @@ place_behind (FileFailed file NotWritten) first during before whole begun later 
 place_behind (FileFailed file NotWritten) first during before whole begun later none (inr x) = inr x
 place_behind cause first during before whole begun later none x = x
 
--- the same for output events, which need no transcript
-
 -- ---- output events
 
+-- The output events of emitted events are these.
 pub outputs_emitted : (xs : List OutputEvent) → outputs (map Emitted xs) ≡ xs
 outputs_emitted [] = refl
 outputs_emitted (x ∷ xs) = ap (λ ss. x ∷ ss) (outputs_emitted xs)
 
+-- Emitted events of two lists are those of both.
 pub map_append : (x y : List OutputEvent) → map {B = Event OutputEvent} Emitted (x ++ y) ≡ map Emitted x
     ++ map Emitted y
 map_append [] y = refl
 map_append (s ∷ x) y = ap (λ es. Emitted s ∷ es) (map_append x y)
 
--- output events, by their events
+-- Output events are those of the list that emits them.
 pub outputs_by : (xs : List OutputEvent) (events : List (Event OutputEvent)) → map Emitted xs ≡ events → xs
     ≡ outputs events
 outputs_by xs events is = sym (outputs_emitted xs) ∙ ap outputs is
 
--- output events that were done, and a prefix of others after them
+-- If output was done, and then a prefix of more, a prefix of both was done.
 pub prefix_behind : {cause : Cause} {d e f : DeskState} (done more : List OutputEvent)
     → ChangesRecord (after_events done) d e → OutputsPrefix cause e f more → OutputsPrefix cause d f (done ++ more)
 prefix_behind {cause = cause} {d = d} {e = e} {f = f} done more kept x = record {
@@ -59,29 +59,30 @@ prefix_behind {cause = cause} {d = d} {e = e} {f = f} done more kept x = record 
   kept = search (rules, append_assoc, kept_append);
 }
 
--- a prefix of some output events is a prefix of more
+-- A prefix of output is a prefix of it with more behind.
 pub prefix_of : {cause : Cause} {d e : DeskState} (some more : List OutputEvent) → OutputsPrefix cause d e some
     → OutputsPrefix cause d e (some ++ more)
 prefix_of {cause = cause} some more x = search (rules, append_assoc, map_append)
 
--- an event of which the first n bytes were done; for the three prefixes below: of a line, a file and the output
+-- An event of which the first n bytes were done is stopped within. The three lemmas below are of a line, of a file
+-- and of standard output.
 part_due : (event : Bytes → OutputEvent) (n : ℕ) (bytes : Bytes)
     → StopsInOutput event (Emitted (event (take n bytes)) ∷ []) (Emitted (event bytes) ∷ [])
 part_due event n bytes = search (rules, take-append-drop n bytes)
 
--- the prefix of some output events up to the one that was begun
+-- Events that were done, with one that was begun, are a prefix of the output.
 pub prefix_from : {cause : Cause} {old new : DeskState} (whole begun later : List OutputEvent)
     → StopsAt cause [] (map Emitted whole) (map Emitted begun) (map Emitted later) → IsOfDesk cause
     → ChangesRecord (after_events (whole ++ begun)) old new → OutputsPrefix cause old new (whole ++ later)
 prefix_from whole begun later place by_desk kept = search rules
 
--- a line of which a prefix was printed
+-- If a prefix of a line was printed, a failed write to the messages stopped the line.
 pub line_part : (old new : DeskState) (bytes : Bytes) → SendsPart Messages old new bytes
     → OutputsPrefix PrintingFailed old new (PrintsLine bytes ∷ [])
 line_part old new bytes part =
     prefix_from [] (PrintsLine (take part.0 bytes) ∷ []) _ (part_due PrintsLine part.0 bytes) tt part.2
 
--- a file that was created, and of whose bytes a prefix was written
+-- If a file was created and a prefix of its bytes written, a failed write to the file stopped both events.
 pub file_part : (old mid new : DeskState) (file bytes : Bytes) → ChangesRecord (after_events (CreatesFile file ∷ []))
     old mid → SendsPart File mid new bytes
     → OutputsPrefix (FileFailed file NotWritten) old new (CreatesFile file ∷ WritesFile bytes ∷ [])
@@ -90,7 +91,7 @@ file_part old mid new file bytes created part =
     prefix_from (CreatesFile file ∷ []) begun _ (inl (([], refl), part_due WritesFile part.0 bytes)) tt
     (kept_append (CreatesFile file ∷ []) begun old.kept mid.kept new.kept created part.2)
 
--- bytes of the output of which a prefix was written
+-- If a prefix of the bytes for standard output was written, a failed write stopped them.
 pub output_part : (old new : DeskState) (file bytes : Bytes) → file ≡ codes "-" → SendsPart Output old new bytes
     → OutputsPrefix (FileFailed file NotWritten) old new (WritesOutput bytes ∷ [])
 output_part old new file bytes named part = prefix_from [] (WritesOutput (take part.0 bytes) ∷ []) _

@@ -110,8 +110,8 @@ session_is_run settings plan x between y status made runs = search (rules, sessi
 
 pub is_run : (settings : Settings) (x : Devices) (between : DeskState) (y : Devices) (status : ℕ)
     → RunsSettings settings x between y status → IsRun settings x y status ⊎ IsStopped settings x y status
-is_run settings x between y status (inl runs) = elim runs.runs [
-  | inl whole ↦ inl (ran_whole settings runs.plan x y between status runs.made whole)
+is_run settings x between y status (inl (plan, made, runs)) = elim runs [
+  | inl whole ↦ inl (ran_whole settings plan x y between status made whole)
   | inr broke ↦ search rules
 ]
 is_run settings x between y status (inr (lacks, same)) = search (rules, refused_whole)

@@ -1,6 +1,6 @@
-use Rattle.std.proofs.Common.{rules}
+use Rattle.std.proofs.Common.{[], ◌∷◌, codes, rules}
 use Rattle.avr_desk.proofs.Stages.Played.{completed_silently, completed_output, goes_output_part}
-use Rattle.avr_plan.specs.Lines.{no_end_line}
+use Rattle.avr_desk.specs.Lines.{warning}
 use Rattle.avr_plan.proofs.image_file.warn_of_ending.Goals as goal
 
 pub returns-then-not-warns-clause-goes : goal.returns-then-not-warns-clause-goes
@@ -8,7 +8,8 @@ returns-then-not-warns-clause-goes g c = rw (← c.if-not-warns.ensures) (comple
 
 pub returns-in-Ok-clause-goes : goal.returns-in-Ok-clause-goes
 returns-in-Ok-clause-goes g c = rw (← c.if-not-warns.ensures)
-    (completed_output _ _ (no_end_line c.args.file.now) c.in-Ok.ensures.printed c.in-Ok.ensures.call.counts.1)
+    (completed_output _ _ (warning (c.args.file.now ∷ codes ": no end record" ∷ []))
+    c.in-Ok.ensures.printed c.in-Ok.ensures.call.counts.1)
 
 pub returns-in-Err-clause-goes : goal.returns-in-Err-clause-goes
 returns-in-Err-clause-goes g c = search (rules, goes_output_part)

@@ -1,7 +1,7 @@
 use Rattle.std.proofs.Common.{refl, Ok, [], false, rules}
 use Rattle.avr_desk.specs.StageRuns.{OnlyAtStart}
 use Rattle.avr_plan.specs.declared.part_choice.TheConstants.{LARGEST_PART_FILE}
-use Rattle.avr_plan.proofs.Stages.Parts.{went_parts, goes_bad_parts, goes_long_parts}
+use Rattle.avr_plan.proofs.Stages.Parts.{part_file_read, bad_parts_refused, long_parts_refused}
 use Rattle.avr_desk.proofs.Stages.Files.{goes_file_fault}
 use Rattle.avr_desk.proofs.Stages.Openings.{breaks_as}
 use Rattle.avr_desk.proofs.Stages.Played.{went_settled}
@@ -19,7 +19,7 @@ returns-in-Err-clause-goes g c =
 
 pub returns-then-not-contents-clause-goes : goal.returns-then-not-contents-clause-goes
 returns-then-not-contents-clause-goes g c =
-    rw (c.in-Some.is, ← c.as_str-file.ensures) (goes_long_parts _ _ _ _ _ _ _ c.in-Ok.ensures.kept
+    rw (c.in-Some.is, ← c.as_str-file.ensures) (long_parts_refused _ _ _ _ _ _ _ c.in-Ok.ensures.kept
     c.in-Ok.ensures.whole c.if-not-contents.true c.in-Ok.ensures.counts.1 refl
     (rw c.too_long_message.ensures at c.refuse-then-not-contents.ensures.notice))
 
@@ -27,14 +27,14 @@ pub returns-in-Ok-parse_part_file-clause-goes : goal.returns-in-Ok-parse_part_fi
 returns-in-Ok-parse_part_file-clause-goes g c =
     let gives = rw (c.as_slice.ensures, c.in-Ok-parse_part_file.is) at c.parse_part_file.ensures.reads in
     rw (c.in-Some.is, ← c.as_str-file.ensures)
-    (search (rules, went_parts, c.in-Ok.ensures.kept, c.in-Ok.ensures.whole, c.in-Ok.ensures.counts))
+    (search (rules, part_file_read, c.in-Ok.ensures.kept, c.in-Ok.ensures.whole, c.in-Ok.ensures.counts))
 
 pub returns-clause-goes : goal.returns-clause-goes
 returns-clause-goes g c =
     let gives = rw (c.as_slice.ensures, c.in-Err-parse_part_file.is) at c.parse_part_file.ensures.reads in
     let notice = rw (c.part_file_message.ensures, c.fault-fault.ensures)
     at c.refuse-in-Err-parse_part_file.ensures.notice in
-    rw (c.in-Some.is, ← c.as_str-file.ensures) (goes_bad_parts _ _ _ _ _ _ 1 _ c.in-Ok.ensures.kept
+    rw (c.in-Some.is, ← c.as_str-file.ensures) (bad_parts_refused _ _ _ _ _ _ 1 _ c.in-Ok.ensures.kept
     c.in-Ok.ensures.whole c.if-not-contents.false c.in-Ok.ensures.counts.1 gives refl notice)
 
 pub returns-then-not-contents-clause-notice : goal.returns-then-not-contents-clause-notice

@@ -12,7 +12,7 @@ use Rattle.avr_plan.proofs.planning.update_tasks.Given as goal
 -- the outcome of the remaining updates is that of all of them
 abbrev pub invariant-loop-update : goal.invariant-loop-update
 invariant-loop-update g l = record {
-  goes : (new : DeskState) (result : Result (List Task) ℕ)
+  completes : (new : DeskState) (result : Result (List Task) ℕ)
       → RunsStage (AtAllocatingTask l.switches l.part l.tasks.items (drop l.update-index l.updates))
       (tasks_stage l.switches l.part l.tasks.items (drop l.update-index l.updates)) (g.D.Desk.view l.desk) new result
       → RunsStage (AtAllocatingTask l.switches l.part [] l.updates) (tasks_stage l.switches l.part [] l.updates)

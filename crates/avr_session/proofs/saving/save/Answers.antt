@@ -9,11 +9,11 @@ use Rattle.avr_session.proofs.ActionByAction.Reports.{file_stops}
 use Rattle.avr_session.proofs.ActionByAction.Saves.{saved_out, not_created, created_then}
 use Rattle.avr_session.proofs.saving.save.Goals as goal
 
-pub returns-then-eq : goal.returns-then-eq
-returns-then-eq g c = search (rules, saved_out, sym c.eq.ensures ∙ c.if-eq.true)
+pub returns-then-is_dash : goal.returns-then-is_dash
+returns-then-is_dash g c = search (rules, saved_out, sym c.is_dash.ensures ∙ c.if-is_dash.true)
 
 pub returns-in-Ok : goal.returns-in-Ok
-returns-in-Ok g c = rw (sym c.eq.ensures ∙ c.if-eq.false) (search (rules, created_then))
+returns-in-Ok g c = rw (sym c.is_dash.ensures ∙ c.if-is_dash.false) (search (rules, created_then))
 
 pub returns-in-Err : goal.returns-in-Err
 unfolding cause_line
@@ -28,4 +28,4 @@ returns-in-Err g c =
     (rw c.not_created_message.ensures at c.refuse.ensures.notice) in
     let follows = follows_on (g.D.Desk.view c.args.desk.now) (g.D.Desk.view c.create.new.self)
     (g.D.Desk.view c.refuse.new.desk) c.create.ensures.call.counts.0 c.refuse.ensures.notice.follows in
-    rw (sym c.eq.ensures ∙ c.if-eq.false) (search rules)
+    rw (sym c.is_dash.ensures ∙ c.if-is_dash.false) (search rules)

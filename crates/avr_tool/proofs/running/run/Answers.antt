@@ -4,13 +4,13 @@ use Rattle.avr_tool.proofs.running.run.Goals as goal
 
 pub returns-in-Ok-clause-runs : goal.returns-in-Ok-clause-runs
 returns-in-Ok-clause-runs g c = is_run _ _ _ _ _
-    (inl (record { plan = c.in-Ok.plan; made = rw c.in-Ok.is at c.plan.ensures.goes; runs = c.drive.ensures.runs }))
+    (inl (c.in-Ok.plan, rw c.in-Ok.is at c.plan.ensures.goes, c.drive.ensures.runs))
 
 pub returns-in-Ok-clause-between : goal.returns-in-Ok-clause-between
 returns-in-Ok-clause-between g c = record {
   between = c.plan.new.desk;
   stays = c.plan.ensures.stays;
-  runs = inl (record { plan = c.in-Ok.plan; made = rw c.in-Ok.is at c.plan.ensures.goes; runs = c.drive.ensures.runs });
+  runs = inl (c.in-Ok.plan, rw c.in-Ok.is at c.plan.ensures.goes, c.drive.ensures.runs);
 }
 
 pub returns-in-Err-clause-runs : goal.returns-in-Err-clause-runs

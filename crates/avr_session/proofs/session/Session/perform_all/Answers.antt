@@ -17,4 +17,4 @@ pub returns-in_err-perform : goal.returns-in_err-perform
 returns-in_err-perform g c = search (rules, err_from_is_err_and, drop_more, first_ends)
 
 pub returns : goal.returns
-returns g c = search (rules, drop_all, none_done, c.loop-task-test.false, c.loop-task.invariant.goes)
+returns g c = search (rules, drop_all, none_done, c.loop-task-test.false, c.loop-task.invariant.completes)
