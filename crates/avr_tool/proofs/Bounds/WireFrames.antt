@@ -12,11 +12,13 @@ use Rattle.avr_tool.specs.OverFaultyLink.{Weight, total_weight}
 use Rattle.avr_tool.proofs.Bounds.Weights.{WeighsAtMost, weighed_append}
 
 module _ (w : Weight) where
+  -- What each reading leads to weighs so much, so the run does.
   by_reading : {E R : Type 0} (n : ℕ) (go_on : Reading → Tape → Played E R) (got : Option (Reading × Tape))
       → ((reading : Reading) (left : Tape) → total_weight w (map body_of (frames_in (go_on reading left).events)) ≤ n)
       → total_weight w (map body_of (frames_in (continue_with_reading go_on got).events)) ≤ n
   by_reading n go_on got f = search rules
 
+  -- The bodies of all frames of a run weigh no more than the dialog asks.
   frames_weigh : {E R : Type 0} (n : ℕ) (d : Dialog E R) (seq : ℕ) (tape : Tape) → WeighsAtMost w n d
       → total_weight w (map body_of (frames_in (played d seq tape).events)) ≤ n
   frames_weigh n (Done r) seq tape f = omega arith

@@ -20,6 +20,7 @@ pub record EndsAsActionsAgree (c : Expected) (Agree : Type 0) (left : Memories) 
   pub is_fine : Agree → c.standing ≡ NoFault
   pub memories : c.standing ≡ NoFault → c.memories ≡ left
 
+-- two runs in sequence, the second from the memories that the first leaves
 agrees_in_sequence : (first : Expected) (next : Memories → Expected) (A B : Type 0) (between left : Memories)
     → EndsAsActionsAgree first A between → EndsAsActionsAgree (next between) B left
     → EndsAsActionsAgree (first then next) (A × B) left
@@ -27,15 +28,18 @@ agrees_in_sequence first next A B between left agreement more = search rules
 
 -- ---- an action
 
+-- a run that compares nothing
 agrees_without_fault : (c : Expected) → c.standing ≡ NoFault → EndsAsActionsAgree c ⊤ c.memories
 agrees_without_fault c is = record { if_fine = λ f. tt; is_fine = λ agree. is; memories = λ f. refl }
 
 module _ (part : Part) (s : Switches) where
+  -- one action: only a comparison can fail
   agrees_for_action : (action : Action) (m : Memories)
       → EndsAsActionsAgree (action_expected part s action m) (ComparisonAgrees part action m)
       (effects part (action_items action) m)
   agrees_for_action action m = search (rules, no_difference, faulty_fine, held_same, agrees_without_fault)
 
+  -- all actions of a list
   pub agrees_for_actions : (actions : List Action) (m : Memories)
       → EndsAsActionsAgree (actions_expected part s actions m) (EachComparisonAgrees part actions m)
       (effects part (actions_items actions) m)
@@ -47,13 +51,16 @@ module _ (part : Part) (s : Switches) where
 
 -- ---- the whole
 
+-- the actions of a plan
 agrees_for_plan : (plan : Plan) (m : Memories)
     → EndsAsActionsAgree (working_expected plan m) (ComparisonsAgree plan m) (effects plan.part (items plan) m)
 agrees_for_plan plan m = agrees_for_actions plan.part plan.switches (actions plan) m
 
+-- the expected run has status 0 exactly if the comparisons of its plan agree
 pub expected_status : (plan : Plan) (m : Memories) → (expected_run plan m).status ≡ 0 ↔ ComparisonsAgree plan m
 expected_status plan m = search (rules, agrees_for_plan)
 
+-- it then leaves what the items of the plan make of the memories
 pub expected_memories : (plan : Plan) (m : Memories) → ComparisonsAgree plan m
     → (expected_run plan m).memories ≡ effects plan.part (items plan) m
 expected_memories plan m agree = let agreement = agrees_for_plan plan m in agreement.memories (agreement.is_fine agree)

@@ -19,12 +19,15 @@ use Rattle.avr_session.specs.PlanSteps.{actions_steps}
 use Rattle.avr_tool.proofs.Plans.Fits.{AllFitActions, work_fits}
 use Rattle.avr_tool.proofs.Bounds.Weights.{WeighsAtMost, weighed_append, session_weighs}
 
+-- The weight 1 of a body that fits no frame, and 0 of any other.
 abbrev unsendable : Weight
 unsendable bytes = if nat_le 1 (length bytes) && nat_le (length bytes) 275 then 0 else 1
 
+-- A body without weight fits a frame.
 sendable : (bytes : List ℕ) → unsendable bytes ≤ 0 → IsFrameBody bytes
 sendable bytes le = record { some = grind (arith, nat_tests); few = grind (arith, nat_tests) }
 
+-- A dialog whose bodies have no weight sends bodies that fit.
 asks_light : {E R : Type 0} (d : Dialog E R) → WeighsAtMost unsendable 0 d → SendsValidBodies d
 asks_light (Done r) f = tt
 asks_light (Emit e d) f = asks_light d f.1
@@ -35,15 +38,18 @@ asks_light (Ask asked resume) f = (
       asks_light (resume reading) (subst (λ n. WeighsAtMost unsendable n (resume reading)) none (f.1 reading)),
 )
 
+-- The commands of a step have no weight.
 commands_light : (commands : List Command) → AreSendable commands → total_weight unsendable (map body commands) ≡ 0
 commands_light [] s = omega arith
 commands_light (command ∷ commands) s = search (rules, nat_tests, commands_light commands s.1)
 
+-- Nor have those of all steps.
 steps_light : (steps : List (List Command)) → EachSendable steps → total_weight unsendable (bodies_in steps) ≡ 0
 steps_light [] s = omega arith
 steps_light (commands ∷ steps) s = search (rules, commands_light, weighed_append, steps_light steps s.1)
 
 module _ (part : Part) (sound : IsPart part) where
+  -- The commands of all actions fit a frame.
   actions_sendable : (actions : List Action) → AllFitActions part actions → EachSendable (actions_steps part actions)
   actions_sendable [] fits = tt
   actions_sendable (action ∷ actions) fits =

@@ -34,7 +34,7 @@ use Rattle.avr_tool.proofs.Real.{Real}
 use Rattle.avr_tool.proofs.Emulated.{all_work, emulated}
 use Rattle.avr_tool.proofs.OverFaultyLink.FirstSteps.{Rests, rests_here, effects_sizes}
 use Rattle.avr_tool.proofs.OverFaultyLink.Sessions.{anyhow}
-use Rattle.avr_tool.proofs.OverFaultyLink.EachAction.{ComesAnyhow, AfterOne, fault_output, action_prints, operation_comes, opening_comes}
+use Rattle.avr_tool.proofs.OverFaultyLink.EachAction.{CallHasAnyOutcome, AfterAction, fault_output, action_prints, operation_comes, opening_comes}
 use Rattle.avr_tool.proofs.Hosts.Operations.{along_reported, closing_goes}
 use Rattle.avr_tool.proofs.Hosts.OneLink.{Spot, on_link}
 use Rattle.avr_tool.proofs.Hosts.Outputs.{Anything, Prints, any_outputs, stops, at_moment, prints_reported, prints_then, prints_wider}
@@ -49,11 +49,13 @@ Strikes part m items made d = (p : Programmer) (exchanges : List Exchange) → S
     → Makes part m items d made p exchanges
 
 module _ (part : Part) (sound : IsPart part) (s : Switches) where
+  -- The emulated programmer, as the proofs use it.
   abbrev real : Real part
   real = emulated part sound
 
+  -- An action makes some of its steps, and all of them if there is no fault.
   action_leads : (action : Action) (m : Memories) (p : Programmer) (exchanges : List Exchange)
-      → ItemsFit part (action_items action) → FitsPart part m → ComesAnyhow part sound real s action m p
+      → ItemsFit part (action_items action) → FitsPart part m → CallHasAnyOutcome part sound real s action m p
       → Leads device (action_dialog part s action) p exchanges (Rests real (steps_of_items part (action_items action))
       m) (λ at q. at ≡ NoFault → Settled part (effects part (action_items action) m) q)
   action_leads action m p exchanges fits f comes = record {
@@ -62,13 +64,16 @@ module _ (part : Part) (sound : IsPart part) (s : Switches) where
         let ended = ((at_moment device Anything (λ at emitted z x. x.0) k prints).after at e).1 in search rules;
   }
     where
+      -- The action with its output, whatever that is.
       prints : Prints device Anything (λ emitted z. Rests real (steps_of_items part (action_items action)) m z.0)
-          (AfterOne part real s (λ m z. Settled part m z.0) ⊤ action [] m) (action_dialog part s action) (p, exchanges)
+          (AfterAction part real s (λ m z. Settled part m z.0) ⊤ action [] m) (action_dialog part s action)
+          (p, exchanges)
       prints = prints_wider device Anything (λ emitted z x. x.0) (λ at emitted z x. x)
           (action_prints part sound real s Anything (λ fault q. any_outputs (fault_output part fault) q)
           (λ m z. Settled part m z.0) ⊤ (anyhow part sound real s) action [] m fits f (p, exchanges)
           (λ q is. any_outputs _ q) (on_link device comes))
 
+  -- An erase or a write makes its write operations.
   makes_written : (action : Action) (m : Memories) → FitsAction part action → FitsPart part m
       → action_steps part action ≡ steps_of_items part (action_items action)
       → Strikes part m (action_items action) (action_completed part action) (action_dialog part s action)
@@ -79,6 +84,7 @@ module _ (part : Part) (sound : IsPart part) (s : Switches) where
       (makes_items part sound m (action_items action) o.judge (outcome_output part s action) p exchanges
       (subst (AreSteps part) same o.are) settled)
 
+  -- So does any action but the opening; most make none.
   makes_action : (action : Action) (m : Memories) → FitsAction part action → FitsPart part m
       → Strikes part m (action_items action) (action_completed part action) (action_dialog part s action)
   makes_action EraseChip m fits f = makes_written EraseChip m fits f refl
@@ -89,6 +95,7 @@ module _ (part : Part) (sound : IsPart part) (s : Switches) where
       (action_leads action m p exchanges tt f
       (operation_comes part sound real s action m fits f (all_work part sound (action_steps part action) m) p settled))
 
+  -- So do all actions in order.
   makes_each_action : (actions : List Action) (m : Memories) → AllFitActions part actions → FitsPart part m
       → Strikes part m (actions_items actions) (actions_completed part s actions) (actions_dialog part s actions)
   makes_each_action [] m fits f p exchanges settled =
@@ -106,9 +113,11 @@ module _ (part : Part) (sound : IsPart part) (s : Switches) where
 
   -- the end keeps the memories
   module _ (m : Memories) where
+    -- The memories stay as they are.
     abbrev Kept : Dialog OutputEvent Standing → Spot Programmer → Type 0
     Kept d z = Prints device Anything (λ emitted y. HasMemories part m y.0) (λ at emitted y. HasMemories part m y.0) d z
 
+    -- The closing keeps them.
     closing_keeps : (outcome_output : Result ⊤ HostFault → List OutputEvent) (z : Spot Programmer)
         → HasMemories part m z.0 → Kept (reported closing outcome_output) z
     closing_keeps outcome_output z i =
@@ -116,6 +125,7 @@ module _ (part : Part) (sound : IsPart part) (s : Switches) where
         (on_link device (closing_goes device (HasMemories part m) (leave_fits part m)
         z.0 i)) (λ y i. i) (λ r y x. (any_outputs (outcome_output r) y.0, x.0))
 
+    -- So does the end of a session.
     ending_keeps : (at : Standing) (z : Spot Programmer) → HasMemories part m z.0 → Kept (ending part s at) z
     ending_keeps NoFault z i = closing_keeps (closing_output s.quiet part) z i
     ending_keeps Faulty z i = prints_then device Anything (λ x y i. i) (closing_keeps (λ _. []) z i)
@@ -125,9 +135,11 @@ module _ (part : Part) (sound : IsPart part) (s : Switches) where
 module _ (plan : Plan) (sound : IsPart plan.part) (fitted : All (IsFitted plan.part) plan.tasks) (m : Memories)
     (f : FitsPart plan.part m) (p : Programmer) (exchanges : List Exchange)
     (idle : HasMemories plan.part m p) where
+  -- The actions of the plan.
   abbrev all_actions : Dialog OutputEvent Standing
   all_actions = actions_dialog plan.part plan.switches (actions plan)
 
+  -- They make the write operations of the plan.
   makes_actions : Makes plan.part m (items plan) all_actions (operations_completed plan) p exchanges
   makes_actions =
       let part = plan.part in
@@ -140,9 +152,11 @@ module _ (plan : Plan) (sound : IsPart plan.part) (fitted : All (IsFitted plan.p
       opens (makes_none part sound m opened p exchanges (λ at q. at ≡ NoFault → Settled part m q) opens)
       (λ q fs there. makes_each_action part sound s (work plan) m (work_fits plan fitted) f q fs there)
 
+  -- Some first steps of the plan were made.
   abbrev At : ℕ → Programmer → Type 0
   At = Changed plan.part (items plan) m
 
+  -- The end makes no more.
   ends : (k : ℕ) (s : Standing) → (state_after device k all_actions p exchanges).dialog ≡ Done s
       → GoesOn device At (state_after device k all_actions p exchanges) (makes_actions.tally.count k)
       (operations_completed plan (k - 1) p exchanges) (ending plan.part plan.switches s) none_completed
