@@ -1,5 +1,5 @@
 -- A session that went along exchanges: `OverExchanges` and `EndsOverExchanges` hold of it.
-use Rattle.std.proofs.Common.{◌≡◌, ℕ, List, All, length, subst, rules}
+use Rattle.std.proofs.Common.{◌≡◌, ℕ, List, All, length, ap, ◌∙◌, subst, rules}
 use Rattle.avr_desk.specs.OutputEvents.{OutputEvent}
 use Rattle.avr_part.specs.Part.{IsPart}
 use Rattle.avr_part.specs.Sound.{IsSoundChip}
@@ -83,7 +83,18 @@ module _ (plan : Plan) (begun : Programmer) (is_sound : IsSoundChip begun.chip) 
         → OverExchanges plan begun q exchanges bytes
     over_exchanges tape prefix =
         let made = session_makes plan its_part fitted before its_sizes begun exchanges is_idle in
-        record { write_operations = search rules; four = search (rules, prefix_weighs, asks, session_weighs) }
+        record {
+          write_operations = record {
+            made = record {
+              count = made.count count;
+              memories = ap (λ (p : Programmer). memories_of p.chip) stands ∙ made.stands count;
+            };
+            at_least = made.at_least count;
+            at_most = made.at_most count;
+            none = λ none. ap made.count none ∙ made.none;
+          };
+          four = search (rules, prefix_weighs, asks, session_weighs);
+        }
 
     module _ (output_events : List OutputEvent) (status : ℕ)
         (comes : (state_after device (length (frames bytes)) (session plan) begun exchanges).dialog ≡ Done status)

@@ -12,10 +12,11 @@ use Rattle.avr_desk.specs.declared.record.Opening.TheVariants.{Absent}
 use Rattle.avr_tool.specs.Noted.{Noted}
 use Rattle.avr_desk.specs.Stream.{SendsPart, SendsTaken}
 use Rattle.avr_desk.specs.declared.stream.Stream.TheVariants.{File}
-use Rattle.avr_tool.specs.Unlocked.{reopened, reopened_last, open_after, record_shown, uses_shown, with_written, UnlockedState, unlocked}
+use Rattle.avr_tool.specs.Unlocked.{reopened, open_after, record_shown, uses_shown, with_written, UnlockedState, unlocked}
 
+-- only the last use can have left a file open
 reopened_append : (uses : List FileUse) (used : FileUse)
-    → reopened (uses ++ used ∷ []) ≡ (uses ++ (reopened_last used).0, (reopened_last used).1)
+    → reopened (uses ++ used ∷ []) ≡ (uses ++ (reopened (used ∷ [])).0, (reopened (used ∷ [])).1)
 reopened_append [] used = refl
 reopened_append (first ∷ []) used = refl
 reopened_append (first ∷ next ∷ uses) used = ap (λ x. (first ∷ x.0, x.1)) (reopened_append (next ∷ uses) used)

@@ -1,5 +1,7 @@
 -- How much a session asks, by any weight of bodies: at most four times the commands of its plan's steps.
-use Rattle.std.proofs.Common.{◌≡◌, ℕ, ◌+◌, ◌*◌, ◌-◌, ◌≤◌, List, [], ◌∷◌, ◌++◌, map, append_assoc, refl, ap, ◌∙◌, subst, arith, Bool, Ok, Err, Result, rules}
+use Rattle.std.proofs.Common.{◌≡◌, ℕ, ◌+◌, ◌*◌, ◌-◌, ◌≤◌, List, [], ◌∷◌, ◌++◌, map, flat_map, sum_by, ap, ◌∙◌, subst, arith, Bool, Ok, Err, Result, rules}
+use Rattle.std.proofs.lemmas.Grind.{flat_map-append}
+use Rattle.std.proofs.lemmas.List.Sums.{sum_by-append, sum_by-cons}
 use Rattle.std.proofs.Math.Nat.{suc-mul}
 use Rattle.avr_plan.specs.declared.settings.Switches.{Switches}
 use Rattle.avr_desk.specs.OutputEvents.{OutputEvent}
@@ -23,36 +25,27 @@ use Rattle.avr_session.specs.Actions.{Action, OpenSession, actions}
 use Rattle.avr_session.specs.Session.{emits, standing, reported, unless_fault, closing_output, action_dialog, actions_dialog, ending, status_of, session}
 use Rattle.avr_session.specs.PlanSteps.{action_steps, actions_steps, run_steps}
 use Rattle.avr_tool.proofs.Plans.Calls.{call_of, dialog_is}
-use Rattle.avr_tool.specs.OverFaultyLink.{Weight, total_weight, bodies_in}
 
 -- what is left of a budget after each command, whatever is read
-abbrev pub budget : Weight → World ℕ Reading
+abbrev pub budget : (List ℕ → ℕ) → World ℕ Reading
 budget w = record { reads = λ asked left reading. reading; after = λ asked left reading. left - w asked }
 
 -- the commands weigh at most `n`, whatever is read
-abbrev pub WeighsAtMost : {E R : Type 0} → Weight → ℕ → Dialog E R → Type 0
+abbrev pub WeighsAtMost : {E R : Type 0} → (List ℕ → ℕ) → ℕ → Dialog E R → Type 0
 WeighsAtMost w n d = HoldsFrom (budget w) (λ asked left. w asked ≤ left) (λ e left. Unit {0}) (λ r left. Unit {0}) d n
 
-module _ (w : Weight) where
-  pub weighed_append : (xs ys : List (List ℕ)) → total_weight w (xs ++ ys) ≡ total_weight w xs + total_weight w ys
-  weighed_append [] ys = omega arith
-  weighed_append (x ∷ xs) ys = omega (arith, weighed_append xs ys)
-
-  bodies_append : (xs ys : List (List Command)) → bodies_in (xs ++ ys) ≡ bodies_in xs ++ bodies_in ys
-  bodies_append [] ys = refl
-  bodies_append (commands ∷ xs) ys = search (rules, append_assoc, bodies_append xs ys)
-
+module _ (w : List ℕ → ℕ) where
   -- the weight of a step's commands, and of all steps'
   abbrev of_step : List Command → ℕ
-  of_step commands = total_weight w (map body commands)
+  of_step commands = sum_by w (map body commands)
 
   -- The weight of the commands of all these steps.
   abbrev total : List (List Command) → ℕ
-  total steps = total_weight w (bodies_in steps)
+  total steps = sum_by w (flat_map (map body) steps)
 
   -- The weights of two lists of steps add up.
   total_on : (xs ys : List (List Command)) → total (xs ++ ys) ≡ total xs + total ys
-  total_on xs ys = ap (total_weight w) (bodies_append xs ys) ∙ weighed_append (bodies_in xs) (bodies_in ys)
+  total_on xs ys = ap (sum_by w) (flat_map-append (map body) xs ys) ∙ sum_by-append w (flat_map (map body) xs) _
 
   -- a dialog of a call, and of a session, that leaves part of a budget
   abbrev Call : {R : Type 0} → (R → ℕ → Type 0) → Dialog ⊥ R → ℕ → Type 0
@@ -83,11 +76,13 @@ module _ (w : Weight) where
   unfolding attempt exchange
   attempt_spends [] before k left le = done (omega (arith, le))
   attempt_spends (command ∷ commands) before k left le =
-      ask (omega (arith, le))
+      let size : of_step (command ∷ commands) ≡ w (body command) + of_step commands =
+      sum_by-cons w (body command) (map body commands) in
+      ask (omega (arith, le, size))
       (λ reading.
       by_reply (λ bytes. attempt commands (before ++ bytes)) (reply_from_reading command reading)
       (left - w (body command)) (λ bytes. attempt_spends commands (before ++ bytes) k (left - w (body command))
-      (omega (arith, le))) (λ other. omega (arith, le)))
+      (omega (arith, le, size))) (λ other. omega (arith, le, size)))
 
   -- Four attempts weigh at most four times as much.
   step_spends : (commands : List Command) → Spends (4 * of_step commands) (step commands)
@@ -104,7 +99,8 @@ module _ (w : Weight) where
       → ((bytes : List ℕ) → Spends (4 * total steps) (go_on bytes))
       → Spends (4 * total (commands ∷ steps)) (step commands >>= unless_step_fault go_on)
   then_spends commands steps go_on each k left le =
-      let size = weighed_append (map body commands) (bodies_in steps) in
+      let size : total (commands ∷ steps) ≡ of_step commands + total steps =
+      sum_by-append w (map body commands) (flat_map (map body) steps) in
       bind (step_spends commands (4 * total steps + k) left (omega (arith, le, size))) behind
     where
       -- After a step the rest follows, or a fault ends it.
@@ -142,7 +138,7 @@ module _ (w : Weight) where
   closing_spends : Spends (4 * total closing_steps) closing
   unfolding closing
   closing_spends k left le =
-      let size = weighed_append (map body (leave ∷ [])) [] in
+      let size : total closing_steps ≡ of_step (leave ∷ []) + 0 = sum_by-append w (map body (leave ∷ [])) [] in
       outcome_mapped (checked_by no_result) (step_spends (leave ∷ []) k left (omega (arith, le, size))) (λ o t e. e)
 
   -- ---- the actions of a session

@@ -1,5 +1,5 @@
 -- What writes leave in a memory: their images laid over each other, and elsewhere the bytes before.
-use Rattle.std.proofs.Common.{◌≡◌, ℕ, zero, suc, ◌≤◌, arith, refl, ap, List, [], ◌∷◌, ◌++◌, length, get_or, Bool, true, false, Option, None, rules}
+use Rattle.std.proofs.Common.{◌≡◌, ℕ, zero, suc, ◌≤◌, arith, refl, ap, List, [], ◌∷◌, ◌++◌, length, get_or, slice_index, Bool, true, false, Option, None, rules}
 use Rattle.std.proofs.lemmas.Bool.{true≢false}
 use Rattle.std.proofs.lemmas.List.{length-replicate}
 use Rattle.std.specs.Str.{bytes_eq}
@@ -19,7 +19,7 @@ use Rattle.stk_emu.proofs.Memories.LaidImages.{length-laid, length-and_in}
 use Rattle.avr_tool.proofs.WriteOperations.EachMemory.{same_memory, write_is, others_stay}
 use Rattle.avr_tool.specs.ComparisonsAgree.{EachComparisonAgrees}
 use Rattle.avr_tool.specs.Items.{actions_items}
-use Rattle.avr_tool.specs.Written.{written_to, byte_in}
+use Rattle.avr_tool.specs.Written.{written_to}
 use Rattle.avr_tool.proofs.Plans.Fits.{AllFitActions}
 
 -- ---- images laid over each other, byte by byte
@@ -75,7 +75,8 @@ write_keeps part mem image m = search (rules, write_is, length-and_in, rest_ande
 pub record Left (part : Part) (mem : Mem) (image : Image) (old new : Memories) : Type 0 where
   pub size : length (memory_in part mem new) ≡ length (memory_in part mem old)
   pub shows : HoldsImage image (memory_in part mem new)
-  pub rest : (i : ℕ) → byte_at image i ≡ None → byte_in part mem i new ≡ byte_in part mem i old
+  pub rest : (i : ℕ) → byte_at image i ≡ None
+      → slice_index (memory_in part mem new) i ≡ slice_index (memory_in part mem old) i
 
 module _ (part : Part) where
   -- Nothing was written.

@@ -1,5 +1,5 @@
 -- The actions of a session over one link, on which steps may fail or none does: their output, and what they leave.
-use Rattle.std.proofs.Common.{◌≡◌, List, [], ◌∷◌, ◌++◌, append_assoc, refl, sym, ap, ap₂, ◌∙◌, subst, inl, inr, ◌⊎◌, Ok, Err, Result, rules}
+use Rattle.std.proofs.Common.{◌≡◌, ℕ, List, [], ◌∷◌, ◌++◌, append_assoc, refl, sym, ap, ap₂, ◌∙◌, subst, inl, inr, ◌⊎◌, Ok, Err, Result, rules}
 use Rattle.std.specs.Prelude.{⊤}
 use Rattle.avr_plan.specs.declared.settings.Switches.{Switches}
 use Rattle.avr_desk.specs.OutputEvents.{OutputEvent, PrintsLine}
@@ -7,7 +7,7 @@ use Rattle.avr_part.specs.Part.{Part, IsPart}
 use Rattle.avr_session.specs.Actions.{Action, OpenSession}
 use Rattle.avr_session.specs.Lines.{fault_line}
 use Rattle.avr_session.specs.PlanSteps.{action_steps}
-use Rattle.avr_session.specs.Session.{standing, unless_fault, action_dialog, actions_dialog}
+use Rattle.avr_session.specs.Session.{standing, status_of, unless_fault, action_dialog, actions_dialog}
 use Rattle.avr_session.specs.Standing.{Standing, NoFault}
 use Rattle.stk_host.proofs.Dialogs.Logic.{outcome_mapped, wider}
 use Rattle.stk_host.specs.declared.fault.HostFault.{HostFault}
@@ -30,7 +30,7 @@ use Rattle.stk_host.specs.ReadSteps.{signature_steps}
 use Rattle.avr_tool.proofs.Plans.Calls.{Outcome, outcome_of, call_of, outcome_output, outcome_expected, dialog_is, expected_is, IsOperation, is_operation}
 use Rattle.avr_tool.proofs.Plans.Fits.{FitsAction, AllFitActions, action_items_fit}
 use Rattle.avr_tool.proofs.Plans.Standings.{after_fault, faulty_fine, over_fine}
-use Rattle.avr_tool.specs.ExpectedRun.{Expected, then_from, ◌then◌, action_expected, actions_expected}
+use Rattle.avr_tool.specs.ExpectedRun.{Expected, next_unless_fault, action_expected, actions_expected}
 use Rattle.avr_tool.specs.ExpectedOutput.{FirstActionsOutput, OutputToFault}
 use Rattle.avr_tool.specs.Items.{action_items, actions_items}
 
@@ -53,9 +53,9 @@ module _ (part : Part) (real : Real part) (s : Switches) (At : Memories → Spot
   CallHasOutcome action m z = Runs real.device (λ y. RestsIn real (action_items action) m y) (HasOutcome action m)
       (call_of part s action) z
 
-  -- as the expected run: its state, its output and its memories
+  -- as the expected run: its status, its output and its memories
   pub record IsAsExpected (c : Expected) (at : Standing) (emitted : List OutputEvent) (z : Spot real.P) : Type 0 where
-    pub stands : c.standing ≡ at
+    pub status_is : c.status ≡ status_of at
     pub output_events_are : emitted ≡ c.output_events
     pub left : At c.memories z
 
@@ -216,21 +216,23 @@ module _ (part : Part) (sound : IsPart part) (real : Real part) (s : Switches) (
     -- ---- an action, then the next ones unless there was a fault
 
     -- The expected run goes on from the expected run of this action.
-    expected_by_outcome : (next : Memories → Expected) (at : Standing) → c.standing ≡ at
-        → (action_expected part s action m then next) ≡ then_from c at next
-    expected_by_outcome next at e = ap (λ x. x then next) (expected_is part s action m) ∙ ap (λ x. then_from c x next) e
+    expected_by_outcome : (next : Memories → Expected) (status : ℕ) → c.status ≡ status → next_unless_fault
+        (action_expected part s action m) (action_expected part s action m).status next
+        ≡ next_unless_fault c status next
+    expected_by_outcome next status e = ap (λ x. next_unless_fault x x.status next) (expected_is part s action m)
+        ∙ ap (λ x. next_unless_fault c x next) e
 
-    module _ (emitted : List OutputEvent) (is : emitted ≡ c.output_events) (fine : c.standing ≡ NoFault) where
+    module _ (emitted : List OutputEvent) (is : emitted ≡ c.output_events) (fine : c.status ≡ 0) where
       -- Some first actions of the others are some first ones of all.
       first_behind : (x : List OutputEvent) → FirstActionsOutput part s rest c.memories x
           → FirstActionsOutput part s (action ∷ rest) m (emitted ++ x)
       first_behind x first =
-          let on = expected_by_outcome (actions_expected part s first.done) NoFault fine in
+          let on = expected_by_outcome (actions_expected part s first.done) 0 fine in
           record {
             done = action ∷ first.done;
             more = first.more;
             actions_are = ap (λ xs. action ∷ xs) first.actions_are;
-            fine = ap (λ y. y.standing) on ∙ first.fine;
+            fine = ap (λ y. y.status) on ∙ first.fine;
             output_events_are = ap₂ ◌++◌ is first.output_events_are ∙ sym (ap (λ y. y.output_events) on);
           }
 
@@ -244,7 +246,7 @@ module _ (part : Part) (sound : IsPart part) (real : Real part) (s : Switches) (
           → After part real s At Fails rest c.memories at x y
           → After part real s At Fails (action ∷ rest) m at (emitted ++ x) y
       after_behind at x y (rests, inl own) =
-          search (rules, rests_later y rests, expected_by_outcome (actions_expected part s rest) NoFault fine)
+          search (rules, rests_later y rests, expected_by_outcome (actions_expected part s rest) 0 fine)
       after_behind at x y (rests, inr broken) =
           let line = broken.line in (
             rests_later y rests,
@@ -275,11 +277,11 @@ module _ (part : Part) (sound : IsPart part) (real : Real part) (s : Switches) (
         on NoFault emitted y (r, inl own) =
             prints_wider real.device True
             (λ x v now. search (rules, rests_later, first_behind))
-            (after_behind emitted own.output_events_are own.stands) (more y own.left)
+            (after_behind emitted own.output_events_are own.status_is) (more y own.left)
         on NoFault emitted y (r, inr broken) = absurd (broken.faulty refl)
         on at emitted y (r, inl own) =
             stops real.device True (After part real s At Fails (action ∷ rest) m) at emitted y
-            (before y r, inl (rw (expected_by_outcome (actions_expected part s rest) at own.stands) own))
+            (before y r, inl (rw (expected_by_outcome (actions_expected part s rest) (status_of at) own.status_is) own))
         on at emitted y (r, inr broken) =
             stops real.device True (After part real s At Fails (action ∷ rest) m) at emitted y (before y r, inr broken)
 

@@ -24,7 +24,7 @@ use Rattle.avr_tool.proofs.Hosts.OneLink.{Spot, on_link}
 use Rattle.avr_tool.proofs.Hosts.Outputs.{AllTrue, Prints, stops, prints_reported, prints_then}
 use Rattle.avr_tool.proofs.WriteOperations.StepCounts.{items_counted}
 use Rattle.avr_tool.proofs.Plans.Fits.{work, work_fits}
-use Rattle.avr_tool.specs.ExpectedRun.{Expected, working_expected, ending_output}
+use Rattle.avr_tool.specs.ExpectedRun.{Expected, actions_expected, ending_output}
 use Rattle.avr_tool.specs.ExpectedOutput.{FirstActionsOutput, OutputToFault, IsExpectedOutput}
 use Rattle.avr_tool.specs.Items.{items}
 use Rattle.avr_tool.specs.Outcome.{HasFirstOperations, IsExpectedRun}
@@ -71,10 +71,10 @@ module _ (plan : Plan) (sound : IsPart plan.part) (real : Real plan.part) (fitte
 
   -- The expected run of the actions.
   abbrev w : Expected
-  w = working_expected plan m
+  w = actions_expected part s (actions plan) m
 
   -- All actions are done.
-  all_done : (emitted : List OutputEvent) → emitted ≡ w.output_events → w.standing ≡ NoFault
+  all_done : (emitted : List OutputEvent) → emitted ≡ w.output_events → w.status ≡ 0
       → FirstActionsOutput part s (actions plan) m emitted
   all_done emitted is fine = record {
     done = actions plan;
@@ -110,11 +110,11 @@ module _ (plan : Plan) (sound : IsPart plan.part) (real : Real plan.part) (fitte
         × ((r ≡ Ok tt) ⊎ (Fails × ((fault : StepFault) × (r ≡ Err (host_fault fault))))) → ReportedAs r z
     closed r z (i, inl ok) = rw ok (done_true z.0, (left z i, inl (search (rules, real.has w.memories z.0 i))))
     closed r z (i, inr broke) =
-        let done = all_done emitted own.output_events_are own.stands in
+        let done = all_done emitted own.output_events_are own.status_is in
         rw broke.1.1 (fault_true broke.1.0 z.0, (left z i, inr (broke.0, search (rules, done))))
 
   -- After a fault no second one is reported.
-  with_fault : (at : Standing) (emitted : List OutputEvent) (y z : Spot real.P) → ending_output plan at ≡ []
+  with_fault : (at : Standing) (emitted : List OutputEvent) (y z : Spot real.P) → ending_output plan (status_of at) ≡ []
       → status_of at ≡ 1
       → After part real s At Fails (actions plan) m at emitted y → real.memories z.0 ≡ real.memories y.0
       → AtEnd plan real m Fails 1 emitted z
@@ -133,7 +133,7 @@ module _ (plan : Plan) (sound : IsPart plan.part) (real : Real plan.part) (fitte
       prints_reported real.device True (closing_output s.quiet part) (pass.closes w.memories y own.left)
       (λ z i. (
         left emitted y rests own z i,
-        inr (inl (all_done (emitted ++ []) (append-nil emitted ∙ own.output_events_are) own.stands)),
+        inr (inl (all_done (emitted ++ []) (append-nil emitted ∙ own.output_events_are) own.status_is)),
       ))
       (closed emitted y rests own)
   ending_prints NoFault emitted y (rests, inr broken) = absurd (broken.faulty refl)

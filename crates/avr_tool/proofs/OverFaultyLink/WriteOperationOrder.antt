@@ -27,7 +27,7 @@ use Rattle.avr_session.specs.Actions.{Action, OpenSession, EraseChip, WriteImage
 use Rattle.avr_session.specs.PlanSteps.{action_steps}
 use Rattle.avr_session.specs.Session.{reported, closing_output, action_dialog, actions_dialog, ending, session_dialog, status_of, session}
 use Rattle.avr_tool.specs.Items.{action_items, actions_items, items}
-use Rattle.avr_tool.specs.Completed.{none_completed, action_completed, actions_completed, operations_completed}
+use Rattle.avr_tool.specs.Completed.{steps_completed, actions_completed, operations_completed}
 use Rattle.avr_tool.specs.Outcome.{write_operations}
 use Rattle.avr_tool.proofs.Plans.Fits.{FitsAction, AllFitActions, work, work_fits, action_items_fit}
 use Rattle.avr_tool.proofs.Real.{Real}
@@ -76,17 +76,20 @@ module _ (part : Part) (sound : IsPart part) (s : Switches) where
   -- An erase or a write makes its write operations.
   makes_written : (action : Action) (m : Memories) → FitsAction part action → FitsPart part m
       → action_steps part action ≡ steps_of_items part (action_items action)
-      → Strikes part m (action_items action) (action_completed part action) (action_dialog part s action)
+      → Strikes part m (action_items action) (steps_completed device (steps_of_items part (action_items action)))
+      (action_dialog part s action)
   makes_written action m fits f same p exchanges settled =
       let o = is_operation part s sound m f action fits in
-      subst (λ d. Makes part m (action_items action) d (action_completed part action) p exchanges)
+      subst (λ d. Makes part m (action_items action) d
+      (steps_completed device (steps_of_items part (action_items action))) p exchanges)
       (search (rules, dialog_is))
       (makes_items part sound m (action_items action) o.judge (outcome_output part s action) p exchanges
       (subst (AreSteps part) same o.are) settled)
 
   -- So does any action but the opening; most make none.
   makes_action : (action : Action) (m : Memories) → FitsAction part action → FitsPart part m
-      → Strikes part m (action_items action) (action_completed part action) (action_dialog part s action)
+      → Strikes part m (action_items action) (steps_completed device (steps_of_items part (action_items action)))
+      (action_dialog part s action)
   makes_action EraseChip m fits f = makes_written EraseChip m fits f refl
   makes_action (WriteImage mem image) m fits f = search (rules, makes_written)
   makes_action action m fits f = λ p exchanges settled.
@@ -147,7 +150,7 @@ module _ (plan : Plan) (sound : IsPart plan.part) (fitted : All (IsFitted plan.p
       let opened = action_dialog part s OpenSession in
       let opens = action_leads part sound s OpenSession m p exchanges tt f
       (opening_comes part sound (emulated part sound) s m f (all_work part sound signature_steps m) p idle) in
-      makes_then part sound m [] (actions_items (work plan)) opened (actions_dialog part s (work plan)) none_completed
+      makes_then part sound m [] (actions_items (work plan)) opened (actions_dialog part s (work plan)) (λ k q fs. 0)
       (actions_completed part s (work plan)) p exchanges tt f
       opens (makes_none part sound m opened p exchanges (λ at q. at ≡ NoFault → Settled part m q) opens)
       (λ q fs there. makes_each_action part sound s (work plan) m (work_fits plan fitted) f q fs there)
@@ -159,7 +162,7 @@ module _ (plan : Plan) (sound : IsPart plan.part) (fitted : All (IsFitted plan.p
   -- The end makes no more.
   ends : (k : ℕ) (s : Standing) → (state_after device k all_actions p exchanges).dialog ≡ Done s
       → GoesOn device At (state_after device k all_actions p exchanges) (makes_actions.tally.count k)
-      (operations_completed plan (k - 1) p exchanges) (ending plan.part plan.switches s) none_completed
+      (operations_completed plan (k - 1) p exchanges) (ending plan.part plan.switches s) (λ l q fs. 0)
   ends k s e =
       let part = plan.part in
       let z = state_after device k all_actions p exchanges in
@@ -179,9 +182,9 @@ module _ (plan : Plan) (sound : IsPart plan.part) (fitted : All (IsFitted plan.p
   unfolding session
   session_makes =
       tallies_as device (session_dialog plan) _
-      (then_count device all_actions (operations_completed plan) (λ t. none_completed)) _ At _ p exchanges
+      (then_count device all_actions (operations_completed plan) (λ t l q fs. 0)) _ At _ p exchanges
       (λ k. (search rules))
       (λ k j changed. ap (λ z. memories_of z.programmer.chip) (along_reported device k (session_dialog plan) status_of p
       exchanges) ∙ (changed.stands.memories ∙ items_counted plan.part (items plan) j m))
       (tallies_bind device all_actions (ending plan.part plan.switches) (operations_completed plan)
-      (λ t. none_completed) At p exchanges makes_actions.tally (λ k s e. ends k s e))
+      (λ t l q fs. 0) At p exchanges makes_actions.tally (λ k s e. ends k s e))

@@ -28,7 +28,7 @@ use Rattle.stk_emu.proofs.Replies.Commands.{settled_idle}
 use Rattle.avr_tool.proofs.WriteOperations.Counts.{tallies_none, tallies_as, tallies_bind, steps_all, tallies_play}
 use Rattle.avr_session.specs.Standing.{Standing, NoFault}
 use Rattle.avr_session.specs.Session.{reported, unless_fault}
-use Rattle.avr_tool.specs.Completed.{none_completed, completed_unless_fault, steps_completed}
+use Rattle.avr_tool.specs.Completed.{completed_unless_fault, steps_completed}
 use Rattle.avr_tool.proofs.Emulated.{emulated}
 use Rattle.avr_tool.proofs.OverFaultyLink.FirstSteps.{Rests, changed_min, changed_prefix, changed_behind, all_on, all_changed}
 use Rattle.avr_tool.proofs.OverFaultyLink.Calls.{reported_programmer, reported_fine}
@@ -55,7 +55,7 @@ no_steps part count m = search rules
 -- nothing is made if the memories stay
 pub makes_none : (part : Part) (sound : IsPart part) (m : Memories) (d : Dialog OutputEvent Standing) (p : Programmer)
     (exchanges : List Exchange) (After : Standing → Programmer → Type 0)
-    → Leads device d p exchanges (Rests (emulated part sound) [] m) After → Makes part m [] d none_completed p exchanges
+    → Leads device d p exchanges (Rests (emulated part sound) [] m) After → Makes part m [] d (λ k q fs. 0) p exchanges
 makes_none part sound m d p exchanges After l = record {
   tally = tallies_none device d (Changed part [] m) p exchanges (λ k. let r = l.during k in search (rules, no_steps));
   complete = λ k e. refl;

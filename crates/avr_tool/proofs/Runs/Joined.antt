@@ -17,11 +17,11 @@ use Rattle.stk_host.specs.Dialog.{Event, Played, Emitted, played, prepend_events
 use Rattle.stk_host.specs.Transcript.{LinkState, Transcript, heard, Grows}
 use Rattle.stk_host.specs.Tape.{Tape}
 use Rattle.stk_host.proofs.Transcripts.Laws.{grows_none}
-use Rattle.avr_session.specs.Run.{RunsSession, RunsSettings, StopsSession}
+use Rattle.avr_session.specs.Run.{RunsSession, RunsSettings, StopsSession, WithPlan}
 use Rattle.avr_session.specs.Runs.{Devices, devices, Cause, StopsAt, NotWritten, FileFailed, ReportsCause, cause_line}
 use Rattle.avr_session.specs.Session.{session}
 use Rattle.avr_session.specs.Stopping.{RanToStatus}
-use Rattle.avr_tool.specs.Headline.{run, run_after_planning, FitsNext, IsInTurn, IsRun, IsPrefixOfRun, Reason, StopsThere, InSession, InPlanning, stop_line, StoppedInSession, StoppedPlanning, IsStopped}
+use Rattle.avr_tool.specs.Headline.{run, run_after_planning, FitsNext, IsInTurn, IsRun, IsPrefixOfRun, Reason, StopsThere, InSession, InPlanning, stop_line, StoppedPlanning, IsStopped}
 
 -- The outputs among these events are the output events, and then those of the rest.
 pub emitted_outputs : (output_events : List OutputEvent) (events : List (Event OutputEvent))
@@ -205,7 +205,9 @@ module _ (settings : Settings) (x y : Devices) (stopped : StoppedPlanning settin
       let both = with_line [] rest.later (planned settings (stopped.broke.passed ++ openings)).stage_outcome in
       (_, both.0, both.1, rest.broken)
 
-module _ (settings : Settings) (x y : Devices) (stopped : StoppedInSession settings x y) (openings : List Opening) where
+module _ (settings : Settings) (x y : Devices)
+    (stopped : WithPlan settings x.desk (λ plan between. StopsSession plan (devices x.link between) y))
+    (openings : List Opening) where
   -- The output of planning.
   abbrev planned_events : List (Event OutputEvent)
   planned_events = map Emitted stopped.made.output_events
@@ -232,7 +234,9 @@ module _ (settings : Settings) (x y : Devices) (stopped : StoppedInSession setti
   }
 
 -- A run that stopped in its session did a prefix of the run.
-stopped_prefix : (settings : Settings) (x y : Devices) → StoppedInSession settings x y → IsPrefixOfRun settings x y
+stopped_prefix : (settings : Settings) (x y : Devices)
+    → WithPlan settings x.desk (λ plan between. StopsSession plan (devices x.link between) y)
+    → IsPrefixOfRun settings x y
 stopped_prefix settings x y stopped = record {
   openings = stopped.made.passed;
   during = stopped.then_is.during;
