@@ -23,7 +23,7 @@ use Rattle.stk_emu.specs.Exchange.{Exchange}
 use Rattle.stk_emu.specs.Wire.{AreLawful, exchanges_of_fates, executions_of_fates}
 use Rattle.stk_emu.specs.Wired.{WiredState, FollowsFates, ComesOf, IsFresh, wired_link}
 use Rattle.stk_emu.specs.declared.fate.Fate.{Fate}
-use Rattle.avr_tool.specs.OverFaultyLink.{EndsOverExchanges, SessionOverWire, events_over, memories, wire_and_desk}
+use Rattle.avr_tool.specs.OverFaultyLink.{EndsOverExchanges, SessionOverWire, events_over, memories}
 use Rattle.avr_tool.specs.Emulated.{RunsOverEmulator, new_wire}
 use Rattle.avr_tool.proofs.Lines.InTurn.{frames_prefix, goes_along, never_idle, sends_whole}
 use Rattle.avr_tool.proofs.WirePlays.{asks_bodies, first, keeps, stands, whole_comes}
@@ -124,6 +124,6 @@ module _ (plan : Plan) (w v : WiredState) (d e : DeskState) (status : ℕ) (sile
       subst AreTrue (over_tape ∙ ap (λ x. x.events) (whole.1.plays.plays [])) over.along_exchanges.reports_are_true
 
   -- and one that broke off
-  pub stopped_truly : (stopped : StopsSession plan (wire_and_desk w d) (wire_and_desk v e))
+  pub stopped_truly : (stopped : StopsSession plan (devices (wired_link w) d) (devices (wired_link v) e))
       → AreTrue stopped.breaks.prefix.whole
   stopped_truly stopped = search (rules, results_prefix, over)

@@ -15,10 +15,9 @@ use Rattle.stk_emu.specs.Effect.{Memories, memories_of}
 use Rattle.stk_emu.specs.Programmer.{Programmer}
 use Rattle.stk_emu.specs.Settled.{HasMemories, FitsPart}
 use Rattle.stk_emu.specs.Exchange.{Exchange, Execution}
-use Rattle.avr_tool.specs.ExpectedOutput.{EndsAsExpected}
 use Rattle.avr_tool.specs.Outcome.{IsExpectedRun}
 use Rattle.avr_tool.proofs.OverExchanges.{asks, ends_over_exchanges, has_expected, is_idle, its_part, its_sizes, over_exchanges}
-use Rattle.avr_laws.specs.AnyLink.{EndsAndReportsOverExchanges, ReportsOverExchanges}
+use Rattle.avr_laws.specs.AnyLink.{EndsAsExpected, EndsAndReportsOverExchanges, ReportsOverExchanges}
 use Rattle.avr_tool.specs.Authentic.{RepliesAreAuthentic}
 use Rattle.avr_laws.specs.FewBadFrames.{AtMostThreeBadOfSeven}
 use Rattle.avr_laws.proofs.FewBad.Sessions.{few_session_ends}

@@ -4,17 +4,20 @@ use Rattle.std.specs.Prelude.{ℕ, ◌≡◌, ◌⊎◌, true, List}
 use Rattle.avr_desk.specs.Record.{DeskState, ChangesRecord}
 use Rattle.avr_desk.specs.OutputEvents.{OutputEvent, after_events}
 use Rattle.avr_plan.specs.Plan.{Plan}
+use Rattle.avr_session.specs.Actions.{actions}
 use Rattle.stk_emu.specs.Device.{device}
 use Rattle.stk_emu.specs.Effect.{Memories, memories_of}
 use Rattle.stk_emu.specs.Programmer.{Programmer, fresh_programmer}
 use Rattle.stk_emu.specs.Exchange.{Exchange}
 use Rattle.stk_emu.specs.Wire.{exchanges_of_fates}
-use Rattle.stk_emu.specs.Wired.{WiredState}
+use Rattle.stk_emu.specs.Wired.{WiredState, wired_link}
 use Rattle.stk_host.specs.Dialog.{Event, outputs}
 use Rattle.stk_host.specs.Transcript.{sent}
 use Rattle.avr_session.specs.Run.{StopsSession}
-use Rattle.avr_tool.specs.OverFaultyLink.{EndsOverExchanges, OverExchanges, events_over, memories, wire_and_desk}
-use Rattle.avr_tool.specs.ExpectedOutput.{IsExpectedOutput, EndsAsExpected}
+use Rattle.avr_session.specs.Runs.{devices}
+use Rattle.avr_tool.specs.OverFaultyLink.{EndsOverExchanges, OverExchanges, events_over, memories}
+use Rattle.avr_tool.specs.ExpectedOutput.{IsExpectedOutput, OutputToFault}
+use Rattle.avr_tool.specs.ExpectedRun.{expected_run}
 use Rattle.avr_tool.specs.Items.{items, has_erase}
 use Rattle.avr_tool.specs.Outcome.{IsExpectedRun}
 use Rattle.avr_laws.specs.Again.{AgreesOnTwoChips}
@@ -36,6 +39,12 @@ pub record ReportsOverExchanges (plan : Plan) (p q : Programmer) (exchanges : Li
   pub reports_are_true : ReportsWereTrue plan p exchanges events
   -- the output is the expected run's, or that of the actions that ended and then the line of a failed step
   pub output_is_expected : IsExpectedOutput plan (memories_of p.chip) (outputs events)
+
+-- The output and the status of a session at its end: those of the expected run, or status 1 after a failed step.
+abbrev pub EndsAsExpected : Plan → Memories → List OutputEvent → ℕ → Type 0
+EndsAsExpected plan m output_events status =
+    ((output_events ≡ (expected_run plan m).output_events) × (status ≡ (expected_run plan m).status))
+    ⊎ (OutputToFault plan.part plan.switches (actions plan) m output_events × (status ≡ 1))
 
 -- What holds besides for a session with this status.
 pub record EndsAndReportsOverExchanges (plan : Plan) (before after : Memories) (exchanges : List Exchange)
@@ -61,4 +70,4 @@ pub record OverAnyWire (plan : Plan) (before after : WiredState) (old now : Desk
       (exchanges_of_fates before.wire.fates) (sent after.transcript) (events_over plan after)
   pub end : (EndsAndReportsOverExchanges plan (memories before) (memories after) (exchanges_of_fates before.wire.fates)
       (outputs (events_over plan after)) status × ChangesRecord (after_events (outputs (events_over plan after))) old
-      now) ⊎ (StopsSession plan (wire_and_desk before old) (wire_and_desk after now) × (status ≡ 1))
+      now) ⊎ (StopsSession plan (devices (wired_link before) old) (devices (wired_link after) now) × (status ≡ 1))

@@ -33,11 +33,10 @@ ghost use Rattle.stk_emu.specs.Wire.{exchanges_of_fates};
 ghost use Rattle.stk_host.specs.Tape.{Tape};
 ghost use Rattle.stk_host.specs.Dialog.{Done, Event, played, bytes_sent};
 ghost use Rattle.stk_host.specs.Bound.{SendsAtMost, commands_in};
-ghost use Rattle.avr_tool.specs.OverFaultyLink.{wire_and_desk};
-ghost use Rattle.avr_laws.specs.AnyLink.{OverAnyWire, ReportsOverExchanges, WholeSessionOverExchanges, ReportsWereTrue};
+ghost use Rattle.avr_laws.specs.AnyLink.{EndsAsExpected, OverAnyWire, ReportsOverExchanges, WholeSessionOverExchanges, ReportsWereTrue};
 ghost use Rattle.avr_session.specs.PlanSteps.{run_steps};
 ghost use Rattle.avr_tool.specs.ExpectedRun.{expected_run};
-ghost use Rattle.avr_tool.specs.ExpectedOutput.{FirstActionsOutput, IsExpectedOutput, EndsAsExpected};
+ghost use Rattle.avr_tool.specs.ExpectedOutput.{FirstActionsOutput, IsExpectedOutput};
 ghost use Rattle.avr_tool.specs.Completed.{operations_completed};
 ghost use Rattle.avr_laws.specs.TrueReports.{ReportsTrue, IsTrueReport};
 ghost use Rattle.avr_tool.specs.Outcome.{write_operations};
@@ -99,7 +98,7 @@ pub fn what_was_reported_was_true()
         whole.1.events }
     ensures stopped { (plan : Plan) (w v : WiredState) (d e : DeskState) (status : ℕ)
         → w.transcript ≡ [] → OverAnyWire plan w v d e status
-        → (stopped : StopsSession plan (wire_and_desk w d) (wire_and_desk v e))
+        → (stopped : StopsSession plan (devices (wired_link w) d) (devices (wired_link v) e))
         → ReportsWereTrue plan (fresh_programmer w.wire.programmer.chip) (exchanges_of_fates w.wire.fates)
         stopped.breaks.prefix.whole }
 {}

@@ -1,10 +1,10 @@
 //! What status 0 means. Laws of few bad frames, of a further run, and of worked outcomes.
 
-ghost use Rattle.std.specs.Prelude.{◌≡◌, ◌<◌, ◌*◌, true, false, List, [], ◌∷◌, All, Some, map, ℕ};
+ghost use Rattle.std.specs.Prelude.{◌≡◌, ◌<◌, ◌*◌, true, false, List, [], ◌∷◌, All, Some, flat_map, map, sum_by, ℕ};
 ghost use Rattle.avr_plan.specs.declared.settings.Settings.{Settings};
 ghost use Rattle.avr_desk.specs.Record.{DeskState, ChangesRecord, Record, all_openings};
 ghost use Rattle.avr_laws.specs.Again.{AgreesOnTwoChips, ItemsKeepEeprom};
-ghost use Rattle.avr_tool.specs.OverFaultyLink.{SessionOverWire, Weight, total_weight, bodies_in, memories, events_over, wire_and_desk};
+ghost use Rattle.avr_tool.specs.OverFaultyLink.{SessionOverWire, memories, events_over};
 ghost use Rattle.avr_laws.specs.AnyLink.{OverAnyWire, WholeSessionOverExchanges};
 ghost use Rattle.avr_session.specs.PlanSteps.{run_steps};
 ghost use Rattle.avr_tool.specs.ExpectedRun.{expected_run};
@@ -39,7 +39,8 @@ ghost use Rattle.stk_emu.specs.StepData.{HoldsImage};
 ghost use Rattle.avr_part.specs.declared.part.Mem.{Mem};
 ghost use Rattle.stk_emu.specs.Settled.{FitsPart};
 ghost use Rattle.stk_emu.specs.Wire.{exchanges_of_fates};
-ghost use Rattle.stk_emu.specs.Wired.{WiredState};
+ghost use Rattle.stk_emu.specs.Wired.{WiredState, wired_link};
+ghost use Rattle.stk_frame.specs.Commands.{body};
 ghost use Rattle.stk_frame.specs.Cut.{body_of, frames};
 ghost use Rattle.stk_emu.specs.Exchange.{Execution, Exchange};
 ghost use Rattle.avr_laws.specs.AnyTape.{ReceivedSentFrames, after_sent_frames};
@@ -184,8 +185,8 @@ pub fn a_wrong_outcome_is_refused()
         → SessionOverWire plan w v d e 0 → ⊥ }
     ensures silence { (plan : Plan) (w v : WiredState) (d e : DeskState) (status : ℕ)
         → frames (sent v.transcript) ≡ [] → (memories v ≡ memories w → ⊥) → SessionOverWire plan w v d e status → ⊥ }
-    ensures frames { (plan : Plan) (w v : WiredState) (d e : DeskState) (status : ℕ) (weight : Weight)
-        → 4 * total_weight weight (bodies_in (run_steps plan)) < total_weight weight
+    ensures frames { (plan : Plan) (w v : WiredState) (d e : DeskState) (status : ℕ) (weight : List ℕ → ℕ)
+        → 4 * sum_by weight (flat_map (map body) (run_steps plan)) < sum_by weight
         (map body_of (frames (sent v.transcript)))
         → SessionOverWire plan w v d e status → ⊥ }
 {}
@@ -198,15 +199,15 @@ pub fn a_wrong_outcome_is_refused()
 /// chip then holds its images, whatever it held before.
 pub fn a_sound_run_is_its_expected_run()
     ensures expected_run { (plan : Plan) (w v : WiredState) (d e : Record) (a b : ℕ × ℕ) (status : ℕ)
-        → AtMostThreeBadOfSeven (exchanges_of_fates w.wire.fates) → IsSound (wire_and_desk w (keeping d a))
-        (wire_and_desk v (keeping e b))
+        → AtMostThreeBadOfSeven (exchanges_of_fates w.wire.fates) → IsSound (devices (wired_link w) (keeping d a))
+        (devices (wired_link v) (keeping e b))
         → (EndWithLine (cause_line AllocationFailed) e.messages → ⊥)
         → OverAnyWire plan w v (keeping d a) (keeping e b) status
         → IsExpectedRun plan (memories w) (memories v) (outputs (events_over plan v)) status
         × ChangesRecord (after_events (outputs (events_over plan v))) (keeping d a) (keeping e b) }
     ensures images { (plan : Plan) (w v : WiredState) (d e : Record) (a b : ℕ × ℕ) (status : ℕ)
-        → AtMostThreeBadOfSeven (exchanges_of_fates w.wire.fates) → IsSound (wire_and_desk w (keeping d a))
-        (wire_and_desk v (keeping e b))
+        → AtMostThreeBadOfSeven (exchanges_of_fates w.wire.fates) → IsSound (devices (wired_link w) (keeping d a))
+        (devices (wired_link v) (keeping e b))
         → (EndWithLine (cause_line AllocationFailed) e.messages → ⊥)
         → plan.switches.no_verify ≡ false → has_erase (items plan) ≡ true → AgreesOnTwoChips plan
         → OverAnyWire plan w v (keeping d a) (keeping e b) status

@@ -1,7 +1,7 @@
 //! Laws of what a plan writes, and what the memories hold after a verified run, address by address.
 #![tactic(auto)]
 
-ghost use Rattle.std.specs.Prelude.{◌≡◌, ◌↔◌, ◌<◌, ◌++◌, ◌∷◌, [], ℕ, false, List, All, length, map};
+ghost use Rattle.std.specs.Prelude.{◌≡◌, ◌↔◌, ◌<◌, ◌++◌, ◌∷◌, [], ℕ, false, List, All, length, map, slice_index};
 ghost use Rattle.avr_plan.specs.declared.settings.Switches.{Switches};
 ghost use Rattle.avr_image.specs.Image.{HoldsBytes};
 ghost use Rattle.avr_part.specs.Part.{Part, IsPart};
@@ -16,7 +16,7 @@ ghost use Rattle.avr_tool.specs.ComparisonsAgree.{ComparisonsAgree};
 ghost use Rattle.avr_tool.specs.ExpectedRun.{expected_run};
 ghost use Rattle.avr_tool.specs.Items.{asked_items, items};
 ghost use Rattle.avr_tool.specs.Outcome.{write_operations, HasFirstOperations, IsDone};
-ghost use Rattle.avr_tool.specs.Written.{IsWritten, byte_in, written_to};
+ghost use Rattle.avr_tool.specs.Written.{IsWritten, written_to};
 ghost use Rattle.avr_laws.specs.WrittenBytes.{IsMadeByImages, WriteTakesEffect};
 
 /// States that a plan erases if an erase is due, and then writes the images of its tasks in order; a dry run does
@@ -58,14 +58,14 @@ pub fn a_verified_run_leaves_its_images()
 /// other run they are those of its write operations.
 pub fn a_byte_of_flash_is_made_by_images()
     ensures items { (part : Part) (items : List Item) (m : Memories) (addr : ℕ) → addr < length m.flash
-        → IsMadeByImages items addr (byte_in part Flash addr m) (byte_in part Flash addr (effects part items m)) }
+        → IsMadeByImages items addr (slice_index m.flash addr) (slice_index (effects part items m).flash addr) }
     ensures done { (plan : Plan) (before after : Memories) (addr : ℕ) → addr < length before.flash
         → IsDone plan before after
-        → IsMadeByImages (items plan) addr (byte_in plan.part Flash addr before) (byte_in plan.part Flash addr after) }
+        → IsMadeByImages (items plan) addr (slice_index before.flash addr) (slice_index after.flash addr) }
     ensures touched { (plan : Plan) (before after : Memories) (addr : ℕ) → addr < length before.flash
         → HasFirstOperations plan before after
-        → IsMadeByImages (write_operations plan) addr (byte_in plan.part Flash addr before)
-        (byte_in plan.part Flash addr after) }
+        → IsMadeByImages (write_operations plan) addr (slice_index before.flash addr)
+        (slice_index after.flash addr) }
 {}
 
 /// States that an image reported as written is in its memory, under conditions on the chip's lock, and on what the plan

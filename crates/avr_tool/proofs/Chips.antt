@@ -23,68 +23,74 @@ use Rattle.avr_tool.specs.Loading.{AtOpened, chip_or_line, checked_chip, chip_gi
 
 -- ---- a fresh chip
 
-pub went_fresh : (part : Part) (chip : ChipState) (d : DeskState) → GivesPartUnlessOutOfMemory (Ok (fresh_state part))
-    (Ok chip) → StageCompleted (result_stage (Ok (fresh_state part))) d d (Produced chip)
-went_fresh part chip d (inl gives) = let same : fresh_state part ≡ chip = cc in search (rules, went_settled)
-went_fresh part chip d (inr memory) = cc
+-- The stage of a fresh chip gives it.
+pub fresh_chip_given : (part : Part) (chip : ChipState) (d : DeskState)
+    → GivesPartUnlessOutOfMemory (Ok (fresh_state part)) (Ok chip)
+    → StageCompleted (result_stage (Ok (fresh_state part))) d d (Produced chip)
+fresh_chip_given part chip d (inl gives) = let same : fresh_state part ≡ chip = cc in search (rules, went_settled)
+fresh_chip_given part chip d (inr memory) = cc
 
 -- ---- the chip of some bytes
 
+-- If a chip was made of the bytes, they had the length of a chip of the part.
 right_length : (part : Part) (bytes : Bytes) (chip : ChipState) → GivesPartUnlessOutOfMemory (chip_from_file part bytes)
     (Ok chip) → ((length bytes == chip_file_size part) ≡ true) × (chip ≡ state_from_file part bytes)
 right_length part bytes chip gives = search rules
 
-pub went_chip : (part : Part) (file bytes : Bytes) (chip : ChipState) (d : DeskState)
+-- The stage of these bytes gives their chip.
+pub chip_given_by_bytes : (part : Part) (file bytes : Bytes) (chip : ChipState) (d : DeskState)
     → GivesPartUnlessOutOfMemory (chip_from_file part bytes) (Ok chip)
     → StageCompleted (result_stage (chip_or_line part file bytes)) d d (Produced chip)
-went_chip part file bytes chip d gives =
+chip_given_by_bytes part file bytes chip d gives =
     went_settled (chip_or_line part file bytes) chip d (search (rules, right_length))
 
-pub goes_wrong_length : (part : Part) (file bytes : Bytes) (n : ℕ) (old new : DeskState) (status : ℕ)
+-- Bytes of another length are refused.
+pub wrong_length_refused : (part : Part) (file bytes : Bytes) (n : ℕ) (old new : DeskState) (status : ℕ)
     → GivesPartUnlessOutOfMemory (chip_from_file part bytes) (Err (BadChipFile n)) → status ≡ 1
     → ReportsLine old new (error (length_pieces file (length bytes) (chip_file_size part)))
     → RunsStage (OnlyAtStart true) (result_stage (chip_or_line part file bytes)) old new (Err status)
-goes_wrong_length part file bytes n old new status gives one notice =
+wrong_length_refused part file bytes n old new status gives one notice =
     goes_unsettled (OnlyAtStart true) (chip_or_line part file bytes) _ old new status (search rules) one notice
 
 -- ---- the chip of a file that was read
 
+-- Allocation fails right after the file was opened.
 pub opened_at : (opening : Opening) (passed : List Opening) (emitted : List OutputEvent)
     → OnlyAtStart true passed emitted → AtOpened (opening ∷ passed) (Opens opening ∷ emitted)
 opened_at opening passed emitted allocates = search rules
 
 -- the check of the file's bytes
-goes_whole : (part : Part) (file bytes : Bytes) (ended : Bool) (old mid new : DeskState) (result : Result ChipState ℕ)
-    → ChangesRecord (with_read file bytes ended) old mid
+whole_file_checked : (part : Part) (file bytes : Bytes) (ended : Bool) (old mid new : DeskState)
+    (result : Result ChipState ℕ) → ChangesRecord (with_read file bytes ended) old mid
     → EndsOrExceedsLimit LARGEST_CHIP_FILE (record { bytes = bytes; ended = ended }) → HasSameCounts old mid
     → RunsStage (OnlyAtStart true) (result_stage (checked_chip part file bytes)) mid new result
     → RunsStage AtOpened (chip_stage part file) old new result
-goes_whole part file bytes ended old mid new result kept whole rose goes =
+whole_file_checked part file bytes ended old mid new result kept whole rose goes =
     let reading : Reading = record { name = file; bytes = bytes; ended = ended } in
     runs_open (OnlyAtStart true) AtOpened file (chip_given part file) (Found reading) old mid new result refl kept rose
     (opened_at (Found reading)) (search (rules, runs_content))
 
 -- if the file was read to its end
-pub goes_ended : (part : Part) (file bytes : Bytes) (ended : Bool) (old mid new : DeskState)
+pub ended_file_checked : (part : Part) (file bytes : Bytes) (ended : Bool) (old mid new : DeskState)
     (result : Result ChipState ℕ)
     → ChangesRecord (with_read file bytes ended) old mid
     → EndsOrExceedsLimit LARGEST_CHIP_FILE (record { bytes = bytes; ended = ended }) → ended ≡ true
     → HasSameCounts old mid → RunsStage (OnlyAtStart true) (result_stage (chip_or_line part file bytes)) mid new result
     → RunsStage AtOpened (chip_stage part file) old new result
-goes_ended part file bytes false old mid new result kept whole is rose goes = cc
-goes_ended part file bytes true old mid new result kept whole is rose goes =
+ended_file_checked part file bytes false old mid new result kept whole is rose goes = cc
+ended_file_checked part file bytes true old mid new result kept whole is rose goes =
     let fits : nat_le (length bytes) LARGEST_CHIP_FILE ≡ true = grind (arith, nat_tests, whole) in
-    goes_whole part file bytes true old mid new result kept whole rose (rw fits goes)
+    whole_file_checked part file bytes true old mid new result kept whole rose (rw fits goes)
 
 -- if it was read past the limit
-pub goes_past : (part : Part) (file bytes : Bytes) (ended : Bool) (old mid new : DeskState) (status : ℕ)
+pub long_file_refused : (part : Part) (file bytes : Bytes) (ended : Bool) (old mid new : DeskState) (status : ℕ)
     → ChangesRecord (with_read file bytes ended) old mid
     → EndsOrExceedsLimit LARGEST_CHIP_FILE (record { bytes = bytes; ended = ended }) → ended ≡ false
     → HasSameCounts old mid → status ≡ 1 → ReportsLine mid new (too_long_line file LARGEST_CHIP_FILE)
     → RunsStage AtOpened (chip_stage part file) old new (Err status)
-goes_past part file bytes true old mid new status kept whole is rose one notice = cc
-goes_past part file bytes false old mid new status kept whole is rose one notice =
+long_file_refused part file bytes true old mid new status kept whole is rose one notice = cc
+long_file_refused part file bytes false old mid new status kept whole is rose one notice =
     let more = whole.0 in
     let long : nat_le (length bytes) LARGEST_CHIP_FILE ≡ false = grind (arith, nat_tests, more) in
     let given : checked_chip part file bytes ≡ Err (too_long_line file LARGEST_CHIP_FILE) = rw long refl in
-    search (rules, goes_whole, goes_unsettled)
+    search (rules, whole_file_checked, goes_unsettled)

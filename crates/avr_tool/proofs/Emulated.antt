@@ -18,6 +18,7 @@ use Rattle.avr_tool.proofs.Real.{ActionsWork, AllWork, Real}
 use Rattle.avr_tool.proofs.WriteOperations.OutsideMode.{step_fits}
 use Rattle.avr_tool.proofs.WriteOperations.Steps.{enter_fits, leave_fits, sign_on_fits}
 
+-- The emulated programmer of a part, with the facts that proofs use. It can be relied on for all steps.
 abbrev pub emulated : (part : Part) → IsPart part → Real part
 emulated part sound = record {
   P = Programmer;
@@ -36,11 +37,13 @@ emulated part sound = record {
       data_of_attempt part sound commands m bytes is fits (record { from = p; stood = stood; is = has });
 }
 
+-- it does all steps, from any memories
 pub all_work : (part : Part) (sound : IsPart part) (steps : List (List Command)) (m : Memories)
     → AllWork (emulated part sound) steps m
 all_work part sound [] m = tt
 all_work part sound (commands ∷ steps) m = (tt, all_work part sound steps (memories_after_step part commands m))
 
+-- it does the steps of all actions
 pub actions_work : (part : Part) (sound : IsPart part) (actions : List Action) (m : Memories)
     → ActionsWork (emulated part sound) actions m
 actions_work part sound [] m = tt

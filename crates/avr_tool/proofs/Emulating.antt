@@ -43,6 +43,7 @@ module _ (settings : Settings) (file : Bytes) (plan : Plan) (chip : Chip) (w v :
   is_new : w ≡ new_wire chip []
   is_new = search rules
 
+  -- The stages of the run together are `RunsOverEmulator`.
   pub runs_over_emulator : (old planned_desk loaded_desk played_desk now : DeskState) (ran status : ℕ)
       → StageCompleted (planned settings) old planned_desk (Produced plan)
       → TakesChip plan file planned_desk loaded_desk (Ok chip) → CountsNeverFall played_desk now

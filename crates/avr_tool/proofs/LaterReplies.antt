@@ -16,6 +16,7 @@ use Rattle.stk_emu.specs.Emulator.{EmulatorState, WasFedText, RepliesToFrame, em
 use Rattle.stk_emu.proofs.Replies.Texts.{replies_append, frames_fed, is_fed, emulated}
 use Rattle.avr_tool.specs.Serving.{RepliesToAll, LastReplyFailed}
 
+-- Before any byte no reply is due.
 pub all_nothing : (p : Programmer) (text : List ℕ) (machine : EmulatorState) → WasFedText p text machine
     → RepliesToAll p text [] [] machine
 all_nothing p text machine f = search (rules, append-nil)
@@ -25,15 +26,18 @@ pub all_fed : (p : Programmer) (text used out : List ℕ) (old now : EmulatorSta
     → WasFedText p text old → RepliesToAll p text used out now
 all_fed p text used out old now a f = search (rules, is_fed, emulated)
 
+-- The replies to bytes, and then those to more bytes, are the replies to both.
 pub all_more : (p : Programmer) (text a x b y : List ℕ) (mid now : EmulatorState) → RepliesToAll p text a x mid
     → RepliesToAll p (text ++ a) b y now → RepliesToAll p text (a ++ b) (x ++ y) now
 all_more p text a x b y mid now first then = search (rules, append_assoc)
 
+-- The replies to the first bytes were sent; the last reply to the next bytes failed.
 pub breaks_more : (p : Programmer) (text a b : List ℕ) (x y : Transcript) (mid now : EmulatorState)
     → RepliesToAll p text a (sent x) mid
     → LastReplyFailed p (text ++ a) b y now → LastReplyFailed p text (a ++ b) (x ++ y) now
 breaks_more p text a b x y mid now first then = search (rules, append_assoc, sent_append, none_behind)
 
+-- What was received later changes nothing of that.
 pub breaks_got : (p : Programmer) (text bytes : List ℕ) (tape : Tape) (transcript : Transcript) (now : EmulatorState)
     → LastReplyFailed p text bytes transcript now → LastReplyFailed p text bytes (Got tape ∷ transcript) now
 breaks_got p text bytes tape transcript now b = search rules
@@ -50,6 +54,7 @@ breaks_found p text used unused part unsent transcript now (frame ∷ []) few fs
 breaks_found p text used unused part unsent transcript now (frame ∷ other ∷ more) few fs replied fed some is
     not_whole = search rules
 
+-- The send of a reply failed at once, after the reply was due.
 pub breaks_here : (p : Programmer) (text used unused out : List ℕ) (a b : Transcript) (old now : EmulatorState)
     → RepliesToFrame old used now out → WasFedText p text old → (s : SendsOnlyPart out a b)
     → LastReplyFailed p text (used ++ unused) s.during now
@@ -67,6 +72,7 @@ replies_prefix p x y =
     ap (filter is_frame) (cut_append x y) ∙ filter-append is_frame (cut x) (cut (rest x ++ y)) in
     (_, sym (ap (λ fs. replies device fs p) all ∙ replies_append device (frames x) later p))
 
+-- If the last reply failed, a prefix of all replies was sent.
 pub breaks_prefix : (p : Programmer) (text bytes : List ℕ) (transcript : Transcript) (now : EmulatorState)
     → LastReplyFailed p text bytes transcript now
     → IsBytePrefixOf (emulate p text ++ sent transcript) (emulate p (text ++ bytes))

@@ -30,6 +30,7 @@ pub record IsDataOfAttempt {P : Type 0} (m : Device P) (commands : List Command)
   pub stood : Before from ⊎ After from
   pub is : joined_reply m commands [] from ≡ Data bytes
 
+-- The memories after this many of the first steps; a count past the last step means all.
 abbrev pub memories_after_steps : Part → ℕ → List (List Command) → Memories → Memories
 memories_after_steps part zero steps m = m
 memories_after_steps part (suc count) [] m = m

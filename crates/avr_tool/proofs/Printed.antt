@@ -24,22 +24,27 @@ pub record HasPrinted (has : Parts) (stream : Stream) (old new : DeskState) (cou
   pub kept : ChangesRecord (after_sent stream (concat parts)) old new
   pub same : HasSameCounts old new
 
+-- Before the first round nothing was printed.
 pub printed_none : (has : Parts) (s : Stream) (v : DeskState) → HasPrinted has s v v 0 0
 printed_none has s v = search rules
 
+-- The parts printed, and the next one, are parts of the text.
 parts_more : (has : Parts) (place : ℕ) (parts : List Bytes) (n : ℕ) (part : Bytes) → HasParts has place parts
     → n ≡ place + length (concat parts) → has n part → HasParts has place (parts ++ part ∷ [])
 parts_more has place [] n part are is given = search rules
 parts_more has place (p ∷ parts) n part are is given =
     search (rules, parts, length-append, parts_more has (place + length p) parts n part are.1)
 
+-- One more part adds its bytes.
 concat_more : (parts : List Bytes) (part : Bytes) → concat (parts ++ part ∷ []) ≡ concat parts ++ part
 concat_more parts part = concat-append parts (part ∷ []) ∙ ap (λ (x : Bytes). concat parts ++ x) (append-nil part)
 
+-- One more part adds the number of its bytes.
 length_more : (parts : List Bytes) (part : Bytes)
     → length (concat (parts ++ part ∷ [])) ≡ length (concat parts) + length part
 length_more parts part = ap length (concat_more parts part) ∙ length-append (concat parts) part
 
+-- One more round prints one more part.
 pub printed_more : (has : Parts) (s : Stream) (a b c : DeskState) (part : Bytes) (n m rounds : ℕ)
     → HasPrinted has s a b n rounds → has n part → m ≡ n + length part → 0 < length part → length part ≤ 512
     → ChangesRecord (after_sent s part) b c → HasSameCounts b c → HasPrinted has s a c m (rounds + 1)
@@ -53,6 +58,7 @@ printed_more has s a b c part n m rounds before given is some few kept same = re
   same = (same.0 ∙ before.same.0, same.1 ∙ before.same.1);
 }
 
+-- If a round broke off after a prefix of its part, the text was printed up to there.
 pub printed_part : (has : Parts) (s : Stream) (a b c : DeskState) (part : Bytes) (n rounds : ℕ) (fault : DeskFault)
     → HasPrinted has s a b n rounds → has n part → SendsPart s b c part → HasFailedAt s b c
     → CountsNeverFall b c → PrintsText has s a c (Err fault)
@@ -72,11 +78,13 @@ printed_part has s a b c part n rounds fault before given sent failed follows = 
 
 -- ---- an error whose text no clause knows
 
+-- If the text broke off, the error was reported up to there.
 pub partly_reported : (has : Parts) (a b c : DeskState) (fault : DeskFault)
     → ChangesRecord (after_sent Messages (codes "avrstk: error: ")) a b → HasSameCounts a b
     → PrintsText has Messages b c (Err fault) → ReportsText has a c
 partly_reported has a b c fault mark same prints = grind (arith, common_steps)
 
+-- If the text was printed, the error was reported, whether LF was printed or not.
 pub reported_by : (has : Parts) (a b c d : DeskState) (count : ℕ) (r : Result (Unit {0}) DeskFault)
     → ChangesRecord (after_sent Messages (codes "avrstk: error: ")) a b → HasSameCounts a b
     → PrintsText has Messages b c (Ok count) → OnOk r (ChangesRecord (after_sent Messages (10 ∷ [])) c d)

@@ -37,12 +37,15 @@ pub record Real (part : Part) : Type 1 where
       → Works commands m → (HasSettled m p ⊎ HasSettled (memories_after_step part commands m) p)
       → joined_reply device commands [] p ≡ Data bytes → bytes ≡ data_of_step part commands m
 
+-- the programmer has these memories, in any of its states
 abbrev pub HasMemories : {part : Part} → (real : Real part) → Memories → real.P → Type 0
 HasMemories real m p = real.Has m p
 
+-- it has them, and is in programming mode
 abbrev pub Settled : {part : Part} → (real : Real part) → Memories → real.P → Type 0
 Settled real m p = real.HasSettled m p
 
+-- in programming mode it has them too
 pub settled_idle : {part : Part} (real : Real part) (m : Memories) (p : real.P) → Settled real m p
     → HasMemories real m p
 settled_idle real m p s = real.idle m p s

@@ -15,6 +15,7 @@ use Rattle.avr_tool.proofs.LaterReplies.{all_fed, all_more, breaks_here, breaks_
 module _ (piece part out : List ℕ) (n used : ℕ) (old mid now : EmulatorState) (a b c : LinkState)
     (r : SendsAllReplies old (take n piece) a b mid) (is : part ≡ drop n piece)
     (one : RepliesToFrame mid (take used part) now out) where
+  -- If the next reply was sent, all replies to more bytes were.
   pub replies_more : SendsExactly out b.transcript c.transcript → SendsAllReplies old (take (n + used) piece) a c now
   replies_more sends = record {
     out = r.out ++ out;
@@ -26,6 +27,7 @@ module _ (piece part out : List ℕ) (n used : ℕ) (old mid now : EmulatorState
         (search (rules, all_more, all_fed));
   }
 
+  -- If the next reply was sent in part, the last reply failed.
   pub replies_part : SendsOnlyPart out b.transcript c.transcript → SendsPartOfReplies old piece a c now
   replies_part s = record {
     during = r.sends.during ++ s.during;

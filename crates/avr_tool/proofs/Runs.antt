@@ -1,3 +1,2 @@
 -- Planning and session as one run.
 pub mod Joined
-pub mod Untaken

@@ -13,14 +13,16 @@ use Rattle.stk_emu.specs.Programmer.{fresh_programmer}
 use Rattle.stk_emu.specs.Emulator.{EmulatorState}
 use Rattle.avr_tool.specs.ServedRun.{settings_part}
 
-pub goes_with_parts : (s : Settings) (id : Bytes) (old mid new : DeskState) (parts : List Part) (result : Result Part ℕ)
-    → id ≡ s.part → StageCompleted (parts_stage s.parts) old mid (Produced parts)
+-- The parts were read, and then the part was found or refused.
+pub part_found_in_parts : (s : Settings) (id : Bytes) (old mid new : DeskState) (parts : List Part)
+    (result : Result Part ℕ) → id ≡ s.part → StageCompleted (parts_stage s.parts) old mid (Produced parts)
     → RunsStage (OnlyAtStart false) (part_stage id parts) mid new result
     → RunsStage (OnlyAtStart false) (settings_part s) old new result
-goes_with_parts s id old mid new parts result same went goes =
+part_found_in_parts s id old mid new parts result same went goes =
     runs_then (OnlyAtStart false) (OnlyAtStart false) _ (λ parts. part_stage s.part parts) old mid new parts result went
     (λ passed emitted never. absurd (never_allocates passed emitted never)) (rw same at goes)
 
+-- An emulator that was fed nothing.
 pub is_fresh : (chip : chips.ChipState) (machine : EmulatorState) → machine.held ≡ []
     → machine.programmer ≡ fresh_programmer chip → machine ≡ record { held = []; programmer = fresh_programmer chip }
 is_fresh chip machine held programmer = ap₂ (λ h p. record { held = h; programmer = p }) held programmer

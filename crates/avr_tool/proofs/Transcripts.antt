@@ -8,14 +8,17 @@ use Rattle.stk_host.proofs.Tapes.Readings.{bytes_of_append}
 use Rattle.stk_emu.specs.Programmer.{Programmer}
 use Rattle.avr_tool.specs.Serving.{HasNoEnd, reads, RepliesInTurn}
 
+-- Two tapes without an end have none together.
 pub no_end_append : (x y : Tape) → HasNoEnd x → HasNoEnd y → HasNoEnd (x ++ y)
 no_end_append [] y f g = g
 no_end_append (item ∷ x) y f g = (f.0, no_end_append x y f.1 g)
 
+-- Bytes on a tape are no end.
 pub no_end_on_tape : (bytes : List ℕ) → HasNoEnd (on_tape bytes)
 no_end_on_tape [] = tt
 no_end_on_tape (b ∷ bytes) = ((λ e. cc), no_end_on_tape bytes)
 
+-- The reads of two transcripts add up.
 pub reads_append : (x y : Transcript) → reads (x ++ y) ≡ reads x + reads y
 reads_append [] y = omega arith
 reads_append (Got tape ∷ x) y = omega (arith, reads_append x y)
@@ -27,12 +30,14 @@ reads_quiet [] quiet = refl
 reads_quiet (Sent bytes ∷ transcript) quiet = reads_quiet transcript quiet
 reads_quiet transcript quiet = search rules
 
+-- A transcript in which nothing is received is in turn.
 pub in_turn_quiet : (p : Programmer) (text out : List ℕ) (transcript : Transcript) → NothingReceived transcript
     → RepliesInTurn p text out transcript
 in_turn_quiet p text out [] quiet = tt
 in_turn_quiet p text out (Sent bytes ∷ transcript) quiet = in_turn_quiet p text (out ++ bytes) transcript quiet
 in_turn_quiet p text out transcript quiet = search rules
 
+-- Two transcripts in turn, one after the other.
 pub in_turn_append : (p : Programmer) (text out : List ℕ) (x y : Transcript) → NoneTaken x → RepliesInTurn p text out x
     → RepliesInTurn p (text ++ bytes_on_tape (heard x)) (out ++ sent x) y → RepliesInTurn p text out (x ++ y)
 in_turn_append p text out [] y none f g = search (rules, append-nil)

@@ -29,6 +29,7 @@ abbrev pub IsFirst : Plan → Transcript → Type 0
 IsFirst plan transcript = InTurn (session plan) start transcript
     × IsBytePrefixOf (sent transcript) (bytes_sent (played (session plan) 1 (heard transcript)).events)
 
+-- The transcript of a session is in turn, if nothing had passed over its link before.
 pub sent_first : (plan : Plan) (old new : Devices) (status : ℕ) → old.link.transcript ≡ []
     → RunsSession plan old new status → IsFirst plan new.link.transcript
 sent_first plan old new status silent runs = elim runs [
@@ -50,6 +51,7 @@ sent_first plan old new status silent runs = elim runs [
       search rules
 ]
   where
+    -- The link's transcript is then that of the session.
     now : (during : Transcript) → Grows old.link.transcript during new.link.transcript → IsFirst plan during
         → IsFirst plan new.link.transcript
     now during grows first = search rules
@@ -62,30 +64,38 @@ module _ (plan : Plan) (w v : WiredState) (fresh : IsFresh w) (stays : Preserves
     (is_sound : IsSoundChip w.wire.programmer.chip)
     (part_is : w.wire.programmer.chip.part ≡ plan.part) (fitted : All (IsFitted plan.part) plan.tasks)
     (old now : DeskState) (status : ℕ) where
+  -- The programmer of the wire, before any command.
   abbrev pub begun : Programmer
   begun = fresh_programmer w.wire.programmer.chip
 
+  -- The exchanges of the wire's fates.
   abbrev pub exchanges : List Exchange
   exchanges = exchanges_of_fates w.wire.fates
 
+  -- Each body that the session sends fits a frame.
   pub asks_bodies : SendsValidBodies (session plan)
   asks_bodies = asks plan begun is_sound part_is fitted
 
+  -- The wire still follows its fates.
   pub keeps : FollowsFates begun w.wire.fates v
   keeps = stays (record { programmer = begun; fates = w.wire.fates }) (fresh_follows w fresh)
 
+  -- The session ran over the wire.
   abbrev pub Runs : Type 0
   Runs = RunsSession plan (devices (wired_link w) old) (devices (wired_link v) now) status
 
+  -- What it sent and received is in turn.
   pub first : Runs → IsFirst plan v.transcript
   first runs = sent_first plan (devices (wired_link w) old) (devices (wired_link v) now) status fresh.silent runs
 
+  -- The programmer is where the exchanges lead it.
   pub stands : Runs → v.wire.programmer
       ≡ (state_after device (length (frames (sent v.transcript))) (session plan) begun exchanges).programmer
   stands runs = search (rules, stands_along, asks_bodies, keeps, first)
 
-  over : Runs → OverExchanges plan begun v.wire.programmer exchanges (sent v.transcript)
-  over runs = over_exchanges plan begun is_sound part_is fitted exchanges v.wire.programmer (sent v.transcript)
+  -- So the session went along the exchanges.
+  went_along : Runs → OverExchanges plan begun v.wire.programmer exchanges (sent v.transcript)
+  went_along runs = over_exchanges plan begun is_sound part_is fitted exchanges v.wire.programmer (sent v.transcript)
       (stands runs) (heard v.transcript) (first runs).1
 
   -- if it ran whole, it has come to its status there, and all its output was done
@@ -96,6 +106,7 @@ module _ (plan : Plan) (w v : WiredState) (fresh : IsFresh w) (stays : Preserves
         ≡ outputs_after device (length (frames (sent v.transcript))) (session plan) begun exchanges
     pub kept : ChangesRecord (after_events (outputs (events_over plan v))) old now
 
+  -- A session that ran whole has come to its status along the exchanges.
   pub whole_comes : RanToStatus (session plan) (devices (wired_link w) old) (devices (wired_link v) now) status
       → ComesWhole
   whole_comes whole =
@@ -108,16 +119,18 @@ module _ (plan : Plan) (w v : WiredState) (fresh : IsFresh w) (stays : Preserves
         kept = whole.1.kept ∙ ap (λ events. after_events (outputs events) old.kept) same;
       }
 
-  came : (whole : RanToStatus (session plan) (devices (wired_link w) old) (devices (wired_link v) now) status)
+  -- What `EndsOverExchanges` states holds of it.
+  ends_whole : (whole : RanToStatus (session plan) (devices (wired_link w) old) (devices (wired_link v) now) status)
       → EndsOverExchanges plan (memories w) (memories v) exchanges (outputs (events_over plan v)) status
       × ChangesRecord (after_events (outputs (events_over plan v))) old now
-  came whole =
+  ends_whole whole =
       let c = whole_comes whole in (
         ends_over_exchanges plan begun is_sound part_is fitted exchanges v.wire.programmer (sent v.transcript)
             (stands (inl whole)) (outputs (events_over plan v)) status c.done c.emitted,
         c.kept,
       )
 
+  -- What `SessionOverWire` states holds of a session over a fresh wire, whatever the fates of its frames.
   pub over_any_line : Runs → SessionOverWire plan w v old now status
-  over_any_line (inl whole) = record { along_exchanges = over (inl whole); end = inl (came whole) }
-  over_any_line (inr broke) = record { along_exchanges = over (inr broke); end = inr broke }
+  over_any_line (inl whole) = record { along_exchanges = went_along (inl whole); end = inl (ends_whole whole) }
+  over_any_line (inr broke) = record { along_exchanges = went_along (inr broke); end = inr broke }

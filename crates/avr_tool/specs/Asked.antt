@@ -1,13 +1,11 @@
 -- What a command line asks for.
-use Rattle.std.specs.Prelude.{◌≡◌, ◌≢◌, ℕ, true, List, [], Result, Ok, Err}
+use Rattle.std.specs.Prelude.{◌≡◌, ℕ, true, List, [], Result, Ok, Err}
 use Rattle.clap.specs.Words.{takes, fault_of, kind_of, HasKind}
-use Rattle.clap.specs.declared.error.Error.{Error}
 use Rattle.clap.specs.declared.error.kind.ErrorKind.TheVariants.{OutOfMemory}
 use Rattle.avr_plan.specs.Command.{avrstk, settings_from_arguments}
 use Rattle.avr_plan.specs.Settings.{GivesUnlessOutOfMemory, ReportsAnyway}
 use Rattle.avr_plan.specs.declared.settings.Settings.{Settings}
 use Rattle.avr_plan.specs.declared.settings.SettingsFault.{SettingsFault}
-use Rattle.avr_plan.specs.declared.settings.SettingsFault.TheVariants.{Memory}
 use Rattle.avr_desk.specs.Record.{DeskState, Bytes}
 use Rattle.avr_desk.specs.OutputEvents.{ReportsLine}
 use Rattle.avr_session.specs.Refusal.{refusal_line}
@@ -38,12 +36,6 @@ GivesSettings words old new (Ok settings) = (Ok settings ≡ settings_from_argum
 GivesSettings words old new (Err (Refused status)) = IsRefused words old new status
 GivesSettings words old new (Err (Words error)) =
     HasKind (fault_of avrstk words) error × (takes avrstk words ≡ true → kind_of error ≡ OutOfMemory) × (new ≡ old)
-
--- An error of `clap`: a failed allocation was reported, any other error is returned.
-abbrev pub ReportsOnlyAllocation : Error → DeskState → DeskState → Result ℕ Error → Type 0
-ReportsOnlyAllocation error old new (Ok status) =
-    (kind_of error ≡ OutOfMemory) × ReportsLine old new (refusal_line Memory) × (status ≡ 1)
-ReportsOnlyAllocation error old new (Err left) = (kind_of error ≢ OutOfMemory) × (left ≡ error) × (new ≡ old)
 
 -- The number of a reason why there are no settings.
 abbrev pub not_asked_number : NotAsked → ℕ

@@ -28,24 +28,17 @@ steps_completed m [] k p exchanges = 0
 steps_completed m (commands ∷ steps) k p exchanges = let s = state_after m k (step commands) p exchanges in
     step_count s.dialog (steps_completed m steps s.left s.programmer s.exchanges)
 
--- None was completed.
-abbrev pub none_completed : Count Programmer
-none_completed k p exchanges = 0
-
--- An action's write operations are those of its items; opening, comparing and saving have none.
-abbrev pub action_completed : Part → Action → Count Programmer
-action_completed part action = steps_completed device (steps_of_items part (action_items action))
-
 -- The count of the actions that follow. After a fault none follow.
 abbrev pub completed_unless_fault : Count Programmer → Standing → Count Programmer
 completed_unless_fault next NoFault = next
-completed_unless_fault next _ = none_completed
+completed_unless_fault next _ = λ k p exchanges. 0
 
--- The number of write operations of these actions that were completed.
+-- The number of write operations of these actions that were completed. An action's write operations are those of its
+-- items; opening, comparing and saving have none.
 abbrev pub actions_completed : Part → Switches → List Action → Count Programmer
-actions_completed part s [] = none_completed
+actions_completed part s [] = λ k p exchanges. 0
 actions_completed part s (action ∷ actions) =
-    then_count device (action_dialog part s action) (action_completed part action)
+    then_count device (action_dialog part s action) (steps_completed device (steps_of_items part (action_items action)))
     (completed_unless_fault (actions_completed part s actions))
 
 -- The number of the plan's write operations completed after `k` commands. The end of a session has none.

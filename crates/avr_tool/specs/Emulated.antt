@@ -22,18 +22,16 @@ use Rattle.ghosts.specs.Preserves.{Preserves}
 use Rattle.stk_host.specs.Transcript.{sent}
 use Rattle.stk_emu.specs.Programmer.{fresh_programmer}
 use Rattle.stk_emu.specs.Wire.{fresh_wire}
-use Rattle.stk_emu.specs.Wired.{WiredState, ComesOf}
+use Rattle.stk_emu.specs.Wired.{WiredState, ComesOf, wired_link}
 use Rattle.stk_emu.specs.declared.fate.Fate.{Fate}
+use Rattle.avr_session.specs.Runs.{devices}
 use Rattle.avr_session.specs.Run.{LacksPlan, RunsSession, WithPlan}
-use Rattle.avr_tool.specs.OverFaultyLink.{SessionOverWire, wire_and_desk}
+use Rattle.avr_tool.specs.OverFaultyLink.{SessionOverWire}
 
 -- whether the task reads a memory into the file of this name
 abbrev pub reads_into : Bytes → Task → Bool
 reads_into file (Read memory format into) = bytes_eq into file
 reads_into file task = false
-
-abbrev pub any_reads_into : Bytes → List Task → Bool
-any_reads_into file = list_any (reads_into file)
 
 -- The name of a file to read into was checked, and nothing was done. Or the desk failed at the name: the held file was
 -- unlocked, this was reported, and the status is 1.
@@ -46,16 +44,16 @@ ChecksRead into old new (Err status) =
 abbrev pub ChecksReads : List Task → DeskState → DeskState → Result ⊤ ℕ → Type 0
 ChecksReads tasks old new (Ok done) = new ≡ old
 ChecksReads tasks old new (Err status) =
-    (into : Bytes) × (any_reads_into into tasks ≡ true) × ChecksRead into old new (Err status)
+    (into : Bytes) × (list_any (reads_into into) tasks ≡ true) × ChecksRead into old new (Err status)
 
 -- No task reads a memory into the chip's file, which was locked, and the chip was loaded. Or a task does, and this was
 -- reported. Or the file could not be locked, or its chip or a read was refused.
 abbrev pub TakesChip : Plan → Bytes → DeskState → DeskState → Result Chip ℕ → Type 0
 TakesChip plan file old new (Ok chip) =
-    (any_reads_into file plan.tasks ≡ false) × LoadsLocked plan.part file old new (Ok chip)
+    (list_any (reads_into file) plan.tasks ≡ false) × LoadsLocked plan.part file old new (Ok chip)
 TakesChip plan file old new (Err status) =
-    ((any_reads_into file plan.tasks ≡ true) × (status ≡ 1) × ReportsLine old new (error (not_created_pieces file)))
-    ⊎ ((any_reads_into file plan.tasks ≡ false)
+    ((list_any (reads_into file) plan.tasks ≡ true) × (status ≡ 1)
+    × ReportsLine old new (error (not_created_pieces file))) ⊎ ((list_any (reads_into file) plan.tasks ≡ false)
     × (LocksAndLoads plan.part file old new (Err status)
     ⊎ WithChip plan.part file old (λ chip desk. ChecksReads plan.tasks desk new (Err status))))
 
@@ -85,12 +83,12 @@ pub record RunsOverEmulator (settings : Settings) (file : Bytes) (old now : Desk
   pub played_desk : DeskState
   pub made : StageCompleted (planned settings) old planned_desk (Produced plan)
   pub fitted : All (IsFitted plan.part) plan.tasks
-  pub apart : any_reads_into file plan.tasks ≡ false
+  pub apart : list_any (reads_into file) plan.tasks ≡ false
   pub loaded : LoadsLocked plan.part file planned_desk loaded_desk (Ok chip)
   pub part : chip.part ≡ plan.part
   pub sound : IsSoundChip chip
-  pub runs : RunsSession plan (wire_and_desk (new_wire chip []) loaded_desk)
-      (wire_and_desk after played_desk) session_status
+  pub runs : RunsSession plan (devices (wired_link (new_wire chip [])) loaded_desk)
+      (devices (wired_link after) played_desk) session_status
   pub comes : Preserves ComesOf (new_wire chip []) after
   pub session : SessionOverWire plan (new_wire chip []) after loaded_desk played_desk session_status
   pub saved : IsSavedIfSent (sent after.transcript) played_desk now file

@@ -1,6 +1,6 @@
 -- The output of a session, whatever the link does: that of the expected run, or that of the actions that ended and
 -- then the line of a failed step.
-use Rattle.std.specs.Prelude.{ℕ, ◌≡◌, ◌⊎◌, List, [], ◌∷◌, ◌++◌}
+use Rattle.std.specs.Prelude.{◌≡◌, ◌⊎◌, List, [], ◌∷◌, ◌++◌}
 use Rattle.avr_plan.specs.declared.settings.Switches.{Switches}
 use Rattle.avr_desk.specs.OutputEvents.{OutputEvent, PrintsLine}
 use Rattle.avr_part.specs.Part.{Part}
@@ -8,7 +8,6 @@ use Rattle.avr_plan.specs.Plan.{Plan}
 use Rattle.stk_host.specs.Operations.{host_fault}
 use Rattle.stk_host.specs.declared.fault.StepFault.{StepFault}
 use Rattle.stk_emu.specs.Effect.{Memories}
-use Rattle.avr_session.specs.Standing.{NoFault}
 use Rattle.avr_session.specs.Actions.{Action, actions}
 use Rattle.avr_session.specs.Lines.{fault_line}
 use Rattle.avr_tool.specs.ExpectedRun.{actions_expected, expected_run}
@@ -19,7 +18,7 @@ pub record FirstActionsOutput (part : Part) (s : Switches) (actions : List Actio
   pub done : List Action
   pub more : List Action
   pub actions_are : actions ≡ done ++ more
-  pub fine : (actions_expected part s done m).standing ≡ NoFault
+  pub fine : (actions_expected part s done m).status ≡ 0
   pub output_events_are : output_events ≡ (actions_expected part s done m).output_events
 
 -- After this output the line of a failed step follows: of the next action, or of the closing after all of them.
@@ -35,9 +34,3 @@ abbrev pub IsExpectedOutput : Plan → Memories → List OutputEvent → Type 0
 IsExpectedOutput plan m output_events = (output_events ≡ (expected_run plan m).output_events)
     ⊎ (FirstActionsOutput plan.part plan.switches (actions plan) m output_events
     ⊎ OutputToFault plan.part plan.switches (actions plan) m output_events)
-
--- The output and the status of a session at its end: those of the expected run, or status 1 after a failed step.
-abbrev pub EndsAsExpected : Plan → Memories → List OutputEvent → ℕ → Type 0
-EndsAsExpected plan m output_events status =
-    ((output_events ≡ (expected_run plan m).output_events) × (status ≡ (expected_run plan m).status))
-    ⊎ (OutputToFault plan.part plan.switches (actions plan) m output_events × (status ≡ 1))

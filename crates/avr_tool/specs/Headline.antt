@@ -20,8 +20,8 @@ use Rattle.avr_session.specs.Actions.{actions}
 use Rattle.avr_session.specs.AllocationPoints.{AtAllocation}
 use Rattle.avr_session.specs.Runs.{Devices, devices, start, Cause, AllocationFailed, NoDeviceFailed, StopsAt, cause_line}
 use Rattle.avr_session.specs.Session.{session}
-use Rattle.avr_tool.specs.OverFaultyLink.{SessionOverWire, wire_and_desk}
-use Rattle.stk_emu.specs.Wired.{WiredState}
+use Rattle.avr_tool.specs.OverFaultyLink.{SessionOverWire}
+use Rattle.stk_emu.specs.Wired.{WiredState, wired_link}
 use Rattle.stk_host.specs.Dialog.{Event, Emitted, Played, played, prepend_events, bytes_sent, outputs}
 use Rattle.stk_host.specs.Play.{InTurn, IsPrefixOfEvents}
 use Rattle.stk_host.specs.Transcript.{Transcript, sent, heard, Grows}
@@ -70,11 +70,6 @@ pub record IsRun (settings : Settings) (before now : Devices) (status : ℕ) : T
 -- at an action that allocates. The line of the reason is cut short only if a write to the messages failed; a failure
 -- at a file excuses no missing line. After a fault's line there is none.
 
--- It stopped in its session: a prefix of the session was sent and output, and then the cause was reported.
-abbrev pub StoppedInSession : Settings → Devices → Devices → Type 0
-StoppedInSession settings before now =
-    WithPlan settings before.desk (λ plan between. StopsSession plan (devices before.link between) now)
-
 -- It stopped in planning: a prefix of planning's output was done, and nothing was sent or received. Allocation failed
 -- only for the next file, or at an update that allocates without a file. Without a part file and updates the only fault
 -- is an unknown part, which was reported.
@@ -83,10 +78,12 @@ pub record StoppedPlanning (settings : Settings) (before now : Devices) : Type 0
   pub bare : settings.parts ≡ None → settings.updates ≡ [] → LacksPart settings.part [] before.desk now.desk
   pub same : now.link ≡ before.link
 
--- The run stopped, in its session or in planning, and its status is 1.
+-- The run stopped, and its status is 1. It stopped in its session: a prefix of the session was sent and output, and
+-- then the cause was reported. Or it stopped in planning.
 abbrev pub IsStopped : Settings → Devices → Devices → ℕ → Type 0
 IsStopped settings before now status =
-    (StoppedInSession settings before now ⊎ StoppedPlanning settings before now) × (status ≡ 1)
+    (WithPlan settings before.desk (λ plan between. StopsSession plan (devices before.link between) now)
+    ⊎ StoppedPlanning settings before now) × (status ≡ 1)
 
 -- Why a run stopped: a cause in the session, or a break in planning.
 pub data Reason : Type 0 where
@@ -159,6 +156,6 @@ pub record IsPrefixOfRun (settings : Settings) (before now : Devices) : Type 0 w
 -- is no plan, and the wire is untouched.
 abbrev pub RunsWired : Settings → WiredState → WiredState → DeskState → DeskState → ℕ → Type 0
 RunsWired settings before after old now status = WithPlan settings old (λ plan between.
-    RunsSession plan (wire_and_desk before between) (wire_and_desk after now) status
+    RunsSession plan (devices (wired_link before) between) (devices (wired_link after) now) status
     × (before.wire.programmer.chip.part ≡ plan.part → SessionOverWire plan before after between now status))
     ⊎ (LacksPlan settings old now status × (after ≡ before))

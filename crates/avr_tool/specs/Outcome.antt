@@ -25,11 +25,10 @@ pub record HasFirstOperations (plan : Plan) (before after : Memories) : Type 0 w
 -- have come. Without a frame none was made.
 pub record MakesWriteOperations (plan : Plan) (p : Programmer) (exchanges : List Exchange) (frames : ℕ)
     (before after : Memories) : Type 0 where
-  pub count : ℕ
-  pub at_least : operations_completed plan frames p exchanges ≤ count
-  pub at_most : count ≤ suc (operations_completed plan (frames - 1) p exchanges)
-  pub none : frames ≡ 0 → count ≡ 0
-  pub memories : after ≡ effects plan.part (take count (write_operations plan)) before
+  pub made : HasFirstOperations plan before after
+  pub at_least : operations_completed plan frames p exchanges ≤ made.count
+  pub at_most : made.count ≤ suc (operations_completed plan (frames - 1) p exchanges)
+  pub none : frames ≡ 0 → made.count ≡ 0
 
 -- After status 0: all that the plan writes was written, and all that it compares agreed.
 pub record IsDone (plan : Plan) (before after : Memories) : Type 0 where

@@ -1,7 +1,7 @@
 -- What the session of a plan did over a link, whatever the link loses, delays and corrupts. It is stated first by the
 -- exchanges of its frames, then over a wire to the emulated programmer, by their fates.
 use Rattle.std.specs.List.{AllByRecursion}
-use Rattle.std.specs.Prelude.{ℕ, ◌+◌, ◌*◌, ◌≡◌, ◌≤◌, ◌⊎◌, false, List, [], ◌∷◌, ◌++◌, map, length}
+use Rattle.std.specs.Prelude.{ℕ, ◌*◌, ◌≡◌, ◌≤◌, ◌⊎◌, false, List, map, flat_map, sum_by, length}
 use Rattle.avr_plan.specs.declared.settings.Switches.{Switches}
 use Rattle.avr_desk.specs.Record.{DeskState, ChangesRecord}
 use Rattle.avr_desk.specs.OutputEvents.{OutputEvent, after_events}
@@ -9,7 +9,7 @@ use Rattle.avr_part.specs.declared.part.Mem.{Mem}
 use Rattle.avr_plan.specs.Plan.{Plan}
 use Rattle.avr_session.specs.PlanSteps.{run_steps}
 use Rattle.avr_session.specs.Run.{StopsSession}
-use Rattle.avr_session.specs.Runs.{Devices, devices}
+use Rattle.avr_session.specs.Runs.{devices}
 use Rattle.avr_session.specs.Session.{session}
 use Rattle.stk_emu.specs.Effect.{Memories, memories_of}
 use Rattle.stk_emu.specs.Programmer.{Programmer, fresh_programmer}
@@ -18,27 +18,12 @@ use Rattle.stk_emu.specs.Wire.{exchanges_of_fates}
 use Rattle.stk_emu.specs.Wired.{WiredState, wired_link}
 use Rattle.stk_frame.specs.Commands.{body}
 use Rattle.stk_frame.specs.Cut.{body_of, frames}
-use Rattle.stk_frame.specs.declared.command.Command.{Command}
 use Rattle.stk_host.specs.Dialog.{Event, played, outputs}
 use Rattle.stk_host.specs.Transcript.{sent, heard}
 use Rattle.avr_tool.specs.ExpectedRun.{expected_run}
 use Rattle.avr_tool.specs.Items.{asked_items}
 use Rattle.avr_tool.specs.Outcome.{IsExpectedRun, IsDone, MakesWriteOperations}
 use Rattle.avr_tool.specs.Written.{IsWritten, comparing}
-
--- A weight of bodies. Weight 1 counts frames, the body's length counts bytes, and 1 or 0 counts one command.
-abbrev pub Weight : Type 0
-Weight = List ℕ → ℕ
-
--- The weight of all bodies together.
-abbrev pub total_weight : Weight → List (List ℕ) → ℕ
-total_weight weight [] = 0
-total_weight weight (first ∷ bodies) = weight first + total_weight weight bodies
-
--- The bodies of all commands of these steps.
-abbrev pub bodies_in : List (List Command) → List (List ℕ)
-bodies_in [] = []
-bodies_in (commands ∷ steps) = map body commands ++ bodies_in steps
 
 -- No frame goes wrong.
 abbrev pub AllArriveRight : List Exchange → Type 0
@@ -50,9 +35,10 @@ pub record OverExchanges (plan : Plan) (p q : Programmer) (exchanges : List Exch
   -- the first write operations of the plan were made: those completed, and perhaps one more
   pub write_operations : MakesWriteOperations plan p exchanges (length (frames bytes)) (memories_of p.chip)
       (memories_of q.chip)
-  -- at most four frames for each command of the plan's steps, by every weight of bodies
-  pub four : (weight : Weight) → total_weight weight (map body_of (frames bytes))
-      ≤ 4 * total_weight weight (bodies_in (run_steps plan))
+  -- At most four frames for each command of the plan's steps, by every weight of bodies. Weight 1 counts frames, the
+  -- body's length counts bytes, and 1 or 0 counts one command.
+  pub four : (weight : List ℕ → ℕ) → sum_by weight (map body_of (frames bytes))
+      ≤ 4 * sum_by weight (flat_map (map body) (run_steps plan))
 
 -- What also holds of a session that ended with this status. The expected run is the output, the status and the memories
 -- of the same plan over a perfect link.
@@ -79,10 +65,6 @@ memories w = memories_of w.wire.programmer.chip
 abbrev pub events_over : Plan → WiredState → List (Event OutputEvent)
 events_over plan w = (played (session plan) 1 (heard w.transcript)).events
 
--- The devices of a run over a wire.
-abbrev pub wire_and_desk : WiredState → DeskState → Devices
-wire_and_desk w desk = devices (wired_link w) desk
-
 -- What a session of this plan did between these states of a wire, whatever the fates of its frames. It ran to its
 -- status, and all its output was done at the desk; or it stopped with status 1.
 pub record SessionOverWire (plan : Plan) (before after : WiredState) (old now : DeskState) (status : ℕ) : Type 0 where
@@ -90,4 +72,4 @@ pub record SessionOverWire (plan : Plan) (before after : WiredState) (old now : 
       (exchanges_of_fates before.wire.fates) (sent after.transcript)
   pub end : (EndsOverExchanges plan (memories before) (memories after) (exchanges_of_fates before.wire.fates)
       (outputs (events_over plan after)) status × ChangesRecord (after_events (outputs (events_over plan after))) old
-      now) ⊎ (StopsSession plan (wire_and_desk before old) (wire_and_desk after now) × (status ≡ 1))
+      now) ⊎ (StopsSession plan (devices (wired_link before) old) (devices (wired_link after) now) × (status ≡ 1))

@@ -8,7 +8,7 @@ use Rattle.avr_desk.specs.declared.record.FileUse.{FileUse}
 use Rattle.avr_desk.specs.declared.record.FileUse.TheVariants.{Opened, Created}
 use Rattle.avr_desk.specs.declared.record.Open.{Open}
 use Rattle.avr_desk.specs.declared.record.Open.TheVariants.{Closed, ToRead, ToWrite}
-use Rattle.avr_desk.specs.declared.record.Opening.TheVariants.{Absent, Found}
+use Rattle.avr_desk.specs.declared.record.Opening.TheVariants.{Found}
 use Rattle.avr_tool.specs.Noted.{Noted}
 
 -- `is_open`: the last use of a file is the open file; otherwise none is open. `is_broken`: a replacement failed, and the
@@ -21,15 +21,11 @@ pub record UnlockedState (D : Type 0) : Type 0 where
   pub refused : ℕ
 
 -- the finished uses and the open file, if the last use left its file open
-abbrev pub reopened_last : FileUse → List FileUse × Open
-reopened_last (Opened (Absent name)) = (Opened (Absent name) ∷ [], Closed)
-reopened_last (Opened (Found reading)) = ([], ToRead reading)
-reopened_last (Created writing) = ([], ToWrite writing)
-
 abbrev pub reopened : List FileUse → List FileUse × Open
-reopened [] = ([], Closed)
-reopened (used ∷ []) = reopened_last used
 reopened (used ∷ next ∷ uses) = (used ∷ (reopened (next ∷ uses)).0, (reopened (next ∷ uses)).1)
+reopened (Opened (Found reading) ∷ []) = ([], ToRead reading)
+reopened (Created writing ∷ []) = ([], ToWrite writing)
+reopened uses = (uses, Closed)
 
 -- the uses of files that count: all of the inner desk, without the file that a failed replacement left
 abbrev pub uses_shown : Bool → Record → List FileUse

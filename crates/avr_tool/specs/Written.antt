@@ -21,10 +21,6 @@ written_to part mem (Write other image ∷ items) =
     if bytes_eq (name_of other) (name_of mem) then over image (written_to part mem items)
     else written_to part mem items
 
--- The byte of a memory at an address.
-abbrev pub byte_in : Part → Mem → ℕ → Memories → ℕ
-byte_in part mem addr m = slice_index (memory_in part mem m) addr
-
 -- After these items each memory has its size, and holds the images written to it. The rest of flash is FF if the chip
 -- was erased, and so is the rest of EEPROM unless its fuse keeps it; otherwise both are as before. A fuse that wasn't
 -- written is as before, and a lock that wasn't written is open after an erase.

@@ -11,10 +11,10 @@ ghost use Rattle.avr_plan.specs.Plan.{Plan, IsFitted};
 ghost use Rattle.avr_plan.specs.Planning.{planned};
 ghost use Rattle.avr_session.specs.Run.{RunsSession, RunsSettings, StopsSession};
 ghost use Rattle.avr_session.specs.Runs.{Devices, devices};
-ghost use Rattle.avr_tool.specs.OverFaultyLink.{SessionOverWire, wire_and_desk};
+ghost use Rattle.avr_tool.specs.OverFaultyLink.{SessionOverWire};
 ghost use Rattle.avr_tool.specs.Headline.{IsRun, IsStopped, IsPrefixOfRun};
 ghost use Rattle.ghosts.specs.Preserves.{Preserves};
-ghost use Rattle.stk_emu.specs.Wired.{WiredState, ComesOf, IsFresh};
+ghost use Rattle.stk_emu.specs.Wired.{WiredState, ComesOf, IsFresh, wired_link};
 ghost use Rattle.stk_host.specs.Transcript.{heard};
 
 /// States that what a run does is one function, `run`, of its settings, files and replies, unless it stopped. The same
@@ -48,6 +48,6 @@ pub fn a_session_over_a_wire()
         → IsFresh before → Preserves ComesOf before now
         → IsSoundChip before.wire.programmer.chip → before.wire.programmer.chip.part ≡ plan.part
         → All (IsFitted plan.part) plan.tasks
-        → RunsSession plan (wire_and_desk before desk) (wire_and_desk now desk_now) status
+        → RunsSession plan (devices (wired_link before) desk) (devices (wired_link now) desk_now) status
         → SessionOverWire plan before now desk desk_now status }
 {}

@@ -1,4 +1,5 @@
 ghost use Rattle.std.specs.Prelude.{◌≡◌, IfOk};
+ghost use Rattle.std.specs.List.{list_any};
 ghost use Rattle.avr_desk.specs.Fault.{CountsNeverFall};
 ghost use Rattle.avr_tool.specs.OverFaultyLink.{SessionOverWire};
 ghost use Rattle.avr_session.specs.Run.{RunsSession};
@@ -7,7 +8,7 @@ ghost use Rattle.stk_emu.specs.Wired.{ComesOf, IsFresh, wired_link};
 ghost use Rattle.ghosts.specs.Preserves.{Preserves};
 ghost use Rattle.stk_host.specs.Transcript.{sent};
 ghost use Rattle.avr_part.specs.ChipFile.{chip_file};
-ghost use Rattle.avr_tool.specs.Emulated.{IsSavedIfSent, ChecksRead, ChecksReads, RunsEmulator, TakesChip, any_reads_into, reads_into};
+ghost use Rattle.avr_tool.specs.Emulated.{IsSavedIfSent, ChecksRead, ChecksReads, RunsEmulator, TakesChip, reads_into};
 ghost use Rattle.avr_plan.specs.declared.settings.Port.{Port};
 ghost use Rattle.avr_tool.specs.Ports.{chip_file_of};
 
@@ -58,7 +59,7 @@ fn reads_into(task: &Task, file: &str) -> bool
 
 /// Returns whether one of the tasks does.
 fn any_reads_into(tasks: &[Task], file: &str) -> bool
-    ensures { result ≡ any_reads_into file.now tasks.now }
+    ensures { result ≡ list_any (reads_into file.now) tasks.now }
 {
     tasks.iter().any(|task| reads_into(task, file))
 }

@@ -1,7 +1,6 @@
 //! The program: from a command line to a status.
 ghost use Rattle.std.specs.Prelude.{◌≡◌, map, string_bytes};
 ghost use Rattle.clap.specs.Words.{kind_of};
-ghost use Rattle.avr_tool.specs.Asked.{ReportsOnlyAllocation};
 ghost use Rattle.avr_tool.specs.Program.{ActsAtPort, RunsProgram, ActsOnCommandLine, StartsProgram, usage_status, usage_stream};
 ghost use Rattle.avr_desk.specs.Shown.{IsTrueSince as IsTrueDesk, RecordsAll, system_desk_view};
 ghost use Rattle.avr_session.specs.Runs.{devices};
@@ -16,7 +15,7 @@ use crate::over_net::run_net;
 use crate::running::run;
 use crate::serving::serve_net;
 use crate::texts::{print_text, refuse_text};
-use avr_desk::{ChipDesk, Desk, DeskFault, FileSystem, Stream, SystemDesk};
+use avr_desk::{ChipDesk, DeskFault, FileSystem, Stream, SystemDesk};
 use avr_plan::{Port, Settings, SettingsFault};
 use avr_session::refuse;
 use clap::Error;
@@ -54,17 +53,6 @@ fn run_port<N: Network, D: ChipDesk, R: Inlet + Drop, W: Write + Drop>(
         Port::Network(_) => run_net(network, alloc, settings, desk),
         Port::Served { .. } => serve_net(network, alloc, settings, desk),
     }
-}
-
-/// Reports that allocation failed in `clap`, and returns any other error as it is.
-fn report_allocation_only<D: Desk>(error: Error, desk: &mut D) -> Result<u8, Error>
-    ensures leaves { ReportsOnlyAllocation error (D.view desk.old) (D.view desk.new) result }
-    ensures stays { Preserves D.started_as desk.old desk.new }
-{
-    if error.kind() == ErrorKind::OutOfMemory {
-        return Ok(refuse(&SettingsFault::Memory, desk));
-    }
-    Err(error)
 }
 
 /// Runs what a command line asks for. Its first element is the program's name, and `link` is the port `stdio:`.
@@ -109,7 +97,10 @@ pub fn run_words<N: Network, D: ChipDesk, R: Inlet + Drop, W: Write + Drop>(
         }
         Err(NotAsked::Words(error)) => {
             network.leave();
-            report_allocation_only(error, desk)
+            if error.kind() == ErrorKind::OutOfMemory {
+                return Ok(refuse(&SettingsFault::Memory, desk));
+            }
+            Err(error)
         }
     }
 }

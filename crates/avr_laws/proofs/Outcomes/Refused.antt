@@ -1,5 +1,5 @@
 -- Outcomes that no run over a wire has.
-use Rattle.std.proofs.Common.{◌≡◌, ◌<◌, ◌*◌, ℕ, List, [], ◌++◌, map, ap, sym, ◌∙◌, subst, refl, Option, Some, rules}
+use Rattle.std.proofs.Common.{◌≡◌, ◌<◌, ◌*◌, ℕ, List, [], ◌++◌, flat_map, map, sum_by, ap, sym, ◌∙◌, subst, refl, Option, Some, rules}
 use Rattle.avr_desk.specs.Record.{DeskState, ChangesRecord}
 use Rattle.avr_desk.specs.declared.record.Opening.{Opening}
 use Rattle.avr_desk.specs.OutputEvents.{after_events}
@@ -7,6 +7,7 @@ use Rattle.avr_plan.specs.Plan.{Plan}
 use Rattle.avr_session.specs.Runs.{devices}
 use Rattle.avr_session.specs.Session.{session}
 use Rattle.avr_session.specs.Stopping.{link_state}
+use Rattle.stk_frame.specs.Commands.{body}
 use Rattle.stk_frame.specs.Cut.{body_of, frames}
 use Rattle.stk_host.specs.Dialog.{bytes_sent, outputs}
 use Rattle.stk_host.specs.Operations.{handshake, opening, closing, operation}
@@ -15,7 +16,7 @@ use Rattle.stk_host.specs.Transcript.{Transcript, sent, heard}
 use Rattle.stk_host.specs.Tape.{answer, on_tape}
 use Rattle.stk_emu.specs.Effect.{effects}
 use Rattle.stk_emu.specs.Wired.{WiredState}
-use Rattle.avr_tool.specs.OverFaultyLink.{SessionOverWire, Weight, total_weight, bodies_in, memories}
+use Rattle.avr_tool.specs.OverFaultyLink.{SessionOverWire, memories}
 use Rattle.avr_session.specs.PlanSteps.{run_steps}
 use Rattle.avr_tool.specs.ExpectedRun.{expected_run}
 use Rattle.avr_tool.specs.Items.{items}
@@ -28,8 +29,8 @@ some_is : {A : Type 0} (a b : A) → ◌≡◌ {A = Option A} (Some a) (Some b) 
 some_is a b e = cc
 
 -- a run that sends more than four times its commands
-pub too_much : (plan : Plan) (w v : WiredState) (d e : DeskState) (status : ℕ) (weight : Weight)
-    → 4 * total_weight weight (bodies_in (run_steps plan)) < total_weight weight
+pub too_much : (plan : Plan) (w v : WiredState) (d e : DeskState) (status : ℕ) (weight : List ℕ → ℕ)
+    → 4 * sum_by weight (flat_map (map body) (run_steps plan)) < sum_by weight
     (map body_of (frames (sent v.transcript))) → SessionOverWire plan w v d e status → ⊥
 too_much plan w v d e status weight more over = search rules
 

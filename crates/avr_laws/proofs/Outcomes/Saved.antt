@@ -1,5 +1,5 @@
 -- With status 0 each file that a memory was read into has the text of what the chip held then.
-use Rattle.std.proofs.Common.{◌≡◌, ◌∙◌, sym, ap, subst, ℕ, Bool, true, false, List, [], ◌∷◌, ◌++◌, append_assoc, append-nil, refl, Result, if◌then◌else◌, rules, arith}
+use Rattle.std.proofs.Common.{◌≡◌, ◌∙◌, sym, ap, subst, ℕ, zero, suc, Bool, true, false, List, [], ◌∷◌, ◌++◌, append_assoc, append-nil, refl, Result, if◌then◌else◌, rules, arith}
 use Rattle.std.specs.Prelude.{codes, not}
 use Rattle.std.proofs.lemmas.Bool.{cases_Bool}
 use Rattle.std.proofs.lemmas.List.Elements.{filter-append}
@@ -17,12 +17,11 @@ use Rattle.avr_part.specs.Part.{Part}
 use Rattle.avr_plan.specs.Plan.{Plan}
 use Rattle.avr_session.specs.Actions.{SkippedErase, Action, OpenSession, CompareImage, SaveMemory, SkipAction, actions}
 use Rattle.avr_session.specs.Lines.{informs, warns}
-use Rattle.avr_session.specs.Session.{fault_line_or, saving_output, status_of}
-use Rattle.avr_session.specs.Standing.{Standing, NoFault}
+use Rattle.avr_session.specs.Session.{fault_line_or, saving_output}
 use Rattle.stk_host.specs.declared.fault.HostFault.{HostFault}
 use Rattle.stk_emu.specs.Effect.{Memories, effects}
 use Rattle.stk_host.specs.Dialog.{Event, Frame, Emitted, outputs}
-use Rattle.avr_tool.specs.ExpectedRun.{Expected, action_expected, actions_expected, ending_output, expected_run, then_from}
+use Rattle.avr_tool.specs.ExpectedRun.{Expected, action_expected, actions_expected, ending_output, expected_run, next_unless_fault}
 use Rattle.avr_tool.specs.Items.{action_items}
 use Rattle.avr_laws.specs.Kept.{FilesAreSaved, named_files, dash_output, saved_files}
 use Rattle.avr_laws.proofs.Outcomes.ByTasks.{action_files, actions_files, files_by_tasks}
@@ -193,41 +192,37 @@ module _ (part : Part) (s : Switches) where
   action_leaves action m = search rules
 
   -- one action, and then the others
-  actions_in_turn : (first : Expected) (standing : Standing) (next : Memories → Expected) (fs gs : List Writing)
-      → first.standing ≡ standing → WritesFiles first.output_events fs
-      → ((next first.memories).standing ≡ NoFault → WritesFiles (next first.memories).output_events gs)
-      → (then_from first standing next).standing ≡ NoFault → WritesFiles (then_from first standing next).output_events
-      (fs ++ gs)
-  actions_in_turn first standing next fs gs is one more fine = search (rules, both_write)
+  actions_in_turn : (first : Expected) (status : ℕ) (next : Memories → Expected) (fs gs : List Writing)
+      → first.status ≡ status → WritesFiles first.output_events fs
+      → ((next first.memories).status ≡ 0 → WritesFiles (next first.memories).output_events gs)
+      → (next_unless_fault first status next).status ≡ 0
+      → WritesFiles (next_unless_fault first status next).output_events (fs ++ gs)
+  actions_in_turn first zero next fs gs is one more fine = search (rules, both_write)
+  actions_in_turn first (suc fault) next fs gs is one more fine = absurd (omega (arith, is, fine))
 
   -- so do all actions, if there is no fault
-  actions_write : (all : List Action) (m : Memories) → (actions_expected part s all m).standing ≡ NoFault
+  actions_write : (all : List Action) (m : Memories) → (actions_expected part s all m).status ≡ 0
       → WritesFiles (actions_expected part s all m).output_events (actions_files part s all m)
   actions_write [] m fine = none_written
   actions_write (action ∷ all) m fine =
       let first = action_expected part s action m in
-      actions_in_turn first first.standing (actions_expected part s all) (action_files part s action m)
+      actions_in_turn first first.status (actions_expected part s all) (action_files part s action m)
       (actions_files part s all (effects part (action_items action) m)) refl (action_writes action m)
-      (subst (λ (n : Memories). (actions_expected part s all n).standing ≡ NoFault
+      (subst (λ (n : Memories). (actions_expected part s all n).status ≡ 0
       → WritesFiles (actions_expected part s all n).output_events
       (actions_files part s all (effects part (action_items action) m))) (sym (action_leaves action m))
       (actions_write all (effects part (action_items action) m))) fine
 
--- status 0 means no fault
-fine_by : (standing : Standing) → status_of standing ≡ 0 → standing ≡ NoFault
-fine_by standing is = search rules
-
 -- so the expected run writes the plan's files
 pub expected_writes : (plan : Plan) (m : Memories) → (expected_run plan m).status ≡ 0
     → WritesFiles (expected_run plan m).output_events (saved_files plan m)
-expected_writes plan m zero =
+expected_writes plan m fine =
     let working = actions_expected plan.part plan.switches (actions plan) m in
-    let fine : working.standing ≡ NoFault = fine_by working.standing zero in
     let files = actions_files plan.part plan.switches (actions plan) m in
     subst (λ (files : List Writing). WritesFiles (expected_run plan m).output_events files)
-    (append-nil files ∙ files_by_tasks plan m) (both_write working.output_events (ending_output plan working.standing)
+    (append-nil files ∙ files_by_tasks plan m) (both_write working.output_events (ending_output plan working.status)
     files [] (actions_write plan.part plan.switches (actions plan) m fine)
-    (subst (λ (standing : Standing). WritesFiles (ending_output plan standing) []) (sym fine)
+    (subst (λ (status : ℕ). WritesFiles (ending_output plan status) []) (sym fine)
     (informing_writes plan.switches.quiet (codes "done" ∷ []))))
 
 -- ---- a whole run

@@ -128,7 +128,4 @@ module _ (plan : Plan) (first second : Transcript) (old now : Record) (p q : Pro
     pub emulated_as_one : AsOne plan p.chip.part (memories_of p.chip) after
     emulated_as_one = as_one plan p.chip.part sound.part fits fitted (memories_of p.chip) (memories_of q.chip) after
         (its_sizes its_plan p sound refl its_tasks) keeping old now there
-        (subst (HasFirstOperations its_plan (memories_of p.chip)) (sym left) (record {
-          count = ended.leaves.write_operations.count;
-          memories = ended.leaves.write_operations.memories;
-        }))
+        (subst (HasFirstOperations its_plan (memories_of p.chip)) (sym left) ended.leaves.write_operations.made)

@@ -1,5 +1,5 @@
 -- The output of a session is that of its expected run, up to the first action that doesn't complete.
-use Rattle.std.proofs.Common.{◌≡◌, ℕ, List, [], ◌∷◌, ◌++◌, append_assoc, refl, sym, ap, ◌∙◌, All, Option, Some, None, rules}
+use Rattle.std.proofs.Common.{◌≡◌, ℕ, zero, suc, List, [], ◌∷◌, ◌++◌, append_assoc, refl, sym, ap, ◌∙◌, All, Option, Some, None, rules}
 use Rattle.std.specs.Prelude.{⊤}
 use Rattle.avr_plan.specs.declared.settings.Switches.{Switches}
 use Rattle.avr_desk.specs.OutputEvents.{OutputEvent}
@@ -7,7 +7,6 @@ use Rattle.avr_part.specs.Part.{Part, IsPart}
 use Rattle.avr_plan.specs.Plan.{Plan, IsFitted}
 use Rattle.avr_session.specs.Actions.{Action, actions}
 use Rattle.avr_session.specs.Session.{session}
-use Rattle.avr_session.specs.Standing.{Standing, NoFault}
 use Rattle.stk_host.specs.Dialog.{Done, played, outputs}
 use Rattle.stk_host.specs.Tape.{Tape}
 use Rattle.stk_emu.specs.DialogOverExchanges.{state_after, outputs_after}
@@ -26,8 +25,9 @@ use Rattle.avr_tool.proofs.OverFaultyLink.Sessions.{AtEnd, AtMoment}
 use Rattle.avr_tool.proofs.Plans.Fits.{work}
 use Rattle.avr_laws.specs.AnyTape.{GoesAlongExchanges}
 use Rattle.avr_tool.specs.Authentic.{RepliesAreAuthentic}
-use Rattle.avr_tool.specs.ExpectedRun.{Expected, then_from, ◌then◌, action_expected, actions_expected, working_expected, ending_output, expected_run}
-use Rattle.avr_tool.specs.ExpectedOutput.{FirstActionsOutput, IsExpectedOutput, EndsAsExpected}
+use Rattle.avr_tool.specs.ExpectedRun.{Expected, next_unless_fault, action_expected, actions_expected, ending_output, expected_run}
+use Rattle.avr_laws.specs.AnyLink.{EndsAsExpected}
+use Rattle.avr_tool.specs.ExpectedOutput.{FirstActionsOutput, IsExpectedOutput}
 
 module _ (plan : Plan) (sound : IsPart plan.part) (fitted : All (IsFitted plan.part) plan.tasks) (m : Memories)
     (f : FitsPart plan.part m) where
@@ -68,26 +68,27 @@ module _ (plan : Plan) (sound : IsPart plan.part) (fitted : All (IsFitted plan.p
 
 -- ---- the output of first actions is a prefix of the expected run's
 
-then_at : (first : Expected) (next : Memories → Expected) (at : Standing) → first.standing ≡ at
-    → (first then next) ≡ then_from first at next
-then_at first next at e = ap (λ x. then_from first x next) e
+then_at : (first : Expected) (next : Memories → Expected) (status : ℕ) → first.status ≡ status
+    → next_unless_fault first first.status next ≡ next_unless_fault first status next
+then_at first next status e = ap (λ x. next_unless_fault first x next) e
 
 -- if there was no fault after both, there was none after the first
-was_fine : (first : Expected) (next : Memories → Expected) (at : Standing) → first.standing ≡ at
-    → (first then next).standing ≡ NoFault → first.standing ≡ NoFault
-was_fine first next at stands fine = search (rules, then_at)
+was_fine : (first : Expected) (next : Memories → Expected) (status : ℕ) → first.status ≡ status
+    → (next_unless_fault first first.status next).status ≡ 0 → first.status ≡ 0
+was_fine first next zero is fine = is
+was_fine first next (suc fault) is fine = ap (λ x. x.status) (sym (then_at first next (suc fault) is)) ∙ fine
 
 -- the output of the first actions begins the output of all
 actions_prefix : (part : Part) (s : Switches) (done more : List Action) (m : Memories)
-    → (actions_expected part s done m).standing ≡ NoFault
+    → (actions_expected part s done m).status ≡ 0
     → (later : List OutputEvent) × ((actions_expected part s (done ++ more) m).output_events
     ≡ (actions_expected part s done m).output_events ++ later)
 actions_prefix part s [] more m fine = ((actions_expected part s more m).output_events, refl)
 actions_prefix part s (action ∷ done) more m fine =
     let c = action_expected part s action m in
-    let stands = was_fine c (actions_expected part s done) c.standing refl fine in
-    let on = then_at c (actions_expected part s done) NoFault stands in
-    let rest = actions_prefix part s done more c.memories (sym (ap (λ x. x.standing) on) ∙ fine) in
+    let stands = was_fine c (actions_expected part s done) c.status refl fine in
+    let on = then_at c (actions_expected part s done) 0 stands in
+    let rest = actions_prefix part s done more c.memories (sym (ap (λ x. x.status) on) ∙ fine) in
     search (rules, then_at, append_assoc)
 
 pub first_prefix : (plan : Plan) (m : Memories) (output_events : List OutputEvent)
@@ -95,7 +96,7 @@ pub first_prefix : (plan : Plan) (m : Memories) (output_events : List OutputEven
     → (later : List OutputEvent) × ((expected_run plan m).output_events ≡ output_events ++ later)
 first_prefix plan m output_events first =
     let prefix = actions_prefix plan.part plan.switches first.done first.more m first.fine in
-    let ending = ending_output plan (working_expected plan m).standing in (
+    let ending = ending_output plan (actions_expected plan.part plan.switches (actions plan) m).status in (
       prefix.0 ++ ending,
       ap (λ xs. xs ++ ending) (search rules) ∙ append_assoc output_events prefix.0 ending,
     )

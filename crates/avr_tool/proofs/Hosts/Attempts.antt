@@ -16,6 +16,7 @@ along_next_dialog m next left exchanges p (Done a) = state_after m left (next a)
 along_next_dialog m next left exchanges p dialog =
     record { dialog = dialog >>= next; programmer = p; exchanges = exchanges; left = left }
 
+-- where two dialogs are, from where the first one is
 abbrev pub onwards : {E A B P : Type 0} → Device P → (A → Dialog E B) → StateAfter E A P → StateAfter E B P
 onwards m next s = along_next_dialog m next s.left s.exchanges s.programmer s.dialog
 
@@ -33,6 +34,7 @@ pub record Stepped {P : Type 0} (m : Device P) (Before After : P → Type 0) (s 
   pub stands : Before s.programmer ⊎ After s.programmer
   pub whole : (bytes : List ℕ) → s.dialog ≡ Done (Ok bytes) → After s.programmer
 
+-- a step along a link meets `Stepped`
 pub step_stands : {P : Type 0} (m : Device P) (Before After : P → Type 0) (k : ℕ) (commands : List Command) (p : P)
     (exchanges : List Exchange) → IsRepeatable m commands Before After → Before p
     → Stepped m Before After (state_after m k (step commands) p exchanges)

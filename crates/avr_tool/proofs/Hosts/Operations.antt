@@ -32,12 +32,14 @@ use Rattle.avr_tool.proofs.StepData.EachStep.{changed_sizes}
 use Rattle.avr_tool.proofs.Hosts.AnyExchange.{over_any_exchange, Keeps, step_leads}
 
 module _ (part : Part) (sound : IsPart part) (real : Real part) where
+  -- the data of an attempt are what the step gives
   data_of_attempt : (commands : List Command) (m : Memories) (got : List ℕ) → IsStep part commands → FitsPart part m
       → real.Works commands m
       → IsDataOfAttempt real.device commands (Settled real m) (Settled real (memories_after_step part commands m)) got
       → got ≡ data_of_step part commands m
   data_of_attempt commands m got is f w g = real.gives commands m g.from got is f w g.stood g.is
 
+  -- some first steps after a completed one are some first steps of all
   one_more : (commands : List Command) (steps : List (List Command)) (m : Memories) (q : real.P)
       → Reached real steps (memories_after_step part commands m) q → Reached real (commands ∷ steps) m q
   one_more commands steps m q r = record { count = suc r.count; stands = r.stands }
@@ -50,6 +52,7 @@ module _ (part : Part) (sound : IsPart part) (real : Real part) where
       → AfterSteps real (commands ∷ steps) m before o q
   stepped commands steps m before bytes o q is a = search (rules, append_assoc, one_more)
 
+  -- a run of steps: at each command some first steps were made, and at the end what `AfterSteps` states
   play_goes : (steps : List (List Command)) (m : Memories) (before : List ℕ) (p : real.P) → AreSteps part steps
       → FitsPart part m → AllWork real steps m → Settled real m p
       → Keeps real.device (Reached real steps m) (AfterSteps real steps m before) (play steps before) p
@@ -74,6 +77,7 @@ module _ (part : Part) (sound : IsPart part) (real : Real part) where
       (Settled real (memories_after_steps part (length steps) steps m) q × (r ≡ judge (data_of_steps part steps m)))
       ⊎ ((fault : StepFault) × (r ≡ Err (host_fault fault)) × Reached real steps m q)
 
+  -- an operation: the same, and then the check of the data
   pub operation_goes : {A : Type 0} (steps : List (List Command)) (m : Memories) (judge : List ℕ → Result A HostFault)
       (p : real.P) → AreSteps part steps → FitsPart part m → AllWork real steps m → Settled real m p
       → Keeps real.device (Reached real steps m) (AfterCall steps m judge) (operation steps judge) p
@@ -81,9 +85,11 @@ module _ (part : Part) (sound : IsPart part) (real : Real part) where
   operation_goes {A = A} steps m judge p are f w s =
       outcome_mapped (checked_by judge) (play_goes steps m [] p are f w s) (λ o q a. search rules)
 
+  -- reading the signature changes no memory
   idle_reached : (m : Memories) (q : real.P) → Reached real signature_steps m q → HasMemories real m q
   idle_reached m q r = settled_idle real m q (search (rules, quiet_stays, read_quiet))
 
+  -- SIGN_ON, ENTER and the reading of the signature keep the memories
   pub beginning_goes : (m : Memories) (p : real.P) → FitsPart part m → AllWork real signature_steps m
       → HasMemories real m p → Keeps real.device (HasMemories real m) (AfterBeginning real m) handshake p
   unfolding handshake
@@ -106,6 +112,7 @@ module _ (part : Part) (sound : IsPart part) (real : Real part) where
 abbrev pub IsClosed : Result ⊤ HostFault → Type 0
 IsClosed r = (r ≡ Ok tt) ⊎ ((fault : StepFault) × (r ≡ Err (host_fault fault)))
 
+-- leaving programming mode keeps what a LEAVE keeps, whatever its result
 pub closing_goes : {P : Type 0} (m : Device P) (Stands : P → Type 0) → IsRepeatable m (leave ∷ []) Stands Stands
     → (p : P) → Stands p → Keeps m Stands (λ r q. Stands q × IsClosed r) closing p
 unfolding closing
@@ -125,6 +132,7 @@ reported report_line s = record {
 }
 
 module _ {E P : Type 0} (m : Device P) where
+  -- a result in another form changes nothing along a link
   pub along_reported : {A B : Type 0} (k : ℕ) (d : Dialog E A) (report_line : A → B) (p : P) (exchanges : List Exchange)
       → state_after m k (d >>= (λ a. Done (report_line a))) p exchanges
       ≡ reported report_line (state_after m k d p exchanges)

@@ -20,9 +20,11 @@ module _ {P : Type 0} where
   AllTrue True [] q = ⊤
   AllTrue True (event ∷ outputs) q = True event q × AllTrue True outputs q
 
+  -- the property that any output has
   abbrev pub Anything : OutputEvent → P → Type 0
   Anything event q = ⊤
 
+  -- all output events have it
   pub any_outputs : (outputs : List OutputEvent) (q : P) → AllTrue Anything outputs q
   any_outputs [] q = tt
   any_outputs (event ∷ outputs) q = (tt, any_outputs outputs q)
@@ -31,6 +33,7 @@ module _ {P : Type 0} where
 abbrev pub Moment : Type 0 → Type 1
 Moment P = List OutputEvent → Spot P → Type 0
 
+-- a condition on a result, the output and the programmer at the end
 abbrev pub End : Type 0 → Type 0 → Type 1
 End P R = R → List OutputEvent → Spot P → Type 0
 
@@ -55,16 +58,19 @@ module _ {P : Type 0} (m : Device P) where
       where
         pub holds : PrintsFrom Now After d z
 
+    -- a dialog that is done prints nothing more
     pub stops : {R : Type 0} {Now : Moment P} (After : End P R) (r : R) (emitted : List OutputEvent) (z : Spot P)
         → After r emitted z → Prints Now (λ b x. After b (emitted ++ x)) (Done r) z
     stops After r emitted z a = record { holds = subst (λ x. After r x z) (sym (append-nil emitted)) a }
 
+    -- A dialog of true output events and a result prints them.
     on_outputs : {R : Type 0} (Now : Moment P) (After : End P R) (outputs : List OutputEvent) (r : R) (z : Spot P)
         → AllTrue True outputs z.0 → After r outputs z → PrintsFrom Now After (emits outputs (Done r)) z
     on_outputs Now After [] r z all a = a
     on_outputs Now After (event ∷ outputs) r z all a =
         (all.0, on_outputs (λ x. Now (event ∷ x)) (λ r x. After r (event ∷ x)) outputs r z all.1 a)
 
+    -- An operation prints the output about its result.
     pub prints_reported : {A : Type 0} {During : Spot P → Type 0} {After : Result A HostFault → Spot P → Type 0}
         {Now : Moment P} {Then : End P Standing} {d : Dialog ⊥ (Result A HostFault)} {z : Spot P}
         (outcome_output : Result A HostFault → List OutputEvent) → Runs m During After d z
@@ -75,6 +81,7 @@ module _ {P : Type 0} (m : Device P) where
         f
         each = record { holds = on d z l.holds }
       where
+        -- the same, dialog by dialog
         on : (d : Dialog ⊥ (Result A HostFault)) (z : Spot P)
             → HoldsFrom (this_link m) (λ bytes y. During y) NoOutput After d z
             → PrintsFrom Now Then (reported d outcome_output) z
@@ -82,6 +89,7 @@ module _ {P : Type 0} (m : Device P) where
         on (Emit e d) z h = absurd e
         on (Ask bytes go_on) z h = (f z h.0, on (go_on _) ((this_link m).after bytes z tt) (h.1 tt))
 
+    -- Two dialogs in sequence print one after the other; this goes by cases of the first.
     on_bind : {A B : Type 0} (Now Now' : Moment P) (Between : End P A) (After : End P B) (next : A
         → Dialog OutputEvent B)
         → ((emitted : List OutputEvent) (y : Spot P) → Now emitted y → Now' emitted y)
@@ -95,6 +103,7 @@ module _ {P : Type 0} (m : Device P) where
     on_bind Now Now' Between After next f more (Ask bytes go_on) z h =
         (f [] z h.0, on_bind Now Now' Between After next f more (go_on _) ((this_link m).after bytes z tt) h.1)
 
+    -- Two dialogs in sequence print one after the other.
     pub prints_then : {A B : Type 0} {Now Now' : Moment P} {Between : End P A} {After : End P B}
         {next : A → Dialog OutputEvent B} {d : Dialog OutputEvent A} {z : Spot P}
         → ((emitted : List OutputEvent) (y : Spot P) → Now emitted y → Now' emitted y) → Prints Now Between d z
@@ -103,6 +112,7 @@ module _ {P : Type 0} (m : Device P) where
         → Prints Now' After (d >>= next) z
     prints_then {d = d} f l more = record { holds = on_bind _ _ _ _ _ f more d _ l.holds }
 
+    -- What prints under some conditions prints under weaker ones.
     pub prints_wider : {R : Type 0} {Now Now' : Moment P} {After After' : End P R} {d : Dialog OutputEvent R}
         {z : Spot P}
         → ((emitted : List OutputEvent) (y : Spot P) → Now emitted y → Now' emitted y)
@@ -112,6 +122,7 @@ module _ {P : Type 0} (m : Device P) where
         subst (λ d. Prints Now' After' d z) (bind_done d)
         (prints_then f l (λ r emitted y a. stops After' r emitted y (g r emitted y a)))
 
+    -- what a dialog prints holds after `k` commands, dialog by dialog
     on_moment : {R : Type 0} (Now : Moment P) (After : End P R)
         → ((r : R) (emitted : List OutputEvent) (y : Spot P) → After r emitted y → Now emitted y)
         → (k : ℕ) (d : Dialog OutputEvent R) (z : Spot P) → PrintsFrom Now After d z → Printed Now After k d z
@@ -123,6 +134,7 @@ module _ {P : Type 0} (m : Device P) where
     on_moment Now After last (suc k) (Ask bytes go_on) z h =
         search (rules, on_moment Now After last k (go_on _) ((this_link m).after bytes z tt) h.1)
 
+    -- the same, for a dialog that `Prints`
     pub at_moment : {R : Type 0} {Now : Moment P} {After : End P R} {d : Dialog OutputEvent R} {z : Spot P}
         → ((r : R) (emitted : List OutputEvent) (y : Spot P) → After r emitted y → Now emitted y) → (k : ℕ)
         → Prints Now After d z → Printed Now After k d z

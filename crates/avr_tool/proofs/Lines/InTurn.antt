@@ -25,17 +25,21 @@ use Rattle.avr_tool.proofs.StepData.LongerTape.{reading_extends}
 use Rattle.avr_tool.proofs.Lines.Plays.{played_along, emitted_played, done_played, waits_played}
 use Rattle.avr_tool.proofs.Lines.WireTapes.{GoesOver, over_wire}
 
+-- The bytes are one good frame.
 pub record IsWhole (f : List ℕ) : Type 0 where
   pub piece : IsPiece f
   pub frame : is_frame f ≡ true
 
+-- Each of these lists of bytes is.
 abbrev pub AreWhole : List (List ℕ) → Type 0
 AreWhole [] = Unit {0}
 AreWhole (f ∷ fs) = IsWhole f × AreWhole fs
 
+-- A frame before other bytes is the first frame.
 frame_first : (f bytes : List ℕ) → IsWhole f → frames (f ++ bytes) ≡ f ∷ frames bytes
 frame_first f bytes w = search (rules, cut_first, cond-true)
 
+-- What each reading leads to sends whole frames, so the run does.
 whole_by : {E R : Type 0} (go_on : Reading → Tape → Played E R) (o : Option (Reading × Tape))
     → ((reading : Reading) (left : Tape) → AreWhole (frames_in (go_on reading left).events))
     → AreWhole (frames_in (continue_with_reading go_on o).events)
@@ -58,6 +62,7 @@ frames_sent [] whole = refl
 frames_sent (Frame f ∷ events) whole = search (rules, frame_first, frames_sent events whole.1)
 frames_sent (Emitted e ∷ events) whole = frames_sent events whole
 
+-- In turn: the host listens only while a reply is due.
 pub due_at : {E R : Type 0} (d : Dialog E R) (n : ℕ) (tape : Tape) (bytes : List ℕ) (before after : Transcript)
     (items : Tape) → InTurnFrom d n tape bytes (before ++ Got items ∷ after)
     → IsDueToListen d n (tape ++ heard before) (bytes ++ sent before)
@@ -86,6 +91,7 @@ abbrev Goes : {E R : Type 0} → Dialog E R → ℕ → Tape → Tape → Type 0
 Goes d n t u = (more : List (List ℕ)) × (frames_in (played d n (t ++ u)).events
     ≡ frames_in (played d n t).events ++ more)
 
+-- More of the tape adds frames, and takes none back.
 pub played_goes : {E R : Type 0} (d : Dialog E R) (n : ℕ) (t u : Tape) → Goes d n t u
 played_goes (Done r) n t u = ([], refl)
 played_goes (Emit e d) n t u = played_goes d n t u
@@ -104,6 +110,7 @@ played_goes (Ask bytes go_on) n t u =
 part_none : (x y : List ℕ) → 0 < length y → IsPiece (x ++ y) → frames x ≡ []
 part_none x y some whole = search (rules, cases_lt, cut_none, lt-leb, size_stays, length-append)
 
+-- If two lists together are empty, both are.
 none_before : {A : Type 0} (x y : List A) → x ++ y ≡ [] → (x ≡ []) × (y ≡ [])
 none_before [] y e = (refl, e)
 none_before (a ∷ x) y e = (cc, cc)
@@ -142,6 +149,7 @@ begun_prefix IsPartOfEvent (Frame x ∷ []) (Frame y ∷ later) part =
 begun_prefix IsPartOfEvent (Emitted x ∷ []) (Emitted y ∷ later) part = (bytes_sent later, refl)
 begun_prefix IsPartOfEvent begun later part = absurd part
 
+-- The events of a run that is shown in part.
 pub shown_prefix : {E : Type 0} (IsPartOfEvent : E → E → Type 0) (shown events : List (Event E))
     → IsPrefixOfEvents IsPartOfEvent shown events → IsBytePrefixOf (bytes_sent shown) (bytes_sent events)
 shown_prefix IsPartOfEvent shown events f = search (rules, begun_prefix, bytes_append, append_assoc)
@@ -153,9 +161,11 @@ module _ {E R : Type 0} (d : Dialog E R) (n : ℕ) (p : Programmer) (fates : Lis
   abbrev SendsFirst : Type 0
   SendsFirst = IsBytePrefixOf (sent w.transcript) (bytes_sent (played d n (heard w.transcript)).events)
 
+  -- How many frames were sent.
   abbrev count : ℕ
   count = length (frames (sent w.transcript))
 
+  -- The dialog goes along the exchanges of the wire's fates.
   pub goes_along : SendsFirst → GoesOver device d n (fresh_wire p fates) (frames (sent w.transcript)) p
       (exchanges_of_fates fates)
   goes_along prefix =
@@ -173,12 +183,15 @@ module _ {E R : Type 0} (d : Dialog E R) (n : ℕ) (p : Programmer) (fates : Lis
   -- a whole run has the same output and the same result there
   module _ (events : List (Event E)) (r : R) (after : Progress)
       (plays : Plays d (progress_at n []) w.transcript events r after) (prefix : SendsFirst) where
+    -- The run over the tape is the run along the exchanges.
     over : played_along device count d n p (exchanges_of_fates fates) []
         ≡ record { events = events; outcome = Some (r, after.next, on_tape after.unread ++ w.waits) }
     over = search (rules, goes_along, never_idle)
 
+    -- Its output is the same.
     pub whole_emitted : outputs events ≡ outputs_after device count d p (exchanges_of_fates fates)
     whole_emitted = search (rules, over, emitted_played)
 
+    -- Its result is the same.
     pub whole_done : (state_after device count d p (exchanges_of_fates fates)).dialog ≡ Done r
     whole_done = search (rules, done_played, over)

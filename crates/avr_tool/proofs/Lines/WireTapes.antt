@@ -16,9 +16,11 @@ use Rattle.stk_emu.proofs.Wires.Arrivals.{arrival_read, arrival_leaves, arrival_
 use Rattle.avr_tool.specs.Authentic.{RepliesAreAuthentic}
 use Rattle.avr_tool.proofs.Lines.Plays.{played_along, tail_is}
 
+-- The first fate of lawful ones is lawful.
 first_lawful : (fates : List Fate) → AreLawful fates → IsLawfulFate (first_fate fates)
 first_lawful fates l = search rules
 
+-- So are the others.
 others_lawful : (fates : List Fate) → AreLawful fates → AreLawful (other_fates fates)
 others_lawful [] l = l
 others_lawful (fate ∷ fates) l = All-tail IsLawfulFate fate fates l
@@ -45,6 +47,7 @@ module _ {P : Type 0} (m : Device P) (replies_fit : RepliesFitFrames m) where
       (exchange_of_fate (first_fate w.fates) ∷ exchanges)
   replied bytes go_on n w sent exchanges read goes = search rules
 
+  -- The exchanges of fates are those of the first and of the others.
   by_fates : {E R : Type 0} (bytes : List ℕ) (go_on : Reading → Dialog E R) (n : ℕ) (w : Wire P) (f : List ℕ)
       (sent : List (List ℕ)) (p : P) (fates : List Fate)
       → GoesOver m (Ask bytes go_on) n w (f ∷ sent) p (exchange_of_fate (first_fate fates)
@@ -52,6 +55,7 @@ module _ {P : Type 0} (m : Device P) (replies_fit : RepliesFitFrames m) where
       ∷ sent) p (exchanges_of_fates fates)
   by_fates bytes go_on n w f sent p fates goes = search rules
 
+  -- Each dialog that sent frames over a wire went along the exchanges of their fates.
   pub over_wire : {E R : Type 0} (d : Dialog E R) (n : ℕ) (w : Wire P) (sent more : List (List ℕ)) → SendsValidBodies d
       → NoneHasNumber n w.late → AreLawful w.fates → frames_in (played d n (tape_of m sent w)).events ≡ sent ++ more
       → GoesOver m d n w sent w.programmer (exchanges_of_fates w.fates)

@@ -1,5 +1,5 @@
 -- What writes leave in a memory: their images laid over each other, and elsewhere the bytes before.
-use Rattle.std.proofs.Common.{◌≡◌, ℕ, zero, suc, ◌≤◌, arith, refl, ap, List, [], ◌∷◌, ◌++◌, length, get_or, Bool, true, false, Option, None, rules}
+use Rattle.std.proofs.Common.{◌≡◌, ℕ, zero, suc, ◌≤◌, arith, refl, ap, List, [], ◌∷◌, ◌++◌, length, get_or, slice_index, Bool, true, false, Option, None, rules}
 use Rattle.std.proofs.lemmas.Bool.{true≢false}
 use Rattle.std.proofs.lemmas.List.{length-replicate}
 use Rattle.std.specs.Str.{bytes_eq}
@@ -19,19 +19,22 @@ use Rattle.stk_emu.proofs.Memories.LaidImages.{length-laid, length-and_in}
 use Rattle.avr_tool.proofs.WriteOperations.EachMemory.{same_memory, write_is, others_stay}
 use Rattle.avr_tool.specs.ComparisonsAgree.{EachComparisonAgrees}
 use Rattle.avr_tool.specs.Items.{actions_items}
-use Rattle.avr_tool.specs.Written.{written_to, byte_in}
+use Rattle.avr_tool.specs.Written.{written_to}
 use Rattle.avr_tool.proofs.Plans.Fits.{AllFitActions}
 
 -- ---- images laid over each other, byte by byte
 
+-- An empty image has no byte.
 byte_of_empty : (size i : ℕ) → byte_at (empty size) i ≡ None
 byte_of_empty (suc size) (suc i) = byte_of_empty size i
 byte_of_empty size i = refl
 
+-- An image over another keeps the size.
 length-over : (a b : Image) → length (over a b) ≡ length a
 length-over (x ∷ a) (y ∷ b) = ap suc (length-over a b)
 length-over a b = refl
 
+-- A byte of an image over another is the later one, if there is one.
 byte_of_over : (a b : Image) (i : ℕ) → length b ≤ length a → byte_at (over a b) i
     ≡ option_or (byte_at b i) (byte_at a i)
 byte_of_over [] (y ∷ b) i l = absurd (omega (arith, l))
@@ -45,6 +48,7 @@ pub record Keeps (image : Image) (old new : List ℕ) : Type 0 where
   pub size : length new ≡ length old
   pub rest : (i : ℕ) → byte_at image i ≡ None → get_or new i 0 ≡ get_or old i 0
 
+-- An image that is laid over bytes leaves those for which it has none.
 rest_laid : (image : Image) (xs : List ℕ) (i : ℕ) → byte_at image i ≡ None
     → get_or (with_image image xs) i 0 ≡ get_or xs i 0
 rest_laid image [] i e = refl
@@ -52,6 +56,7 @@ rest_laid [] (x ∷ xs) i e = refl
 rest_laid (b ∷ image) (x ∷ xs) zero e = search rules
 rest_laid (b ∷ image) (x ∷ xs) (suc i) e = rest_laid image xs i e
 
+-- So does an image in a memory that only loses bits.
 rest_anded : (image : Image) (xs : List ℕ) (i : ℕ) → byte_at image i ≡ None
     → get_or (and_in image xs) i 0 ≡ get_or xs i 0
 rest_anded image [] i e = refl
@@ -59,6 +64,7 @@ rest_anded [] (x ∷ xs) i e = refl
 rest_anded (b ∷ image) (x ∷ xs) zero e = search rules
 rest_anded (b ∷ image) (x ∷ xs) (suc i) e = rest_anded image xs i e
 
+-- So does a write.
 pub write_keeps : (part : Part) (mem : Mem) (image : Image) (m : Memories)
     → Keeps image (memory_in part mem m) (memory_in part mem (write_effect mem image m))
 write_keeps part mem image m = search (rules, write_is, length-and_in, rest_anded, length-laid, rest_laid)
@@ -69,29 +75,35 @@ write_keeps part mem image m = search (rules, write_is, length-and_in, rest_ande
 pub record Left (part : Part) (mem : Mem) (image : Image) (old new : Memories) : Type 0 where
   pub size : length (memory_in part mem new) ≡ length (memory_in part mem old)
   pub shows : HoldsImage image (memory_in part mem new)
-  pub rest : (i : ℕ) → byte_at image i ≡ None → byte_in part mem i new ≡ byte_in part mem i old
+  pub rest : (i : ℕ) → byte_at image i ≡ None
+      → slice_index (memory_in part mem new) i ≡ slice_index (memory_in part mem old) i
 
 module _ (part : Part) where
+  -- Nothing was written.
   left_as_it_is : (mem : Mem) (size : ℕ) (m : Memories) → Left part mem (empty size) m m
   left_as_it_is mem size m = search (rules, byte_of_empty)
 
+  -- One write, after which the memory holds the image.
   left_by_write : (mem : Mem) (image : Image) (m : Memories)
       → HoldsImage image (memory_in part mem (write_effect mem image m))
       → Left part mem image m (write_effect mem image m)
   left_by_write mem image m shows = search (rules, write_keeps)
 
+  -- One write after another.
   left_over : (mem : Mem) (first second : Image) (old between new : Memories) → length second ≤ length first
       → Left part mem first old between → Left part mem second between new → Left part mem (over first second) old new
   left_over mem first second old between new l a b = search (rules, byte_of_over)
 
   -- ---- what actions leave
 
+  -- The images written to a memory have its size together.
   length-written_to : (mem : Mem) (actions : List Action) → AllFitActions part actions
       → length (written_to part mem (actions_items actions)) ≡ size_of mem part
   length-written_to mem [] fit = length-replicate {A = Option ℕ} (size_of mem part) None
   length-written_to mem (action ∷ actions) fit =
       search (rules, length-over, same_memory, length-written_to mem actions fit.1)
 
+  -- A write of this memory or of another one, and then more.
   write_left : (mem other : Mem) (image more : Image) (m new : Memories) (same : Bool)
       → bytes_eq (name_of other) (name_of mem) ≡ same → length image ≡ size_of other part
       → length more ≡ size_of mem part → HoldsImage image (memory_in part other (write_effect other image m))
@@ -107,6 +119,7 @@ module _ (part : Part) where
   Leave mem actions m = AllFitActions part actions → EachComparisonAgrees part actions m
       → Left part mem (written_to part mem (actions_items actions)) m (effects part (actions_items actions) m)
 
+  -- A task that writes, and then more actions.
   write_leaves : (dry left_out : Bool) (mem other : Mem) (image : Image) (more : List Action) (m : Memories)
       → left_out ≡ false → ((now : Memories) → Leave mem more now)
       → Leave mem ((if dry then SkipAction (SkippedWrite other image) ∷ []

@@ -33,15 +33,19 @@ use Rattle.avr_tool.proofs.OverFaultyLink.FirstSteps.{effects_sizes}
 
 module _ (plan : Plan) (before after : Memories) (all : All (IsFitted plan.part) plan.tasks)
     (verified : plan.switches.no_verify ≡ false) (run : IsDone plan before after) where
+  -- Whether the plan erases.
   abbrev due : Bool
   due = has_erase (items plan)
 
+  -- The memories after the erase, if there is one.
   abbrev erased : Memories
   erased = effects plan.part (erase_if due) before
 
+  -- The writes lead from there to the memories after the run.
   is_after : effects plan.part (writes plan) erased ≡ after
   is_after = search (rules, items_are, effects_on, erase_if, writes)
 
+  -- Each memory is left with the images written to it.
   memory_left : (mem : Mem) → Left plan.part mem (written_to plan.part mem (items plan)) erased after
   memory_left mem =
       subst (λ image. Left plan.part mem image erased after)
@@ -49,6 +53,7 @@ module _ (plan : Plan) (before after : Memories) (all : All (IsFitted plan.part)
       (subst (λ new. Left plan.part mem (written_to plan.part mem (writes plan)) erased new) is_after
       (search (rules, tasks_left, tasks_fit, tasks_agree)))
 
+  -- So `IsWritten` holds for the items of the plan.
   items_written : IsPart plan.part → FitsPart plan.part before → IsWritten plan.part (items plan) before after
   items_written sound fits =
       let part = plan.part in
@@ -66,6 +71,7 @@ module _ (plan : Plan) (before after : Memories) (all : All (IsFitted plan.part)
         lock = λ none. (memory_left Lock).rest 0 none ∙ (search rules);
       }
 
+  -- So it holds for the asked items.
   pub run_written : IsPart plan.part → FitsPart plan.part before → IsWritten plan.part (asked_items plan) before after
   run_written sound fits = search (rules, items_by_tasks, items_written)
 

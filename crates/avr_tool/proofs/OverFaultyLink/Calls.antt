@@ -13,11 +13,13 @@ use Rattle.avr_session.specs.Standing.{Standing, NoFault}
 use Rattle.avr_session.specs.Session.{emits, reported}
 
 module _ {P : Type 0} (m : Device P) where
+  -- output events ask nothing of the programmer
   output_programmer : (k : ℕ) (outputs : List OutputEvent) (s : Standing) (p : P) (exchanges : List Exchange)
       → (state_after m k (emits outputs (Done s)) p exchanges).programmer ≡ p
   output_programmer k [] s p exchanges = refl
   output_programmer k (event ∷ outputs) s p exchanges = output_programmer k outputs s p exchanges
 
+  -- after its output events the dialog is done
   output_dialog : (k : ℕ) (outputs : List OutputEvent) (s : Standing) (p : P) (exchanges : List Exchange)
       → (state_after m k (emits outputs (Done s)) p exchanges).dialog ≡ Done s
   output_dialog k [] s p exchanges = refl
@@ -25,6 +27,7 @@ module _ {P : Type 0} (m : Device P) where
 
   module _ {A : Type 0} (judge : List ℕ → Result A HostFault)
       (outcome_output : Result A HostFault → List OutputEvent) where
+    -- a run of steps, the check of its data, and the output about the result
     abbrev notice : Dialog ⊥ StepOutcome → Dialog OutputEvent Standing
     notice d = reported (d >>= (λ outcome. Done (checked_by judge outcome))) outcome_output
 

@@ -46,12 +46,14 @@ changed_behind part count (commands ∷ xs) ys m =
     (let e : count + suc (length xs) ≡ suc (count + length xs) = omega arith in e)
     ∙ changed_behind part count xs ys (memories_after_step part commands m)
 
+-- the steps of two lists of items
 pub all_on : (part : Part) (xs ys : List Item) → steps_of_items part (xs ++ ys) ≡ steps_of_items part xs
     ++ steps_of_items part ys
 all_on part [] ys = refl
 all_on part (item ∷ xs) ys = search (rules, append_assoc, all_on part xs ys)
 
 module _ (part : Part) where
+  -- items keep the sizes of the memories
   pub effects_sizes : (sound : IsPart part) (items : List Item) (m : Memories) → FitsPart part m
       → FitsPart part (effects part items m)
   effects_sizes sound [] m f = f
@@ -65,6 +67,7 @@ module _ (part : Part) where
   all_changed sound items m fits f = changed_all part (steps_of_items part items) m ∙ items_do part sound items m fits f
 
 module _ {part : Part} (real : Real part) where
+  -- no step was made yet
   pub rests_here : (steps : List (List Command)) (m : Memories) (q : real.P) → HasMemories real m q
       → Rests real steps m q
   rests_here steps m q idle = record { count = 0; stands = idle }
@@ -78,6 +81,7 @@ module _ {part : Part} (real : Real part) where
         stands = search (rules, all_on, changed_prefix, changed_min);
       }
 
+  -- all steps were made
   pub rests_all : (sound : IsPart part) (items : List Item) (m : Memories) (q : real.P) → ItemsFit part items
       → FitsPart part m → HasMemories real (effects part items m) q → Rests real (steps_of_items part items) m q
   rests_all sound items m q fits f idle = search (rules, all_changed part sound items m fits f)
@@ -96,9 +100,11 @@ module _ {part : Part} (real : Real part) where
 abbrev IsQuiet : List Command → Type 0
 IsQuiet commands = write_operation_of commands ≡ []
 
+-- none of these steps writes
 abbrev pub AreQuiet : List (List Command) → Type 0
 AreQuiet steps = Each IsQuiet steps
 
+-- such steps keep the memories
 pub quiet_stays : (part : Part) (count : ℕ) (steps : List (List Command)) (m : Memories) → AreQuiet steps
     → memories_after_steps part count steps m ≡ m
 quiet_stays part (suc count) (commands ∷ steps) m quiet = search (rules, quiet_stays part count steps m quiet.1)

@@ -12,7 +12,7 @@ use Rattle.stk_emu.specs.Effect.{Memories, effects}
 use Rattle.stk_emu.specs.Settled.{FitsPart}
 use Rattle.stk_host.specs.ReadSteps.{signature_steps}
 use Rattle.avr_tool.proofs.Real.{ActionsWork, AllWork, Real, HasMemories, Settled}
-use Rattle.avr_tool.proofs.OverFaultyLink.EachAction.{Comes, Passes, ActionsTrue, fault_output, opening_comes}
+use Rattle.avr_tool.proofs.OverFaultyLink.EachAction.{CallHasOutcome, Passes, ActionsTrue, fault_output, opening_comes}
 use Rattle.avr_tool.proofs.OverFaultyLink.Sessions.{AtMoment, AtEnd, at_last, anyhow, session_prints}
 use Rattle.avr_tool.proofs.Hosts.OneLink.{Spot, on_link}
 use Rattle.avr_tool.proofs.Hosts.Outputs.{Anything, Prints, Printed, any_outputs, at_moment}
@@ -25,6 +25,7 @@ use Rattle.avr_tool.specs.Outcome.{HasFirstOperations, IsDone, IsExpectedRun}
 module _ (plan : Plan) (sound : IsPart plan.part) (real : Real plan.part) (before : Memories) (sizes : FitsPart plan.part before)
     (fitted : All (IsFitted plan.part) plan.tasks) (signs : AllWork real signature_steps before)
     (works : ActionsWork real (work plan) before) where
+  -- Any output of the actions has the property that any output has.
   anything : (actions : List Action) (m : Memories) → ActionsTrue plan.part real plan.switches Anything actions m
   anything [] m = tt
   anything (action ∷ actions) m =
@@ -33,7 +34,7 @@ module _ (plan : Plan) (sound : IsPart plan.part) (real : Real plan.part) (befor
   -- over any link, or if no step fails
   pub session_passes : (At : Memories → Spot real.P → Type 0) (Fails : Type 0)
       → Passes plan.part real plan.switches At Fails
-      → (z : Spot real.P) → Comes plan.part real plan.switches At Fails OpenSession before z
+      → (z : Spot real.P) → CallHasOutcome plan.part real plan.switches At Fails OpenSession before z
       → Prints real.device Anything (AtMoment plan real before) (AtEnd plan real before Fails) (session plan) z
   session_passes At Fails pass z opened =
       session_prints plan sound real fitted Anything (λ fault q. any_outputs (fault_output plan.part fault) q)
@@ -41,6 +42,7 @@ module _ (plan : Plan) (sound : IsPart plan.part) (real : Real plan.part) (befor
       (λ q is. any_outputs _ q) (anything (work plan) before) z opened
 
   module _ (p : real.P) (exchanges : List Exchange) (idle : HasMemories real before p) where
+    -- The session along the exchanges: at each command, and at its end.
     pub session_along : (k : ℕ)
         → Printed real.device (AtMoment plan real before) (AtEnd plan real before ⊤) k (session plan) (p, exchanges)
     session_along k =
@@ -58,6 +60,7 @@ module _ (plan : Plan) (sound : IsPart plan.part) (real : Real plan.part) (befor
       | inr broke ↦ let one = broke.1.1 in absurd (omega (arith, zero, one))
     ]
 
+    -- At each command the first operations were made; with status 0 all were, and all comparisons agreed.
     pub session_leaves : Leads real.device (session plan) p exchanges
         (λ q. HasFirstOperations plan before (real.memories q))
         (λ status q. status ≡ 0 → IsDone plan before (real.memories q))

@@ -18,13 +18,13 @@ use Rattle.stk_emu.specs.Effect.{Memories}
 use Rattle.stk_emu.specs.WriteOperations.{steps_of_items}
 use Rattle.avr_tool.proofs.Leads.{memories_after_steps}
 use Rattle.stk_emu.specs.Settled.{FitsPart}
-use Rattle.avr_tool.proofs.OverFaultyLink.EachAction.{RestsIn, Comes, Own, After, Passes, ActionTrue, ActionsTrue, fault_output, operation_comes, goes_cons, goes_actions}
+use Rattle.avr_tool.proofs.OverFaultyLink.EachAction.{RestsIn, CallHasOutcome, IsAsExpected, After, Passes, ActionTrue, ActionsTrue, fault_output, operation_comes, prints_first_action, goes_actions}
 use Rattle.avr_tool.proofs.Hosts.Operations.{closing_goes}
 use Rattle.avr_tool.proofs.Hosts.OneLink.{Spot, on_link}
 use Rattle.avr_tool.proofs.Hosts.Outputs.{AllTrue, Prints, stops, prints_reported, prints_then}
 use Rattle.avr_tool.proofs.WriteOperations.StepCounts.{items_counted}
 use Rattle.avr_tool.proofs.Plans.Fits.{work, work_fits}
-use Rattle.avr_tool.specs.ExpectedRun.{Expected, working_expected, ending_output}
+use Rattle.avr_tool.specs.ExpectedRun.{Expected, actions_expected, ending_output}
 use Rattle.avr_tool.specs.ExpectedOutput.{FirstActionsOutput, OutputToFault, IsExpectedOutput}
 use Rattle.avr_tool.specs.Items.{items}
 use Rattle.avr_tool.specs.Outcome.{HasFirstOperations, IsExpectedRun}
@@ -41,6 +41,7 @@ anyhow part sound real s = record {
 }
 
 module _ (plan : Plan) (real : Real plan.part) (m : Memories) where
+  -- At each command: the first operations were made, and the output is expected.
   abbrev pub AtMoment : List OutputEvent → Spot real.P → Type 0
   AtMoment emitted y = HasFirstOperations plan m (real.memories y.0) × IsExpectedOutput plan m emitted
 
@@ -50,6 +51,7 @@ module _ (plan : Plan) (real : Real plan.part) (m : Memories) where
       × (IsExpectedRun plan m (real.memories y.0) emitted status
       ⊎ (Fails × (OutputToFault plan.part plan.switches (actions plan) m emitted × (status ≡ 1))))
 
+  -- What holds at the end holds as at any command.
   pub at_last : (Fails : Type 0) (status : ℕ) (emitted : List OutputEvent) (y : Spot real.P)
       → AtEnd Fails status emitted y → AtMoment emitted y
   at_last Fails status emitted y ended = search rules
@@ -67,10 +69,12 @@ module _ (plan : Plan) (sound : IsPart plan.part) (real : Real plan.part) (fitte
   abbrev s : Switches
   s = plan.switches
 
+  -- The expected run of the actions.
   abbrev w : Expected
-  w = working_expected plan m
+  w = actions_expected part s (actions plan) m
 
-  all_done : (emitted : List OutputEvent) → emitted ≡ w.output_events → w.standing ≡ NoFault
+  -- All actions are done.
+  all_done : (emitted : List OutputEvent) → emitted ≡ w.output_events → w.status ≡ 0
       → FirstActionsOutput part s (actions plan) m emitted
   all_done emitted is fine = record {
     done = actions plan;
@@ -80,11 +84,13 @@ module _ (plan : Plan) (sound : IsPart plan.part) (real : Real plan.part) (fitte
     output_events_are = is;
   }
 
+  -- The first operations were made.
   first_done : (y : Spot real.P) → RestsIn real (items plan) m y → HasFirstOperations plan m (real.memories y.0)
   first_done y rests = search (rules, memories_after_steps, items_counted)
 
   module _ (emitted : List OutputEvent) (y : Spot real.P) (rests : RestsIn real (items plan) m y)
-      (own : Own part real s At Fails w NoFault emitted y) where
+      (own : IsAsExpected part real s At Fails w NoFault emitted y) where
+    -- The closing leaves the memories.
     left : (z : Spot real.P) → HasMemories real w.memories z.0 → HasFirstOperations plan m (real.memories z.0)
     left z i =
         let first = first_done y rests in
@@ -94,18 +100,21 @@ module _ (plan : Plan) (sound : IsPart plan.part) (real : Real plan.part) (fitte
               ∙ (sym (real.has w.memories y.0 (pass.idle w.memories y own.left)) ∙ first.memories);
         }
 
+    -- The end of the session, after the closing.
     abbrev ReportedAs : Result ⊤ HostFault → Spot real.P → Type 0
     ReportedAs r z = AllTrue True (closing_output s.quiet part r) z.0
         × AtEnd plan real m Fails (status_of (standing r)) (emitted ++ closing_output s.quiet part r) z
 
+    -- The closing succeeds, or fails and is reported.
     closed : (r : Result ⊤ HostFault) (z : Spot real.P) → HasMemories real w.memories z.0
         × ((r ≡ Ok tt) ⊎ (Fails × ((fault : StepFault) × (r ≡ Err (host_fault fault))))) → ReportedAs r z
     closed r z (i, inl ok) = rw ok (done_true z.0, (left z i, inl (search (rules, real.has w.memories z.0 i))))
     closed r z (i, inr broke) =
-        let done = all_done emitted own.output_events_are own.stands in
+        let done = all_done emitted own.output_events_are own.status_is in
         rw broke.1.1 (fault_true broke.1.0 z.0, (left z i, inr (broke.0, search (rules, done))))
 
-  with_fault : (at : Standing) (emitted : List OutputEvent) (y z : Spot real.P) → ending_output plan at ≡ []
+  -- After a fault no second one is reported.
+  with_fault : (at : Standing) (emitted : List OutputEvent) (y z : Spot real.P) → ending_output plan (status_of at) ≡ []
       → status_of at ≡ 1
       → After part real s At Fails (actions plan) m at emitted y → real.memories z.0 ≡ real.memories y.0
       → AtEnd plan real m Fails 1 emitted z
@@ -114,6 +123,7 @@ module _ (plan : Plan) (sound : IsPart plan.part) (real : Real plan.part) (fitte
       let is = real.has w.memories y.0 (pass.idle w.memories y own.left) in search rules
   with_fault at emitted y z none one (rests, inr broken) kept = let first = first_done y rests in search rules
 
+  -- The end of a session, by whether there was a fault.
   ending_prints : (at : Standing) (emitted : List OutputEvent) (y : Spot real.P)
       → After part real s At Fails (actions plan) m at emitted y
       → Prints real.device True (λ x. AtMoment plan real m (emitted ++ x))
@@ -123,7 +133,7 @@ module _ (plan : Plan) (sound : IsPart plan.part) (real : Real plan.part) (fitte
       prints_reported real.device True (closing_output s.quiet part) (pass.closes w.memories y own.left)
       (λ z i. (
         left emitted y rests own z i,
-        inr (inl (all_done (emitted ++ []) (append-nil emitted ∙ own.output_events_are) own.stands)),
+        inr (inl (all_done (emitted ++ []) (append-nil emitted ∙ own.output_events_are) own.status_is)),
       ))
       (closed emitted y rests own)
   ending_prints NoFault emitted y (rests, inr broken) = absurd (broken.faulty refl)
@@ -140,13 +150,14 @@ module _ (plan : Plan) (sound : IsPart plan.part) (real : Real plan.part) (fitte
       (λ closed x z a. stops real.device True (λ b v. AtEnd plan real m Fails (status_of b) (emitted ++ v)) Over x z a)
   ending_prints Over emitted y after = search (rules, with_fault Over emitted y y refl refl after refl)
 
+  -- The whole session: its output, its status and the memories.
   pub session_prints : ActionTrue part real s True OpenSession m → ActionsTrue part real s True (work plan) m
-      → (z : Spot real.P) → Comes part real s At Fails OpenSession m z
+      → (z : Spot real.P) → CallHasOutcome part real s At Fails OpenSession m z
       → Prints real.device True (AtMoment plan real m) (AtEnd plan real m Fails) (session plan) z
   unfolding session
   session_prints opening_true work_true z opened =
       prints_then real.device True (λ x y now. now)
       (prints_then real.device True (λ x y now. (first_done y now.0, inr (inl now.1)))
-      (goes_cons part sound real s True fault_true At Fails pass OpenSession (work plan) m tt f z opening_true opened
-      (search (rules, goes_actions, work_fits))) ending_prints)
+      (prints_first_action part sound real s True fault_true At Fails pass OpenSession (work plan) m tt f z opening_true
+      opened (search (rules, goes_actions, work_fits))) ending_prints)
       (λ at emitted y a. stops real.device True (AtEnd plan real m Fails) (status_of at) emitted y a)

@@ -27,14 +27,14 @@ use Rattle.avr_session.specs.Actions.{Action, OpenSession, EraseChip, WriteImage
 use Rattle.avr_session.specs.PlanSteps.{action_steps}
 use Rattle.avr_session.specs.Session.{reported, closing_output, action_dialog, actions_dialog, ending, session_dialog, status_of, session}
 use Rattle.avr_tool.specs.Items.{action_items, actions_items, items}
-use Rattle.avr_tool.specs.Completed.{none_completed, action_completed, actions_completed, operations_completed}
+use Rattle.avr_tool.specs.Completed.{steps_completed, actions_completed, operations_completed}
 use Rattle.avr_tool.specs.Outcome.{write_operations}
 use Rattle.avr_tool.proofs.Plans.Fits.{FitsAction, AllFitActions, work, work_fits, action_items_fit}
 use Rattle.avr_tool.proofs.Real.{Real}
 use Rattle.avr_tool.proofs.Emulated.{all_work, emulated}
 use Rattle.avr_tool.proofs.OverFaultyLink.FirstSteps.{Rests, rests_here, effects_sizes}
 use Rattle.avr_tool.proofs.OverFaultyLink.Sessions.{anyhow}
-use Rattle.avr_tool.proofs.OverFaultyLink.EachAction.{ComesAnyhow, AfterOne, fault_output, action_prints, operation_comes, opening_comes}
+use Rattle.avr_tool.proofs.OverFaultyLink.EachAction.{CallHasAnyOutcome, AfterAction, fault_output, action_prints, operation_comes, opening_comes}
 use Rattle.avr_tool.proofs.Hosts.Operations.{along_reported, closing_goes}
 use Rattle.avr_tool.proofs.Hosts.OneLink.{Spot, on_link}
 use Rattle.avr_tool.proofs.Hosts.Outputs.{Anything, Prints, any_outputs, stops, at_moment, prints_reported, prints_then, prints_wider}
@@ -49,11 +49,13 @@ Strikes part m items made d = (p : Programmer) (exchanges : List Exchange) → S
     → Makes part m items d made p exchanges
 
 module _ (part : Part) (sound : IsPart part) (s : Switches) where
+  -- The emulated programmer, as the proofs use it.
   abbrev real : Real part
   real = emulated part sound
 
+  -- An action makes some of its steps, and all of them if there is no fault.
   action_leads : (action : Action) (m : Memories) (p : Programmer) (exchanges : List Exchange)
-      → ItemsFit part (action_items action) → FitsPart part m → ComesAnyhow part sound real s action m p
+      → ItemsFit part (action_items action) → FitsPart part m → CallHasAnyOutcome part sound real s action m p
       → Leads device (action_dialog part s action) p exchanges (Rests real (steps_of_items part (action_items action))
       m) (λ at q. at ≡ NoFault → Settled part (effects part (action_items action) m) q)
   action_leads action m p exchanges fits f comes = record {
@@ -62,25 +64,32 @@ module _ (part : Part) (sound : IsPart part) (s : Switches) where
         let ended = ((at_moment device Anything (λ at emitted z x. x.0) k prints).after at e).1 in search rules;
   }
     where
+      -- The action with its output, whatever that is.
       prints : Prints device Anything (λ emitted z. Rests real (steps_of_items part (action_items action)) m z.0)
-          (AfterOne part real s (λ m z. Settled part m z.0) ⊤ action [] m) (action_dialog part s action) (p, exchanges)
+          (AfterAction part real s (λ m z. Settled part m z.0) ⊤ action [] m) (action_dialog part s action)
+          (p, exchanges)
       prints = prints_wider device Anything (λ emitted z x. x.0) (λ at emitted z x. x)
           (action_prints part sound real s Anything (λ fault q. any_outputs (fault_output part fault) q)
           (λ m z. Settled part m z.0) ⊤ (anyhow part sound real s) action [] m fits f (p, exchanges)
           (λ q is. any_outputs _ q) (on_link device comes))
 
+  -- An erase or a write makes its write operations.
   makes_written : (action : Action) (m : Memories) → FitsAction part action → FitsPart part m
       → action_steps part action ≡ steps_of_items part (action_items action)
-      → Strikes part m (action_items action) (action_completed part action) (action_dialog part s action)
+      → Strikes part m (action_items action) (steps_completed device (steps_of_items part (action_items action)))
+      (action_dialog part s action)
   makes_written action m fits f same p exchanges settled =
       let o = is_operation part s sound m f action fits in
-      subst (λ d. Makes part m (action_items action) d (action_completed part action) p exchanges)
+      subst (λ d. Makes part m (action_items action) d
+      (steps_completed device (steps_of_items part (action_items action))) p exchanges)
       (search (rules, dialog_is))
       (makes_items part sound m (action_items action) o.judge (outcome_output part s action) p exchanges
       (subst (AreSteps part) same o.are) settled)
 
+  -- So does any action but the opening; most make none.
   makes_action : (action : Action) (m : Memories) → FitsAction part action → FitsPart part m
-      → Strikes part m (action_items action) (action_completed part action) (action_dialog part s action)
+      → Strikes part m (action_items action) (steps_completed device (steps_of_items part (action_items action)))
+      (action_dialog part s action)
   makes_action EraseChip m fits f = makes_written EraseChip m fits f refl
   makes_action (WriteImage mem image) m fits f = search (rules, makes_written)
   makes_action action m fits f = λ p exchanges settled.
@@ -89,6 +98,7 @@ module _ (part : Part) (sound : IsPart part) (s : Switches) where
       (action_leads action m p exchanges tt f
       (operation_comes part sound real s action m fits f (all_work part sound (action_steps part action) m) p settled))
 
+  -- So do all actions in order.
   makes_each_action : (actions : List Action) (m : Memories) → AllFitActions part actions → FitsPart part m
       → Strikes part m (actions_items actions) (actions_completed part s actions) (actions_dialog part s actions)
   makes_each_action [] m fits f p exchanges settled =
@@ -106,9 +116,11 @@ module _ (part : Part) (sound : IsPart part) (s : Switches) where
 
   -- the end keeps the memories
   module _ (m : Memories) where
+    -- The memories stay as they are.
     abbrev Kept : Dialog OutputEvent Standing → Spot Programmer → Type 0
     Kept d z = Prints device Anything (λ emitted y. HasMemories part m y.0) (λ at emitted y. HasMemories part m y.0) d z
 
+    -- The closing keeps them.
     closing_keeps : (outcome_output : Result ⊤ HostFault → List OutputEvent) (z : Spot Programmer)
         → HasMemories part m z.0 → Kept (reported closing outcome_output) z
     closing_keeps outcome_output z i =
@@ -116,6 +128,7 @@ module _ (part : Part) (sound : IsPart part) (s : Switches) where
         (on_link device (closing_goes device (HasMemories part m) (leave_fits part m)
         z.0 i)) (λ y i. i) (λ r y x. (any_outputs (outcome_output r) y.0, x.0))
 
+    -- So does the end of a session.
     ending_keeps : (at : Standing) (z : Spot Programmer) → HasMemories part m z.0 → Kept (ending part s at) z
     ending_keeps NoFault z i = closing_keeps (closing_output s.quiet part) z i
     ending_keeps Faulty z i = prints_then device Anything (λ x y i. i) (closing_keeps (λ _. []) z i)
@@ -125,9 +138,11 @@ module _ (part : Part) (sound : IsPart part) (s : Switches) where
 module _ (plan : Plan) (sound : IsPart plan.part) (fitted : All (IsFitted plan.part) plan.tasks) (m : Memories)
     (f : FitsPart plan.part m) (p : Programmer) (exchanges : List Exchange)
     (idle : HasMemories plan.part m p) where
+  -- The actions of the plan.
   abbrev all_actions : Dialog OutputEvent Standing
   all_actions = actions_dialog plan.part plan.switches (actions plan)
 
+  -- They make the write operations of the plan.
   makes_actions : Makes plan.part m (items plan) all_actions (operations_completed plan) p exchanges
   makes_actions =
       let part = plan.part in
@@ -135,17 +150,19 @@ module _ (plan : Plan) (sound : IsPart plan.part) (fitted : All (IsFitted plan.p
       let opened = action_dialog part s OpenSession in
       let opens = action_leads part sound s OpenSession m p exchanges tt f
       (opening_comes part sound (emulated part sound) s m f (all_work part sound signature_steps m) p idle) in
-      makes_then part sound m [] (actions_items (work plan)) opened (actions_dialog part s (work plan)) none_completed
+      makes_then part sound m [] (actions_items (work plan)) opened (actions_dialog part s (work plan)) (λ k q fs. 0)
       (actions_completed part s (work plan)) p exchanges tt f
       opens (makes_none part sound m opened p exchanges (λ at q. at ≡ NoFault → Settled part m q) opens)
       (λ q fs there. makes_each_action part sound s (work plan) m (work_fits plan fitted) f q fs there)
 
+  -- Some first steps of the plan were made.
   abbrev At : ℕ → Programmer → Type 0
   At = Changed plan.part (items plan) m
 
+  -- The end makes no more.
   ends : (k : ℕ) (s : Standing) → (state_after device k all_actions p exchanges).dialog ≡ Done s
       → GoesOn device At (state_after device k all_actions p exchanges) (makes_actions.tally.count k)
-      (operations_completed plan (k - 1) p exchanges) (ending plan.part plan.switches s) none_completed
+      (operations_completed plan (k - 1) p exchanges) (ending plan.part plan.switches s) (λ l q fs. 0)
   ends k s e =
       let part = plan.part in
       let z = state_after device k all_actions p exchanges in
@@ -165,9 +182,9 @@ module _ (plan : Plan) (sound : IsPart plan.part) (fitted : All (IsFitted plan.p
   unfolding session
   session_makes =
       tallies_as device (session_dialog plan) _
-      (then_count device all_actions (operations_completed plan) (λ t. none_completed)) _ At _ p exchanges
+      (then_count device all_actions (operations_completed plan) (λ t l q fs. 0)) _ At _ p exchanges
       (λ k. (search rules))
       (λ k j changed. ap (λ z. memories_of z.programmer.chip) (along_reported device k (session_dialog plan) status_of p
       exchanges) ∙ (changed.stands.memories ∙ items_counted plan.part (items plan) j m))
       (tallies_bind device all_actions (ending plan.part plan.switches) (operations_completed plan)
-      (λ t. none_completed) At p exchanges makes_actions.tally (λ k s e. ends k s e))
+      (λ t l q fs. 0) At p exchanges makes_actions.tally (λ k s e. ends k s e))

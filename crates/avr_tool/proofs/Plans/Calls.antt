@@ -31,12 +31,14 @@ use Rattle.avr_tool.proofs.Plans.Fits.{FitsAction}
 use Rattle.avr_tool.specs.ExpectedRun.{Expected, reported_expected, action_expected}
 use Rattle.avr_tool.specs.Items.{action_items}
 
+-- The type of what the call of an action returns.
 abbrev pub Outcome : Action → Type 0
 Outcome OpenSession = List ℕ
 Outcome (SaveMemory mem format file) = List ℕ
 Outcome action = ⊤
 
 module _ (part : Part) where
+  -- What it returns over a perfect link.
   abbrev pub outcome_of : (action : Action) → Memories → Result (Outcome action) HostFault
   outcome_of OpenSession m = Ok part.signature
   outcome_of EraseChip m = Ok tt
@@ -46,6 +48,7 @@ module _ (part : Part) where
   outcome_of (SkipAction what) m = Ok tt
 
   module _ (s : Switches) where
+    -- The call.
     abbrev pub call_of : (action : Action) → Dialog ⊥ (Result (Outcome action) HostFault)
     call_of OpenSession = opening part.signature s.force
     call_of EraseChip = erasing
@@ -54,6 +57,7 @@ module _ (part : Part) where
     call_of (SaveMemory mem format file) = reading part mem
     call_of (SkipAction what) = Done (Ok tt)
 
+    -- The output about what it returned.
     abbrev pub outcome_output : (action : Action) → Result (Outcome action) HostFault → List OutputEvent
     outcome_output OpenSession = opening_output s.quiet part
     outcome_output EraseChip = erased_output s.quiet part
@@ -62,14 +66,17 @@ module _ (part : Part) where
     outcome_output (SaveMemory mem format file) = fault_line_or part (read_output s mem format file)
     outcome_output (SkipAction what) = fault_line_or part (λ _. skipped_output s.quiet what)
 
+    -- Call and output are the dialog of the action.
     pub dialog_is : (action : Action) → reported (call_of action) (outcome_output action) ≡ action_dialog part s action
     dialog_is OpenSession = refl
     dialog_is action = search rules
 
+    -- The expected run of an action, by its outcome.
     abbrev pub outcome_expected : Action → Memories → Expected
     outcome_expected action m =
         reported_expected (outcome_output action) (outcome_of action m) (effects part (action_items action) m)
 
+    -- That is the expected run of the action.
     pub expected_is : (action : Action) (m : Memories) → action_expected part s action m ≡ outcome_expected action m
     expected_is OpenSession m = refl
     expected_is action m = search rules
@@ -86,9 +93,11 @@ module _ (part : Part) where
       pub gives : judge (data_of_steps part (action_steps part action) m) ≡ outcome_of action m
 
     module _ (sound : IsPart part) (m : Memories) (f : FitsPart part m) where
+      -- Reading changes no memory.
       quiet : (mem : Mem) (count : ℕ) → memories_after_steps part count (read_steps part mem) m ≡ m
       quiet mem count = quiet_stays part count (read_steps part mem) m (read_quiet part mem)
 
+      -- Each action but the opening is an operation.
       pub is_operation : (action : Action) → FitsAction part action → IsOperation action m
       unfolding operation play
       is_operation OpenSession fits = absurd fits

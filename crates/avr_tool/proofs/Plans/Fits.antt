@@ -24,13 +24,16 @@ FitsAction part (WriteImage mem image) = IsFitted part (Write mem image)
 FitsAction part (CompareImage mem image) = IsFitted part (Verify mem image)
 FitsAction part action = ⊤
 
+-- Each of these actions fits.
 abbrev pub AllFitActions : Part → List Action → Type 0
 AllFitActions part actions = Each (FitsAction part) actions
 
 module _ (part : Part) where
+  -- The action of a task fits if its image does.
   task_fits : (s : Switches) (task : Task) → IsFitted part task → AllFitActions part (task_actions s task)
   task_fits s task fitted = search rules
 
+  -- So do those of all tasks.
   pub tasks_fit : (s : Switches) (tasks : List Task) → All (IsFitted part) tasks
       → AllFitActions part (tasks_actions s tasks)
   tasks_fit s [] fitted = tt
@@ -39,9 +42,11 @@ module _ (part : Part) where
       (task_fits s task (All-head (IsFitted part) task tasks fitted))
       (tasks_fit s tasks (All-tail (IsFitted part) task tasks fitted))
 
+  -- The items of an action that fits do.
   pub action_items_fit : (action : Action) → FitsAction part action → ItemsFit part (action_items action)
   action_items_fit action fits = search rules
 
+-- The actions of a plan after its opening fit.
 pub work_fits : (plan : Plan) → All (IsFitted plan.part) plan.tasks → AllFitActions plan.part (work plan)
 work_fits plan fitted =
     let part = plan.part in

@@ -6,6 +6,7 @@ use Rattle.stk_host.specs.Operations.{checked_by, difference_from, signature_che
 use Rattle.stk_emu.specs.Effect.{Image}
 use Rattle.stk_emu.specs.StepData.{HoldsImage}
 
+-- Without a difference the first byte is the wanted one, and the others have no difference.
 same_byte : (addr want found : ℕ) (image : Image) (bytes : List ℕ)
     → difference_from addr (Some want ∷ image) (found ∷ bytes) ≡ None
     → (found ≡ want) × (difference_from (addr + 1) image bytes ≡ None)

@@ -29,24 +29,29 @@ use Rattle.avr_tool.proofs.WriteOperations.OutsideMode.{in_mode_by_data, load_re
 use Rattle.avr_tool.proofs.WriteOperations.Items.{effect_sizes, flash_even}
 
 module _ {P : Type 0} (m : Device P) where
+  -- The data of a step of one command.
   joined_one : (c : Command) (p : P) (bytes : List ℕ) → reply_to m c p ≡ Data bytes
       → joined_reply m (c ∷ []) [] p ≡ Data bytes
   joined_one c p bytes e = ap (λ r. on_data r (λ b. Data b)) e
 
+  -- The data of a step of two commands, of which the first gives none.
   joined_two : (c d : Command) (p : P) (bytes : List ℕ) → reply_to m c p ≡ Data []
       → reply_to m d (m.after (body c) p) ≡ Data bytes → joined_reply m (c ∷ d ∷ []) [] p ≡ Data bytes
   joined_two c d p bytes e f = search rules
 
+-- In programming mode a command gets its own reply.
 in_mode_reply : (c : Command) (p : Programmer) (x y : programmer.Response) → p.mode ≡ true
     → reply_from_reading c (Replied (cond p.mode x y).0) ≡ reply_from_reading c (Replied x.0)
 in_mode_reply c p x y e = ap (λ (z : programmer.Response). reply_from_reading c (Replied z.0)) (cond-true p.mode x y e)
 
+-- The reply to a block of flash.
 flash_read_reply : (count : ℕ) (bytes : List ℕ) (p : Programmer) → p.mode ≡ true → 0 < count → count % 2 ≡ 0
     → count ≤ 256 → (flash_reads p.wide 0x20 p.address 0 count p.chip).0 ≡ bytes → length bytes ≡ count
     → reply_to device (read_flash_block count) p ≡ Data bytes
 flash_read_reply count bytes p mode some even few is len =
     search (rules, length-append, get_or-append_right, take-append-le, take_all, eq-eqb)
 
+-- The reply to a block of EEPROM.
 eeprom_read_reply : (count : ℕ) (bytes : List ℕ) (p : Programmer) → p.mode ≡ true → 0 < count → count ≤ 256
     → (eeprom_reads 0xA0 p.address 0 count p.chip).0 ≡ bytes → length bytes ≡ count
     → reply_to device (read_eeprom_block count) p ≡ Data bytes
@@ -54,10 +59,12 @@ eeprom_read_reply count bytes p mode some few is len =
     search (rules, length-append, get_or-append_right, take-append-le, take_all)
 
 module _ (part : Part) (sound : IsPart part) where
+  -- A block has as many bytes as asked for.
   block_length : (start count size : ℕ) (xs : List ℕ) → length xs ≡ size → start + count ≤ size
       → length (take count (drop start xs)) ≡ count
   block_length start count size xs long fits = let t = length-take count (drop start xs) in search (rules, length-drop)
 
+  -- A step that reads flash gives its bytes.
   flash_data : (start count : ℕ) (m : Memories) (p : Programmer) → IsBlock part Flash start count
       → AreWords start count → FitsPart part m → Ready part m p
       → joined_reply device (load_flash part start ∷ read_flash_block count ∷ []) [] p
@@ -80,6 +87,7 @@ module _ (part : Part) (sound : IsPart part) where
       (ap (reply_to device (read_flash_block count)) (flash_loaded_at part start p few)
       ∙ (search (rules, flash_read_reply, block_length, flash_address_back)))
 
+  -- A step that reads EEPROM gives its bytes.
   eeprom_data : (start count : ℕ) (m : Memories) (p : Programmer) → IsBlock part Eeprom start count → FitsPart part m
       → Ready part m p → joined_reply device (load_eeprom start ∷ read_eeprom_block count ∷ []) [] p
       ≡ Data (data_of_step part (load_eeprom start ∷ read_eeprom_block count ∷ []) m)
@@ -98,6 +106,7 @@ module _ (part : Part) (sound : IsPart part) where
       ∙ eeprom_read_reply count bytes q s.mode is_block.some is_block.few is
       (block_length start count part.eeprom_size m.eeprom f.eeprom inside))
 
+  -- Equal commands give the same data.
   as_written : (written commands : List Command) (m : Memories) (p : Programmer) → commands ≡ written
       → joined_reply device written [] p ≡ Data (data_of_step part written m)
       → joined_reply device commands [] p ≡ Data (data_of_step part commands m)
@@ -125,11 +134,13 @@ changed_sizes_by part [] m sound f = f
 changed_sizes_by part (item ∷ items) m sound f =
     changed_sizes_by part items (effect part item m) sound (effect_sizes part sound item m f)
 
+-- One step keeps the sizes.
 pub changed_sizes : (part : Part) (commands : List Command) (m : Memories) → IsPart part → FitsPart part m
     → FitsPart part (memories_after_step part commands m)
 changed_sizes part commands m sound f = changed_sizes_by part (write_operation_of commands) m sound f
 
 module _ (part : Part) (sound : IsPart part) where
+  -- A step doesn't change what it gives.
   pub data_stays : (commands : List Command) (m : Memories) → IsStep part commands
       → data_of_step part commands (memories_after_step part commands m) ≡ data_of_step part commands m
   data_stays commands m is = search rules
@@ -140,6 +151,7 @@ module _ (part : Part) (sound : IsPart part) where
       → got ≡ data_of_step part commands m
   data_of_attempt commands m got is f g = search (rules, from_either)
     where
+      -- The attempt began before the step was done, or after.
       from_either : (q : Programmer) → Settled part m q ⊎ Settled part (memories_after_step part commands m) q
           → joined_reply device commands [] q ≡ Data got
           → joined_reply device commands [] q ≡ Data (data_of_step part commands m)

@@ -17,9 +17,11 @@ use Rattle.stk_emu.specs.WriteOperations.{AreSteps}
 use Rattle.avr_tool.proofs.WriteOperations.Conditions.{play_climbs}
 use Rattle.avr_tool.proofs.WriteOperations.OutsideMode.{all_fit}
 
+-- A programmer with a sound chip has the memories of this chip.
 pub sound_idle : (p : Programmer) → IsSoundChip p.chip → HasMemories p.chip.part (memories_of p.chip) p
 sound_idle p sound = search rules
 
+-- The memories of a sound chip have the sizes of its part.
 pub sound_fits : (s : chip.ChipState) → IsSoundChip s → FitsPart s.part (memories_of s)
 sound_fits s sound = record { flash = sound.flash_size; eeprom = sound.eeprom_size; bytes = sound.flash }
 
@@ -28,6 +30,7 @@ pub are_some : (part : Part) (steps : List (List Command)) → AreSteps part ste
 are_some part [] are = tt
 are_some part (commands ∷ steps) are = search (rules, are_some part steps are.1)
 
+-- A run of steps from programming mode makes its steps in order.
 pub steps_climb : (part : Part) (steps : List (List Command)) (m : Memories) (k : ℕ) (before : List ℕ) (p : Programmer)
     (exchanges : List Exchange) → IsPart part → AreSteps part steps → Settled part m p
     → Climbs device (λ j. Settled part (memories_after_steps part j steps m)) k steps p exchanges

@@ -21,6 +21,7 @@ module _ (part : Part) (sound : IsPart part) where
   flash_read_keeps start count m p is_block words s =
       search (rules, flash_left (is_wide part) (start / 2) 0 count p.chip)
 
+  -- The same of a block of EEPROM.
   pub eeprom_read_keeps : (start count : ℕ) (m : Memories) (p : Programmer) → IsBlock part Eeprom start count
       → Ready part m p
       → Ready part m (device.after (body (read_eeprom_block count)) (device.after (body (load_eeprom start)) p))

@@ -12,17 +12,20 @@ use Rattle.stk_emu.specs.Effect.{Memories, memory_in}
 use Rattle.stk_emu.specs.Settled.{FitsPart}
 use Rattle.stk_emu.specs.StepData.{data_of_steps}
 
+-- A block and what follows it are the rest of the memory.
 block_join : (xs : List ℕ) (start size : ℕ) → length xs ≡ size
     → take (min 256 (size - start)) (drop start xs) ++ drop (start + 256) xs ≡ drop start xs
 block_join xs start size long =
     let left : size - start ≡ length (drop start xs) = ap (λ n. n - start) (sym long) ∙ sym (length-drop start xs) in
     rw (left, take_min 256 (drop start xs), ← drop-drop 256 start xs) (take-append-drop 256 (drop start xs))
 
+-- Three bytes, read one by one, are the three bytes.
 pub one_by_one : (xs : List ℕ) → length xs ≡ 3
     → take 1 (drop 0 xs) ++ (take 1 (drop 1 xs) ++ (take 1 (drop 2 xs) ++ [])) ≡ xs
 one_by_one xs e = grind (arith, common_steps)
 
 module _ (part : Part) (sound : IsPart part) (m : Memories) (f : FitsPart part m) where
+  -- The blocks of flash from a place on give the rest of flash.
   flash_blocks : (n k : ℕ) → n + k ≡ read_count part Flash
       → data_of_steps part (each_from (read_step part Flash) n k) m ≡ drop (n * 256) m.flash
   flash_blocks n zero e = let long = f.flash in sym (drop_all (n * 256) m.flash (omega (arith, e, long)))
@@ -33,6 +36,7 @@ module _ (part : Part) (sound : IsPart part) (m : Memories) (f : FitsPart part m
       let next : (n + 1) * 256 ≡ n * 256 + 256 = omega arith in
       search (rules, block_join, flash_blocks (n + 1) k (let g : n + 1 + k ≡ n + suc k = omega arith in g ∙ e))
 
+  -- The blocks of EEPROM from a place on give the rest of EEPROM.
   eeprom_blocks : (n k : ℕ) → n + k ≡ read_count part Eeprom
       → data_of_steps part (each_from (read_step part Eeprom) n k) m ≡ drop (n * 256) m.eeprom
   eeprom_blocks n zero e = let long = f.eeprom in sym (drop_all (n * 256) m.eeprom (omega (arith, e, long)))

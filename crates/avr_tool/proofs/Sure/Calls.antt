@@ -20,7 +20,7 @@ use Rattle.stk_emu.specs.StepData.{data_of_steps}
 use Rattle.stk_emu.specs.Settled.{HasMemories, Ready, FitsPart}
 use Rattle.stk_emu.specs.Exchange.{Exchange}
 use Rattle.avr_tool.proofs.Emulated.{all_work, emulated}
-use Rattle.avr_tool.proofs.OverFaultyLink.EachAction.{Comes, Passes, operation_comes, opening_comes}
+use Rattle.avr_tool.proofs.OverFaultyLink.EachAction.{CallHasOutcome, Passes, operation_comes, opening_comes}
 use Rattle.avr_tool.proofs.StepData.Comparisons.{signature_taken}
 use Rattle.avr_tool.proofs.Sure.Exchanges.{Brings, IsSure, brings_bind, brings_reported, brings_play}
 use Rattle.avr_tool.proofs.StepData.WholeMemories.{read_gives}
@@ -34,6 +34,7 @@ use Rattle.avr_tool.specs.Items.{action_items}
 
 module _ (Such : List Exchange → Type 0) (sure : IsSure Such) where
   module _ (part : Part) (sound : IsPart part) (m : Memories) (f : FitsPart part m) where
+    -- The call of an action brings its outcome.
     operation_brings : (s : Switches) (action : Action) → FitsAction part action
         → Brings Such (Ready part m) (call_of part s action) (outcome_of part action m)
         (Ready part (effects part (action_items action) m))
@@ -44,6 +45,7 @@ module _ (Such : List Exchange → Type 0) (sure : IsSure Such) where
         rw (← o.call_is, ← o.gives, ← o.all) (brings_reported Such (play steps []) (checked_by o.judge)
         (Ok (data_of_steps part steps m)) _ _ (brings_play part sound Such sure steps m [] o.are f))
 
+    -- SIGN_ON, ENTER and the reading of the signature bring the signature of the part.
     handshake_brings : Brings Such (HasMemories part m) host.handshake (Ok part.signature) (Ready part m)
     unfolding host.handshake
     handshake_brings =
@@ -57,6 +59,7 @@ module _ (Such : List Exchange → Type 0) (sure : IsSure Such) where
         (read_gives part sound m f Signature)
         (brings_play part sound Such sure signature_steps m [] (read_are_steps part sound Signature) f)))
 
+    -- The opening brings this signature, and accepts it.
     opening_brings : (force : Bool) → Brings Such (HasMemories part m) (host.opening part.signature force)
         (Ok part.signature) (Ready part m)
     unfolding host.opening
@@ -65,6 +68,7 @@ module _ (Such : List Exchange → Type 0) (sure : IsSure Such) where
         (signature_taken part.signature force) (brings_reported Such host.handshake
         (checked_by (signature_checked part.signature force)) (Ok part.signature) _ _ handshake_brings)
 
+  -- The closing succeeds.
   closing_brings : (part : Part) (m : Memories) → Brings Such (HasMemories part m) host.closing (Ok tt)
       (HasMemories part m)
   unfolding host.closing
@@ -78,6 +82,7 @@ module _ (Such : List Exchange → Type 0) (sure : IsSure Such) where
   abbrev pub AtSure : Part → Memories → Spot Programmer → Type 0
   AtSure part m z = Ready part m z.0 × Such z.1
 
+  -- No step of a session fails over such exchanges.
   pub no_failure : (part : Part) (sound : IsPart part) (s : Switches)
       → Passes part (emulated part sound) s (AtSure part) ⊥
   no_failure part sound s = record {
@@ -94,9 +99,10 @@ module _ (Such : List Exchange → Type 0) (sure : IsSure Such) where
         (closing_brings part m z i t.1));
   }
 
+  -- The opening of a session does not fail over such exchanges.
   pub opens_sure : (part : Part) (sound : IsPart part) (s : Switches) (m : Memories) (z : Spot Programmer)
       → FitsPart part m
-      → HasMemories part m z.0 → Such z.1 → Comes part (emulated part sound) s (AtSure part) ⊥ OpenSession m z
+      → HasMemories part m z.0 → Such z.1 → CallHasOutcome part (emulated part sound) s (AtSure part) ⊥ OpenSession m z
   opens_sure part sound s m z f idle few =
       wider (λ bytes y r. r) (λ e y x. x) (λ got y x. inl (x.1.0.0, (x.1.0.1, x.1.1)))
       (both device (on_link device (opening_comes part sound (emulated part sound) s m f

@@ -35,11 +35,13 @@ IsSure Such = (commands : List Command) (got : List ℕ) (Before After : Program
     → Brings Such Before (step commands) (Ok got) After
 
 module _ (Such : List Exchange → Type 0) where
+  -- Two dialogs in sequence bring what the second one brings.
   pub brings_bind : {A B : Type 0} (next : A → Dialog ⊥ B) (a : A) (b : B) (Before Between After : Programmer → Type 0)
       (d : Dialog ⊥ A) → Brings Such Before d a Between → Brings Such Between (next a) b After
       → Brings Such Before (d >>= next) b After
   brings_bind next a b Before Between After d first more z before such = search (rules, bind)
 
+  -- A result in another form is brought, too.
   pub brings_reported : {A B : Type 0} (d : Dialog ⊥ A) (report_line : A → B) (a : A) (Before After : Programmer
       → Type 0) → Brings Such Before d a After → Brings Such Before (d >>= (λ outcome. Done (report_line outcome)))
       (report_line a) After
@@ -48,6 +50,7 @@ module _ (Such : List Exchange → Type 0) where
 -- ---- the steps of a host
 
 module _ (part : Part) (sound : IsPart part) where
+  -- A step has at most two commands.
   pub step_short : (commands : List Command) → IsStep part commands → length commands ≤ 2
   step_short commands is = search rules
 
@@ -60,11 +63,13 @@ module _ (part : Part) (sound : IsPart part) where
       (changed_sizes part commands m sound f) t ∙ ap Data (data_stays part sound commands m is)
 
   module _ (Such : List Exchange → Type 0) (sure : IsSure Such) where
+    -- One step brings its data.
     pub brings_one : (commands : List Command) (m : Memories) → IsStep part commands → FitsPart part m
         → Brings Such (Ready part m) (step commands) (Ok (data_of_step part commands m))
         (Ready part (memories_after_step part commands m))
     brings_one commands m is f = search (rules, sure, step_ready, step_short, data_either)
 
+    -- A run of steps brings the data of all.
     pub brings_play : (steps : List (List Command)) (m : Memories) (before : List ℕ) → AreSteps part steps
         → FitsPart part m → Brings Such (Ready part m) (play steps before) (Ok (before ++ data_of_steps part steps m))
         (Ready part (memories_after_steps part (length steps) steps m))

@@ -19,23 +19,28 @@ use Rattle.avr_tool.proofs.Sure.Exchanges.{IsSure}
 
 -- ---- links that don't end, and over which the programmer never restarts
 
+-- The programmer doesn't restart.
 abbrev Stands : Execution → Type 0
 Stands (ThenRestarted execution) = ⊥
 Stands execution = Unit {0}
 
+-- The link doesn't end.
 abbrev GoesOn : OtherReading → Type 0
 GoesOn Ending = ⊥
 GoesOn instead = Unit {0}
 
+-- Neither happens at this exchange.
 abbrev pub IsSteady : Exchange → Type 0
 IsSteady AsIntended = Unit {0}
 IsSteady (Disturbed execution instead) = Stands execution × GoesOn instead
 IsSteady (ThenRestarts one_exchange) = ⊥
 
+-- Neither happens at any of these.
 abbrev pub AreSteady : List Exchange → Type 0
 AreSteady [] = Unit {0}
 AreSteady (one_exchange ∷ exchanges) = IsSteady one_exchange × AreSteady exchanges
 
+-- If neither happens at these exchanges, neither happens at the later ones.
 others_steady : (exchanges : List Exchange) → AreSteady exchanges → AreSteady (later_exchanges exchanges)
 others_steady exchanges s = search rules
 
@@ -49,13 +54,16 @@ on_steady After (Ask bytes go_on) z s h = search (rules, on_steady After (go_on 
 
 -- ---- good exchanges
 
+-- The later ones of good exchanges are good.
 others_good : (exchanges : List Exchange) → AllArriveRight exchanges → AllArriveRight (later_exchanges exchanges)
 others_good exchanges good = search rules
 
+-- At good exchanges nothing restarts or ends.
 good_steady : (exchanges : List Exchange) → AllArriveRight exchanges → AreSteady exchanges
 good_steady [] good = tt
 good_steady (one_exchange ∷ exchanges) good = search (rules, good_steady exchanges good.1)
 
+-- Equal replies have equal data.
 same_data : (a b : List ℕ) → Data a ≡ Data b → a ≡ b
 same_data a b e = cc
 
@@ -63,11 +71,13 @@ same_data a b e = cc
 abbrev Has : List ℕ → Dialog ⊥ Reply → Spot Programmer → Type 0
 Has got d z = Runs steady (λ y. ⊤) (λ reply y. (reply ≡ Data got) × AllArriveRight y.1) d z
 
+-- If the reply has data, the attempt goes on, and has its data.
 replied : (go_on : List ℕ → Dialog ⊥ Reply) (go : List ℕ → Reply) (got : List ℕ) (z : Spot Programmer) (reply : Reply)
     → ((bytes : List ℕ) → go bytes ≡ Data got → Has got (go_on bytes) z)
     → on_data reply go ≡ Data got → Has got (with_data go_on reply) z
 replied go_on go got z reply each has = search rules
 
+-- Such an attempt has its data.
 attempt_has : (commands : List Command) (before : List ℕ) (z : Spot Programmer) (got : List ℕ) → AllArriveRight z.1
     → joined_reply steady commands before z.0 ≡ Data got → Has got (attempt commands before) z
 unfolding attempt exchange
@@ -78,6 +88,7 @@ attempt_has (command ∷ commands) before z got good has =
 module _ (Before After : Programmer → Type 0) (commands : List Command) (got : List ℕ)
     (fits : IsRepeatable steady commands Before After)
     (has : (q : Programmer) → Before q ⊎ After q → joined_reply device commands [] q ≡ Data got) where
+  -- After a step: its data, and good exchanges to come.
   abbrev Whole : StepOutcome → Spot Programmer → Type 0
   Whole o z = ((o ≡ Ok got) × After z.0) × AllArriveRight z.1
 
@@ -86,11 +97,13 @@ module _ (Before After : Programmer → Type 0) (commands : List Command) (got :
   Begins zero z = ⊥
   Begins (suc more) z = Before z.0 × AllArriveRight z.1
 
+  -- After one attempt the step has its data.
   after_try : (more : ℕ) (reply : Reply) (y : Spot Programmer)
       → OnReply (λ q. Before q ⊎ After q) (AfterStep steady commands Before After fits) reply y.0
       × ((reply ≡ Data got) × AllArriveRight y.1) → OnReply (Begins more) Whole reply y
   after_try more reply y (stood, (is, good)) = search (rules, same_data)
 
+  -- Each step has its data.
   step_has : (z : Spot Programmer) → Before z.0 → AllArriveRight z.1 → Runs steady (λ y. ⊤) Whole (step commands) z
   step_has z before good =
       attempts (this_link steady) (λ bytes y. ⊤) commands Begins Whole
@@ -99,6 +112,7 @@ module _ (Before After : Programmer → Type 0) (commands : List Command) (got :
       (attempt_has commands [] y got begins.1 (joined_steady commands [] y.0 ∙ has y.0 (inl begins.0)))))
       (λ fault y none. absurd none) 4 NoAnswer z (before, good)
 
+-- Over good exchanges each step brings its data.
 pub good_sure : IsSure AllArriveRight
 good_sure commands got Before After fits short has z before good = record {
   holds = on_steady (λ o y. ((o ≡ Ok got) × After y.0) × AllArriveRight y.1) (step commands) z (good_steady z.1 good)

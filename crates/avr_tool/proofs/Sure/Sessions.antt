@@ -22,6 +22,7 @@ use Rattle.avr_tool.specs.Outcome.{IsExpectedRun}
 
 module _ (plan : Plan) (sound : IsPart plan.part) (fitted : All (IsFitted plan.part) plan.tasks)
     (Such : List Exchange → Type 0) (sure : IsSure Such) where
+  -- With a status the session is its expected run.
   pub session_ends : (m : Memories) (p : Programmer) (exchanges : List Exchange) → FitsPart plan.part m
       → HasMemories plan.part m p → Such exchanges → (k : ℕ) (status : ℕ)
       → (state_after device k (session plan) p exchanges).dialog ≡ Done status

@@ -10,6 +10,7 @@ use Rattle.avr_tool.proofs.Leads.{AllFit, AreSome, Climbs}
 use Rattle.avr_tool.specs.Completed.{step_count, steps_completed}
 use Rattle.avr_tool.proofs.Hosts.Attempts.{along_bind, along_next_dialog, step_stands, Stepped}
 
+-- Of no commands none are left.
 pub none_left : {E R P : Type 0} (m : Device P) (d : Dialog E R) (p : P) (exchanges : List Exchange)
     → (state_after m 0 d p exchanges).left ≡ 0
 none_left m (Done r) p exchanges = refl
@@ -48,6 +49,7 @@ module _ {P : Type 0} (m : Device P) where
     behind (suc left) k steps commands p exchanges bytes t e n c =
         search (rules, along_before k left (step commands) p exchanges (Ok bytes) e n)
 
+    -- A run has passed the conditions of its first step and those of its rest.
     climbs_from : (k : ℕ) (steps : List (List Command)) (commands : List Command) (p : P) (exchanges : List Exchange)
         (go_on : List ℕ → Dialog ⊥ StepOutcome) (d : Dialog ⊥ StepOutcome)
         → let s = state_after m (suc k) (step commands) p exchanges in
@@ -61,6 +63,7 @@ module _ {P : Type 0} (m : Device P) where
         search (rules, behind, stepped.whole)
     climbs_from k steps commands p exchanges go_on d e stepped rest = search rules
 
+    -- Before any command the first condition holds.
     none_asked : (command : Command) (commands : List Command) (steps : List (List Command)) (before : List ℕ) (p : P)
         (exchanges : List Exchange) → At 0 p → Climbs m At 0 ((command ∷ commands) ∷ steps) p exchanges
         (state_after m 0 (play ((command ∷ commands) ∷ steps) before) p exchanges)

@@ -19,6 +19,7 @@ use Rattle.avr_tool.proofs.WriteOperations.Conditions.{none_left, along_before}
 use Rattle.avr_tool.proofs.StepData.FirstSteps.{steps_climb}
 
 module _ {P : Type 0} (m : Device P) where
+  -- A dialog that makes no write operation counts 0.
   abbrev pub tallies_none : {E R : Type 0} (d : Dialog E R) (At : ℕ → P → Type 0) (p : P) (exchanges : List Exchange)
       → ((k : ℕ) → At 0 (state_after m k d p exchanges).programmer) → Tallies m d (λ k q fs. 0) At p exchanges
   tallies_none d At p exchanges at =
@@ -42,34 +43,42 @@ module _ {P : Type 0} (m : Device P) where
       (At : ℕ → P → Type 0) (p : P) (exchanges : List Exchange) (t : Tallies m d first At p exchanges)
       (follow : (k : ℕ) (a : A) → (state_after m k d p exchanges).dialog ≡ Done a
       → GoesOn m At (state_after m k d p exchanges) (t.count k) (first (k - 1) p exchanges) (next a) (more a)) where
+    -- The write operations of both dialogs, after `k` commands.
     abbrev total : (k : ℕ) (x : Dialog E A) → (state_after m k d p exchanges).dialog ≡ x → ℕ
     total k (Done a) e = t.count k + (follow k a e).rest.count (state_after m k d p exchanges).left
     total k x e = t.count k
 
+    -- The first count never exceeds the sum.
     with_more : (k : ℕ) (x : Dialog E A) → first k p exchanges ≤ with_next x (first k p exchanges)
         (λ a. more a (state_after m k d p exchanges).left (state_after m k d p exchanges).programmer
         (state_after m k d p exchanges).exchanges)
     with_more k x = search rules
 
+    -- The same, by where the first dialog is.
     first_below : (k : ℕ) → first k p exchanges ≤ then_count m d first more k p exchanges
     first_below k = with_more k (state_after m k d p exchanges).dialog
 
+    -- Without a command none was made.
     none_from : (x : Dialog E A) (e : (state_after m 0 d p exchanges).dialog ≡ x) → total 0 x e ≡ 0
     none_from x e = search (rules, none_left)
 
+    -- At least those completed were made.
     at_least_from : (k : ℕ) (x : Dialog E A) (e : (state_after m k d p exchanges).dialog ≡ x)
         → with_next x (first k p exchanges) (λ a. more a (state_after m k d p exchanges).left
         (state_after m k d p exchanges).programmer (state_after m k d p exchanges).exchanges) ≤ total k x e
     at_least_from k x e = search rules
 
+    -- The upper bound holds if the next dialog made none so far.
     quiet_most : (k n : ℕ) → n ≡ 0 → t.count k + n ≤ suc (then_count m d first more (k - 1) p exchanges)
     quiet_most k n e = let l = t.at_most k in let b = first_below (k - 1) in omega (arith, l, b, e)
 
+    -- The upper bound holds if those of the first dialog were completed before the last command.
     sharp_most : (k l : ℕ) (a : A) (e : (state_after m (suc k) d p exchanges).dialog ≡ Done a)
         → (state_after m (suc k) d p exchanges).left ≡ suc l → t.count (suc k) ≤ first (suc k - 1) p exchanges
         → total (suc k) (Done a) e ≤ suc (then_count m d first more (suc k - 1) p exchanges)
     sharp_most k l a e n exact = search (rules, along_before m k l d p exchanges a e n)
 
+    -- The upper bound holds once the first dialog is done.
     done_most : (k left : ℕ) (a : A) (e : (state_after m k d p exchanges).dialog ≡ Done a)
         → (state_after m k d p exchanges).left ≡ left
         → total k (Done a) e ≤ suc (then_count m d first more (k - 1) p exchanges)
@@ -80,10 +89,12 @@ module _ {P : Type 0} (m : Device P) where
       | inr quiet ↦ search (rules, quiet_most)
     ]
 
+    -- At most one more was made than was completed before the last command.
     at_most_from : (k : ℕ) (x : Dialog E A) (e : (state_after m k d p exchanges).dialog ≡ x)
         → total k x e ≤ suc (then_count m d first more (k - 1) p exchanges)
     at_most_from k x e = search (rules, done_most)
 
+    -- Two dialogs in sequence: their write operations add up.
     pub tallies_bind : Tallies m (d >>= next) (then_count m d first more) At p exchanges
     tallies_bind = record {
       count = λ k. total k (state_after m k d p exchanges).dialog refl;
@@ -101,6 +112,7 @@ module _ {P : Type 0} (m : Device P) where
       ≡ suc total
   all_on left exchanges q x go_on got rest total each e = search rules
 
+  -- If a run of steps gave data, all its steps were completed.
   pub steps_all : (steps : List (List Command)) (k : ℕ) (before : List ℕ) (p : P) (exchanges : List Exchange)
       (got : List ℕ) → (state_after m k (play steps before) p exchanges).dialog ≡ Done (Ok got)
       → steps_completed m steps k p exchanges ≡ length steps
@@ -116,6 +128,7 @@ module _ {P : Type 0} (m : Device P) where
 
 module _ (part : Part) (steps : List (List Command)) (m : Memories) (before : List ℕ) (p : Programmer)
     (exchanges : List Exchange) (sound : IsPart part) (are : AreSteps part steps) (s : Settled part m p) where
+  -- How far a run of steps has come, by stk_emu's programmer in programming mode.
   climbs : (k : ℕ) → Climbs device (λ j. Settled part (memories_after_steps part j steps m)) k steps p exchanges
       (state_after device k (play steps before) p exchanges)
   climbs k = steps_climb part steps m k before p exchanges sound are s

@@ -9,6 +9,7 @@ use Rattle.avr_part.specs.declared.part.Mem.TheVariants.{Eeprom, Lfuse, Hfuse, E
 use Rattle.stk_emu.specs.Effect.{Image, Memories, with_image, and_in, are_locked, write_effect, memory_in}
 use Rattle.stk_emu.proofs.Memories.LaidImages.{length-laid, length-and_in}
 
+-- Memories of one name are one memory.
 pub same_memory : (other mem : Mem) → bytes_eq (name_of other) (name_of mem) ≡ true → other ≡ mem
 same_memory other mem e = search rules
 
@@ -20,6 +21,7 @@ keeps_zeros Hfuse = false
 keeps_zeros Efuse = false
 keeps_zeros mem = true
 
+-- What a write makes of the bytes of a memory.
 abbrev pub laid : Bool → Image → List ℕ → List ℕ
 laid true image xs = and_in image xs
 laid false image xs = with_image image xs
@@ -35,6 +37,7 @@ is_barred mem locked = locked
 abbrev pub leaves_memory : Mem → Mem → Bool → Bool
 leaves_memory other mem locked = not (bytes_eq (name_of other) (name_of mem)) || is_barred mem locked
 
+-- A memory after a write: as before, or with the image laid over it.
 pub write_is : (part : Part) (other mem : Mem) (image : Image) (m : Memories)
     → memory_in part mem (write_effect other image m)
     ≡ (if leaves_memory other mem (are_locked m) then memory_in part mem m
@@ -46,6 +49,7 @@ pub size_stays : (part : Part) (other mem : Mem) (image : Image) (m : Memories)
     → length (memory_in part mem (write_effect other image m)) ≡ length (memory_in part mem m)
 size_stays part other mem image m = search (rules, length-and_in, length-laid)
 
+-- A write leaves memories of other names as they are.
 pub others_stay : (part : Part) (other mem : Mem) (image : Image) (m : Memories)
     → bytes_eq (name_of other) (name_of mem) ≡ false
     → memory_in part mem (write_effect other image m) ≡ memory_in part mem m

@@ -19,19 +19,23 @@ use Rattle.stk_emu.proofs.Memories.LaidImages.{get_and_in, length-and_in, in_par
 use Rattle.stk_emu.proofs.Memories.Pages.{page_even}
 use Rattle.avr_tool.proofs.WriteOperations.Places.{Written, Changed, changed_first, gap_first, all_anded, placed_before, placed_behind}
 
+-- The write operations of two lists of steps are those of both lists in order.
 pub write_operations_append : (xs ys : List (List Command)) → write_operations_of (xs ++ ys) ≡ write_operations_of xs
     ++ write_operations_of ys
 write_operations_append [] ys = refl
 write_operations_append (x ∷ xs) ys = search (rules, append_assoc, write_operations_append xs ys)
 
+-- Two lists of items have their effects one after the other.
 pub effects_on : (part : Part) (xs ys : List Item) (m : Memories)
     → effects part (xs ++ ys) m ≡ effects part ys (effects part xs m)
 effects_on part [] ys m = refl
 effects_on part (x ∷ xs) ys m = effects_on part xs ys (effect part x m)
 
+-- Each of these numbers is a byte.
 abbrev pub AllBelow : List ℕ → Type 0
 AllBelow xs = (i : ℕ) → i < length xs → get_or xs i 0 < 256
 
+-- Bytes that lose bits are bytes.
 pub below_and_in : (image : Image) (xs : List ℕ) → AllBelow xs → AllBelow (and_in image xs)
 below_and_in image xs below i l = search (rules, length-and_in, get_and_in, and_le_l)
 
@@ -40,12 +44,14 @@ none_any : (xs : List (Option ℕ)) (k : ℕ) → list_any is_some xs ≡ false 
 none_any (None ∷ xs) (suc k) e = none_any xs k e
 none_any xs k e = search rules
 
+-- A page that is left out has no byte of the image.
 unused_gap : (page : ℕ) (image : Image) (start : ℕ) → holds_any image start page ≡ false → (i : ℕ) → start ≤ i
     → i < start + page → byte_at image i ≡ None
 unused_gap page image start unused i from to =
     ap (byte_at image) (let e : i ≡ start + (i - start) = omega arith in e)
     ∙ (search (rules, get_or-drop, get_or-take, none_any))
 
+-- The write operation of one page changes its bytes alone.
 page_changed : (image : Image) (start page : ℕ) (old : List ℕ) → AllBelow old
     → Changed and_with image start (start + page) old (and_in (image_at start (filled_bytes image start page)) old)
 page_changed image start page old below =
@@ -58,6 +64,7 @@ module _ (part : Part) (sound : IsPart part) (image : Image) where
     pub is : effects part (write_operations_of steps) (record m { flash = old }) ≡ record m { flash = new }
     pub written : Written and_with image from old new
 
+  -- One page and then the others write the image from its place on.
   page_first : (n : ℕ) (others : List (List Command)) (m : Memories) (old : List ℕ) → are_locked m ≡ false
       → AllBelow old → n * part.flash_page < 4294967296
       → ((mid : List ℕ) → AllBelow mid → length mid ≡ length old → Flashed others m ((n + 1) * part.flash_page) mid)
@@ -86,6 +93,7 @@ module _ (part : Part) (sound : IsPart part) (image : Image) where
             record { new = r.new; is = search rules; written = grind (arith, gap_first, unused_gap) }
       ]
 
+  -- If the chip isn't locked, all pages from a place on write the image from there.
   pages_free : (n k : ℕ) (m : Memories) (old : List ℕ) → are_locked m ≡ false → AllBelow old
       → (n + k) * part.flash_page ≡ length old → length old ≤ 262144
       → Flashed (each_from (page_steps part image) n k) m (n * part.flash_page) old
@@ -98,9 +106,11 @@ module _ (part : Part) (sound : IsPart part) (image : Image) where
       (ap (λ j. j * part.flash_page) (let e : n + 1 + k ≡ n + suc k = omega arith in e) ∙ (long ∙ sym same))
       (omega (arith, same, most)))
     where
+      -- Fewer pages have fewer bytes.
       less : (a b page : ℕ) → a ≤ b → a * page ≤ b * page
       less a b page le = mul-le-mul_right page le
 
+  -- The pages change nothing in a locked chip.
   pages_locked : (n k : ℕ) (m : Memories) → are_locked m ≡ true → (n + k) * part.flash_page ≤ 262144
       → effects part (write_operations_of (each_from (page_steps part image) n k)) m ≡ m
   pages_locked n zero m lock most = refl

@@ -17,6 +17,7 @@ use Rattle.stk_emu.specs.WriteOperations.{image_at, write_operations_of}
 use Rattle.stk_emu.proofs.Memories.LaidImages.{get_laid, length-laid, in_part, some_at}
 use Rattle.avr_tool.proofs.WriteOperations.Places.{Written, Changed, changed_first, gap_first, all_laid, placed_before, placed_behind}
 
+-- The write operation of one run changes its bytes alone.
 run_changed : (image : Image) (start end : ℕ) (old : List ℕ) → start ≤ end
     → ((k : ℕ) → start ≤ k → k < end → is_some (byte_at image k) ≡ true)
     → Changed (λ b x. unwrap_or b x) image start end old
@@ -31,6 +32,7 @@ module _ (part : Part) (sound : IsPart part) (image : Image) where
     pub is : effects part (write_operations_of steps) (record m { eeprom = old }) ≡ record m { eeprom = new }
     pub written : Written (λ b x. unwrap_or b x) image from old new
 
+  -- One run and then the others write the image from its place on.
   run_first : (next start end : ℕ) (steps others : List (List Command)) (m : Memories) (old : List ℕ)
       → are_locked m ≡ false → IsNextHeld image next start → start ≤ end
       → end ≡ run_end image start (page_end part.eeprom_page start)
@@ -50,6 +52,7 @@ module _ (part : Part) (sound : IsPart part) (image : Image) where
   abbrev From : ℕ → Memories → List ℕ → Type 0
   From next m old = Loaded (each_from (run_steps_at part image) next (part.eeprom_size - next)) m next old
 
+  -- All runs from a place on write the image from there, whether one is left or not.
   runs_from : (next : ℕ) (o : Option ℕ) (m : Memories) (old : List ℕ) → are_locked m ≡ false
       → length image ≤ part.eeprom_size → (next % part.eeprom_page ≡ 0) ⊎ (byte_at image next ≡ None)
       → first_from image next ≡ o → ((end : ℕ) (mid : List ℕ) → next < end → next < part.eeprom_size
@@ -77,6 +80,7 @@ module _ (part : Part) (sound : IsPart part) (image : Image) where
       found.steps
       (λ mid same. others end mid found.longer (omega (arith, first.after, first.within, fits)) found.border)
 
+  -- If the chip isn't locked, all runs from a place on write the image from there.
   runs_free : (fuel next : ℕ) (m : Memories) (old : List ℕ) → are_locked m ≡ false → length image ≤ part.eeprom_size
       → part.eeprom_size ≤ next + fuel → (next % part.eeprom_page ≡ 0) ⊎ (byte_at image next ≡ None) → From next m old
   runs_free zero next m old free fits enough border = search (rules, runs_from)
@@ -84,6 +88,7 @@ module _ (part : Part) (sound : IsPart part) (image : Image) where
       runs_from next (first_from image next) m old free fits border refl
       (λ end mid longer inside b. runs_free fuel end m mid free fits (omega (arith, longer, enough)) b)
 
+  -- The runs change nothing in a locked chip.
   runs_locked : (addr count : ℕ) (m : Memories) → are_locked m ≡ true
       → effects part (write_operations_of (each_from (run_steps_at part image) addr count)) m ≡ m
   runs_locked addr zero m lock = refl

@@ -1,9 +1,10 @@
+-- The clauses of `load_chip`, at each exit where no search finds the proof.
 use Rattle.std.proofs.Common.{refl, true, rules}
 use Rattle.avr_desk.specs.StageRuns.{OnlyAtStart}
 use Rattle.avr_desk.specs.declared.record.Opening.TheVariants.{Absent}
 use Rattle.avr_desk.proofs.Stages.Openings.{breaks_as, runs_open, runs_until_break}
 use Rattle.avr_tool.specs.Loading.{AtOpened, chip_given}
-use Rattle.avr_tool.proofs.Chips.{opened_at, goes_ended, goes_past}
+use Rattle.avr_tool.proofs.Chips.{opened_at, ended_file_checked, long_file_refused}
 use Rattle.avr_tool.proofs.chip_files.load_chip.Goals as goal
 
 pub returns-in-Absent-clause-goes : goal.returns-in-Absent-clause-goes
@@ -22,9 +23,9 @@ returns-in_default-clause-goes g c =
 pub returns-then-not-contents-clause-goes : goal.returns-then-not-contents-clause-goes
 returns-then-not-contents-clause-goes g c =
     let notice = rw c.too_long_message.ensures at c.refuse-then-not-contents.ensures.notice in
-    search (rules, goes_past, c.in-Ok.ensures.kept, c.in-Ok.ensures.whole, c.in-Ok.ensures.counts.1)
+    search (rules, long_file_refused, c.in-Ok.ensures.kept, c.in-Ok.ensures.whole, c.in-Ok.ensures.counts.1)
 
 pub returns-clause-goes : goal.returns-clause-goes
 returns-clause-goes g c =
     let goes = rw c.as_slice.ensures at c.chip_of.ensures.goes in
-    search (rules, goes_ended, c.in-Ok.ensures.kept, c.in-Ok.ensures.whole, c.in-Ok.ensures.counts.1)
+    search (rules, ended_file_checked, c.in-Ok.ensures.kept, c.in-Ok.ensures.whole, c.in-Ok.ensures.counts.1)

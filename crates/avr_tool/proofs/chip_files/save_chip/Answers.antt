@@ -1,3 +1,4 @@
+-- The clauses of `save_chip`, at each exit where no search finds the proof.
 use Rattle.std.proofs.Common.{◌≡◌, ℕ, Err, rules}
 use Rattle.std.specs.Prelude.{⊤}
 use Rattle.avr_desk.specs.Fault.{CountsFailure}

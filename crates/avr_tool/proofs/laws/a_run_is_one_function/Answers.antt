@@ -1,3 +1,4 @@
+-- The clauses of `a_run_is_one_function`, at each exit where no search finds the proof.
 use Rattle.avr_tool.proofs.Runs.Joined.{is_run, session_is_run}
 use Rattle.avr_tool.proofs.laws.a_run_is_one_function.Goals as goal
 

@@ -1,3 +1,4 @@
+-- The clauses of `a_session_over_a_wire`, at each exit where no search finds the proof.
 use Rattle.avr_tool.proofs.WirePlays.{over_any_line}
 use Rattle.avr_tool.proofs.laws.a_session_over_a_wire.Goals as goal
 

@@ -1,3 +1,4 @@
+-- The clauses of `a_stop_is_a_prefix`, at each exit where no search finds the proof.
 use Rattle.avr_tool.proofs.Runs.Joined.{stop_prefix, one_status}
 use Rattle.avr_tool.proofs.laws.a_stop_is_a_prefix.Goals as goal
 

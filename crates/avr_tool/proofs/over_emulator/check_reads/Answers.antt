@@ -1,3 +1,4 @@
+-- The clauses of `check_reads`, at each exit where no search finds the proof.
 use Rattle.std.proofs.lemmas.Result.{err_from_is_err_and}
 use Rattle.avr_tool.proofs.Emulating.{read_refused}
 use Rattle.avr_tool.proofs.over_emulator.check_reads.Goals as goal

@@ -1,3 +1,4 @@
+-- What holds at each round of the loop in `check_reads`.
 use Rattle.std.proofs.Common.{◌≡◌}
 use Rattle.ghosts.specs.Preserves.{Preserves}
 use Rattle.avr_tool.proofs.over_emulator.check_reads.Given as goal

@@ -1,3 +1,4 @@
+-- The clauses of `drive_wired`, at each exit where no search finds the proof.
 use Rattle.std.proofs.Common.{rules}
 use Rattle.avr_tool.proofs.WirePlays.{over_any_line}
 use Rattle.avr_tool.proofs.over_emulator.drive_wired.Goals as goal

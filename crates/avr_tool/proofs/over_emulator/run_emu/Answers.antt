@@ -1,3 +1,4 @@
+-- The clauses of `run_emu`, at each exit where no search finds the proof.
 use Rattle.std.proofs.Common.{inl, inr, rules}
 use Rattle.avr_tool.proofs.Emulating.{runs_over_emulator}
 use Rattle.avr_tool.proofs.over_emulator.run_emu.Goals as goal

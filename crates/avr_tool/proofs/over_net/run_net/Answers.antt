@@ -1,3 +1,4 @@
+-- The clauses of `run_net`, at each exit where no search finds the proof.
 use Rattle.std.proofs.Common.{inl, inr, rules}
 use Rattle.stk_host.proofs.Transcripts.Streams.{true_now}
 use Rattle.avr_tool.proofs.over_net.run_net.Goals as goal

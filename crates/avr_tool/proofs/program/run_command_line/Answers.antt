@@ -1,3 +1,4 @@
+-- The clauses of `run_command_line`, at each exit where no search finds the proof.
 use Rattle.std.proofs.Common.{inl}
 use Rattle.avr_desk.proofs.Desks.TwoWriters.{reported_all, true_now}
 use Rattle.stk_host.proofs.Transcripts.Streams.{true_now as true_link}

@@ -1,3 +1,4 @@
+-- The clauses of `run_port`, at each exit where no search finds the proof.
 use Rattle.std.proofs.Common.{refl}
 use Rattle.stk_host.proofs.Transcripts.Streams.{true_now}
 use Rattle.avr_tool.proofs.program.run_port.Goals as goal

@@ -1,3 +1,4 @@
+-- The clauses of `run`, at each exit where no search finds the proof.
 use Rattle.std.proofs.Common.{inl, inr, refl, rules}
 use Rattle.avr_tool.proofs.Runs.Joined.{is_run}
 use Rattle.avr_tool.proofs.running.run.Goals as goal

@@ -1,3 +1,4 @@
+-- The clauses of `run_wired`, at each exit where no search finds the proof.
 use Rattle.std.proofs.Common.{inr, rules}
 use Rattle.avr_tool.proofs.running.run_wired.Goals as goal
 

@@ -1,3 +1,4 @@
+-- The clauses of `check_part`, at each exit where no search finds the proof.
 use Rattle.std.proofs.Common.{rules}
 use Rattle.avr_tool.proofs.served_run.check_part.Goals as goal
 

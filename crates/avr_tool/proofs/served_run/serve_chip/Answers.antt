@@ -1,3 +1,4 @@
+-- The clauses of `serve_chip`, at each exit where no search finds the proof.
 use Rattle.std.proofs.Common.{[]}
 use Rattle.stk_emu.specs.Programmer.{fresh_programmer}
 use Rattle.avr_tool.proofs.ServedRuns.{is_fresh}

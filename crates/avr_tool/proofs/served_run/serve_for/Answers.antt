@@ -1,3 +1,4 @@
+-- The clauses of `serve_for`, at each exit where no search finds the proof.
 use Rattle.std.proofs.Common.{inl}
 use Rattle.avr_tool.proofs.served_run.serve_for.Goals as goal
 

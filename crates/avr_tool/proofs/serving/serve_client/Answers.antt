@@ -1,3 +1,4 @@
+-- The clauses of `serve_client`, at each exit where no search finds the proof.
 use Rattle.std.proofs.Common.{inl, rules}
 use Rattle.stk_host.proofs.Transcripts.Streams.{true_now}
 use Rattle.avr_tool.proofs.serving.serve_client.Goals as goal

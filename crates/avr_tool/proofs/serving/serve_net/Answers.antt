@@ -1,3 +1,4 @@
+-- The clauses of `serve_net`, at each exit where no search finds the proof.
 use Rattle.std.proofs.Common.{inl}
 use Rattle.avr_tool.proofs.serving.serve_net.Goals as goal
 

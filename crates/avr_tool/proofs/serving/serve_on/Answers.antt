@@ -1,3 +1,4 @@
+-- The clauses of `serve_on`, at each exit where no search finds the proof.
 use Rattle.std.proofs.Common.{inl}
 use Rattle.avr_tool.proofs.serving.serve_on.Goals as goal
 

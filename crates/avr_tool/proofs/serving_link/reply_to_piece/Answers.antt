@@ -1,3 +1,4 @@
+-- The clauses of `reply_to_piece`, at each exit where no search finds the proof.
 use Rattle.std.proofs.Common.{rules}
 use Rattle.std.proofs.lemmas.List.{take_rest}
 use Rattle.std.proofs.lemmas.Result.{err_from_is_err_and}

@@ -1,3 +1,4 @@
+-- What holds at each round of the loop in `reply_to_piece`.
 use Rattle.std.proofs.Common.{length, take, ◌-◌, ◌≤◌, ◌≡◌}
 use Rattle.ghosts.specs.Preserves.{Preserves}
 use Rattle.avr_tool.specs.Replying.{SendsAllReplies}

@@ -1,3 +1,4 @@
+-- The clauses of `serve_link`, at each exit where no search finds the proof.
 use Rattle.std.proofs.Common.{◌+◌, ◌≤◌, arith, rules}
 use Rattle.avr_tool.specs.declared.serving_link.Served.TheVariants.{Ended}
 use Rattle.avr_tool.specs.Serving.{Serves}

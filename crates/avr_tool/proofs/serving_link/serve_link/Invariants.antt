@@ -1,3 +1,4 @@
+-- What holds at each round of the loop in `serve_link`.
 use Rattle.std.proofs.Common.{◌≡◌}
 use Rattle.ghosts.specs.Preserves.{Preserves}
 use Rattle.avr_tool.specs.declared.serving_link.Served.TheVariants.{TooManyReads}

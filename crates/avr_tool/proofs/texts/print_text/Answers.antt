@@ -1,3 +1,4 @@
+-- The clauses of `print_text`, at each exit where no search finds the proof.
 use Rattle.std.proofs.Common.{rules}
 use Rattle.std.proofs.lemmas.Result.{err_from_is_err_and}
 use Rattle.avr_tool.proofs.Printed.{printed_more, printed_part}

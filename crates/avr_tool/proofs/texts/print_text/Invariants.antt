@@ -1,3 +1,4 @@
+-- What holds at each round of the loop in `print_text`.
 use Rattle.ghosts.specs.Preserves.{Preserves}
 use Rattle.avr_tool.proofs.Printed.{HasPrinted}
 use Rattle.avr_tool.proofs.texts.print_text.Given as goal

@@ -1,3 +1,4 @@
+-- The clauses of `report`, at each exit where no search finds the proof.
 use Rattle.std.proofs.Common.{rules}
 use Rattle.avr_tool.proofs.Printed.{reported_by, partly_reported}
 use Rattle.avr_tool.proofs.texts.report.Goals as goal

@@ -1,3 +1,4 @@
+-- The clauses of `Unlocked::replace`, at each exit where no search finds the proof.
 use Rattle.std.proofs.Common.{inr, rules}
 use Rattle.avr_tool.proofs.Reopened.{replaced_kept, tried_kept, writes_whole, writes_part}
 use Rattle.avr_tool.proofs.unlocked.UnlockedChipDesk.replace.Goals as goal

@@ -1,3 +1,4 @@
+-- The clauses of `Unlocked::create`, at each exit where no search finds the proof.
 use Rattle.avr_tool.proofs.Reopened.{created_kept}
 use Rattle.avr_tool.proofs.unlocked.UnlockedDesk.create.Goals as goal
 

@@ -1,3 +1,4 @@
+-- The clauses of `Unlocked::read`, at each exit where no search finds the proof.
 use Rattle.std.proofs.Common.{rules}
 use Rattle.avr_tool.proofs.Reopened.{read_kept, reads_kept}
 use Rattle.avr_tool.proofs.unlocked.UnlockedDesk.read.Goals as goal

@@ -1,3 +1,4 @@
+-- The clauses of `Unlocked::write`, at each exit where no search finds the proof.
 use Rattle.std.proofs.Common.{rules}
 use Rattle.avr_tool.proofs.Reopened.{sends_kept, writes_kept}
 use Rattle.avr_tool.proofs.unlocked.UnlockedDesk.write.Goals as goal
