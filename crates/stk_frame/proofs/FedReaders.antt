@@ -12,6 +12,7 @@ use Rattle.stk_frame.specs.Cut.{cut, rest, piece_size, has_piece, is_frame, IsPi
 use Rattle.stk_frame.specs.Reader.{Fed}
 use Rattle.stk_frame.proofs.Cuts.{cut_append, rest_append, cut_piece, rest_piece, cut_none, rest_none}
 
+-- The test for a whole piece refuses a part of one.
 part_is : (h : List ℕ) → length h < piece_size h → has_piece h ≡ false
 part_is h part = lt-leb (piece_size h) (length h) part
 
@@ -19,6 +20,7 @@ part_is h part = lt-leb (piece_size h) (length h) part
 pub rest_whole : (h : List ℕ) → IsPiece h → rest h ≡ []
 rest_whole h whole = search (rules, rest_piece, drop_all, le-leb)
 
+-- A whole piece is cut as itself.
 pub cut_whole : (h : List ℕ) → IsPiece h → cut h ≡ h ∷ []
 cut_whole h whole = search (rules, cut_piece, le-leb, take_all, drop_all)
 
@@ -27,6 +29,7 @@ fed_from : (h u held new : List ℕ) (skipped found : List (List ℕ)) → lengt
     → filter is_frame skipped ≡ [] → cut held ≡ skipped ++ found → rest held ≡ rest new → Fed h u new found
 fed_from h u held new skipped found part is none p r = search (rules, cut_append, rest_none, part_is, rest_append)
 
+-- Bytes that end in no frame, and then others, are fed as both joined.
 pub fed_on : (a x b y c : List ℕ) (found : List (List ℕ)) → Fed a x b [] → Fed b y c found → Fed a (x ++ y) c found
 fed_on a x b y c found f g = record {
   skipped = f.skipped ++ g.skipped;
@@ -73,10 +76,12 @@ pub fed_up_to : (bytes : List ℕ) (place : Option ℕ) → IsFirstByte (is_byte
     → Fed [] (take (unwrap_or place (length bytes)) bytes) [] []
 fed_up_to bytes place none = search (rules, fed_noise)
 
+-- Bytes taken from a part of a piece end inside the piece.
 pub within_span : (piece : List ℕ) (used taken : ℕ) → used ≤ length piece
     → taken ≤ length (take (length piece - used) (drop used piece)) → used + taken ≤ length piece
 within_span piece used taken within few = search (rules, length-drop)
 
+-- Two parts of a piece that are fed one after the other are fed as one.
 pub fed_span : (a b c piece : List ℕ) (used taken : ℕ) (found : List (List ℕ)) → Fed a (take used piece) b []
     → Fed b (take taken (take (length piece - used) (drop used piece))) c found
     → Fed a (take (used + taken) piece) c found

@@ -31,6 +31,7 @@ place_in address page k whole some within few =
     let split : address + k ≡ address / page * page + (address % page + k) = search rules in
     search (rules, mod-eq_of_lt, mod-mod_of_dvd, dvd_of_mod-eq-zero, mod-mul-add)
 
+-- All bytes of a run are loaded, one after the other.
 eeprom_loaded : (a i off page : ℕ) (ds : List ℕ) (s : chip.ChipState) → s.part.eeprom_page ≡ page
     → ((k : ℕ) → k < length ds → byte_address a (i + k) % 256 % page ≡ off + k)
     → after_instructions (eeprom_loads 0xC1 a i ds) s ≡ record s { eeprom_buffer = put Some off ds s.eeprom_buffer }
@@ -59,6 +60,7 @@ module _ (part : Part) (sound : IsPart part) where
       search (rules, eeprom_loaded, place_in) in
       search (rules, mod-eq_of_lt, run_laid, length_put, length-replicate, sent-append)
 
+  -- The step of a run does what writing the run's image does to the memories.
   pub run_does : (a : ℕ) (run : List ℕ) (m : Memories) (p : Programmer) → FitsEepromPage part a run → Ready part m p
       → Ready part (memories_after_step part (LoadAddress a ∷ program_eeprom_block run ∷ []) m)
       (device.after (body (program_eeprom_block run)) (device.after (body (LoadAddress a)) p))

@@ -32,6 +32,7 @@ pub record Listening (seq : ℕ) (unread : List ℕ) (old : LinkState) (held : L
   pub waits : WaitsFrom seq (on_tape unread) during
   pub all_received : on_tape unread ++ got_in during ≡ on_tape (text ++ left)
 
+-- Listening begins with no byte read.
 pub begins : (seq : ℕ) (u : List ℕ) (o : LinkState) → length u ≤ reply_byte_limit → Listening seq u o [] 0 u o
 begins seq u o few = record {
   text = [];
@@ -68,9 +69,11 @@ module _ {seq : ℕ} {u : List ℕ} {o : LinkState} where
   -- if nothing is left unread, and a piece is received
   module _ {held : List ℕ} {count : ℕ} {left : List ℕ} {p : LinkState} (of_left : Listening seq u o held count left p)
       (none : length left ≡ 0) (few : count < reply_byte_limit) where
+    -- The same with the empty list for what is left.
     l : Listening seq u o held count [] p
     l = subst (λ bs. Listening seq u o held count bs p) (nil_from_length left none) of_left
 
+    -- What was received is the text that was read.
     text_received : on_tape u ++ got_in l.during ≡ on_tape l.text
     text_received = l.all_received ∙ ap on_tape (append-nil l.text)
 
@@ -78,9 +81,11 @@ module _ {seq : ℕ} {u : List ℕ} {o : LinkState} where
     not_yet : answer seq (on_tape u ++ got_in l.during) ≡ None
     not_yet = ap (answer seq) text_received ∙ reading_waits seq l.text l.no_reply (omega (arith, l.counted))
 
+    -- One more piece may be received, because the reply isn't there yet.
     waits_more : (items : Tape) → WaitsFrom seq (on_tape u) (l.during ++ Got items ∷ [])
     waits_more items = waits_append seq (on_tape u) l.during (Got items ∷ []) l.waits (not_yet, tt)
 
+    -- After received bytes listening goes on with these.
     pub received_bytes : {q : LinkState} {what : Heard} {n : ℕ} {new : List ℕ} → count + length new ≤ reply_byte_limit
         → what ≡ heard.Bytes n → ReceivesPiece what new p q → Listening seq u o held count new q
     received_bytes {q = q} {new = new} most is piece =
@@ -99,12 +104,14 @@ module _ {seq : ℕ} {u : List ℕ} {o : LinkState} where
       reading_is = search (rules, got_both, l, append_assoc, text_received);
     })
 
+    -- After a timeout listening ends with it.
     pub received_silence : {q : LinkState} {what : Heard} {new : List ℕ} → what ≡ heard.Silence
         → ReceivesPiece what new p q → ReceivesReply seq u o q Silent new
     received_silence is piece =
         stops Silence Silent (rw is at piece)
         (λ more. reading_silent seq l.text more l.no_reply (omega (arith, l.counted)))
 
+    -- After the end of the link listening ends with it.
     pub received_end : {q : LinkState} {what : Heard} {new : List ℕ} → what ≡ heard.End → ReceivesPiece what new p q
         → ReceivesReply seq u o q Ended new
     received_end is piece =
@@ -115,6 +122,7 @@ module _ {seq : ℕ} {u : List ℕ} {o : LinkState} where
     pub receives_none : {q : LinkState} → Grows p.transcript [] q.transcript → ReceivesNoReply seq u o q
     receives_none {q = q} g = grind (arith, common_steps, not_yet)
 
+  -- After bytes that bring no reply listening goes on.
   pub reads_on : {held : List ℕ} {count : ℕ} {left : List ℕ} {p : LinkState} (n : ℕ) (new_left new : List ℕ)
       (what : Event) → Listening seq u o held count left p → ReadOn left new_left n held new what
       → first_reply seq (frames_of_event what new) ≡ None → Listening seq u o new (count + n) new_left p
@@ -133,6 +141,7 @@ module _ {seq : ℕ} {u : List ℕ} {o : LinkState} where
     reading_is = search (rules, append_assoc, on_tape_append);
   }
 
+  -- If the bytes used end with the reply, listening ends with it.
   finds_in : {held : List ℕ} {count : ℕ} {p : LinkState} (used left new : List ℕ)
       → Listening seq u o held count (used ++ left) p → Fed held used new (new ∷ []) → HoldsFrame new
       → is_reply seq new ≡ true → count + length used ≤ reply_byte_limit
@@ -144,6 +153,7 @@ module _ {seq : ℕ} {u : List ℕ} {o : LinkState} where
       (l.all_received ∙ ap on_tape (sym (append_assoc l.text used left)))
       (λ more. search (rules, reading_found, now_found))
 
+  -- The same, by the event that the reader reported.
   pub finds : {held : List ℕ} {count : ℕ} {left : List ℕ} {p : LinkState} (n : ℕ) (new_left new : List ℕ) (what : Event)
       → Listening seq u o held count left p → ReadOn left new_left n held new what
       → (what ≡ event.Frame) × HoldsFrame new × (is_reply seq new ≡ true) → count + n ≤ reply_byte_limit
@@ -151,6 +161,7 @@ module _ {seq : ℕ} {u : List ℕ} {o : LinkState} where
   finds n new_left new what l read is few =
       finds_in read.0 new_left new (rw read.2 at l) (rw is.0 at read.3) is.1 is.2 (omega (arith, read.1))
 
+  -- If the limit is reached, listening ends.
   pub babbles : {held : List ℕ} {count : ℕ} {left : List ℕ} {p : LinkState}
       → Listening seq u o held count left p → count ≡ reply_byte_limit → ReceivesReply seq u o p Babbled left
   babbles {left = left} l full = grind (arith, common_steps, reading_babbled)

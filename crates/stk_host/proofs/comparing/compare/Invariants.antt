@@ -4,6 +4,6 @@ use Rattle.stk_host.proofs.comparing.compare.Given as goal
 
 abbrev pub invariant-loop-addr : goal.invariant-loop-addr
 invariant-loop-addr l = record {
-  whole : among l.addr-iterator l.found ≡ among l.initial.addr-iterator l.found;
+  whole : among l.mem l.addr-iterator l.found ≡ among l.mem l.initial.addr-iterator l.found;
   inside : EndBy (length l.found) l.addr-iterator;
 }

@@ -8,7 +8,7 @@ pub returns-then-eq : goal.returns-then-eq
 returns-then-eq c =
     let same : c.args.run.now ≡ take (length c.args.run.now) c.args.bytes.now =
     (slice_eq-Decides Decides-eqb _ _ _ c.eq.ensures).0 c.if-eq.true in
-    search (rules, same_run c.args.addr c.args.run.now c.args.bytes.now same)
+    search (rules, same_run c.args.mem c.args.addr c.args.run.now c.args.bytes.now same)
 
 pub loop-i-preserved : goal.loop-i-preserved
 loop-i-preserved c = search (rules, eq-eqb, run_goes_on)

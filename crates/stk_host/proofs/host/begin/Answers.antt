@@ -5,8 +5,7 @@ use Rattle.stk_frame.specs.declared.command.Command.TheVariants.{SignOn}
 use Rattle.stk_frame.specs.HostCommands.{enter, read_signature}
 use Rattle.stk_host.specs.Transcript.{LinkState}
 use Rattle.stk_host.specs.Dialog.{Dialog, ◌>>=◌}
-use Rattle.stk_host.specs.Play.{Progress, RunsOverLink}
-use Rattle.stk_host.specs.Reach.{Reaches}
+use Rattle.stk_host.specs.Play.{Progress, RunsOverLink, Reaches}
 use Rattle.stk_host.specs.Steps.{StepOutcome, unless_step_fault, step, play}
 use Rattle.stk_host.specs.ReadSteps.{signature_steps}
 use Rattle.stk_host.specs.Operations.{handshake}

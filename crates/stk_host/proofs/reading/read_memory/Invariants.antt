@@ -3,7 +3,7 @@ use Rattle.std.specs.Prelude.{vec_capacity}
 use Rattle.avr_part.specs.Part.{size_of}
 use Rattle.stk_host.specs.Places.{each_from}
 use Rattle.stk_host.specs.ReadSteps.{read_count, read_step, read_steps}
-use Rattle.stk_host.specs.Reach.{Reaches}
+use Rattle.stk_host.specs.Play.{Reaches}
 use Rattle.stk_host.specs.Steps.{play}
 use Rattle.ghosts.specs.Preserves.{Preserves}
 use Rattle.stk_host.proofs.Operations.Reads.{read_before}

@@ -1,7 +1,7 @@
 use Rattle.std.proofs.Common.{◌≤◌, ◌-◌, length, []}
 use Rattle.stk_host.specs.Places.{each_from}
 use Rattle.stk_host.specs.WriteSteps.{place_count, place_steps}
-use Rattle.stk_host.specs.Reach.{Reaches}
+use Rattle.stk_host.specs.Play.{Reaches}
 use Rattle.stk_host.specs.Steps.{play}
 use Rattle.ghosts.specs.Preserves.{Preserves}
 use Rattle.stk_host.proofs.writing.write_places.Given as goal

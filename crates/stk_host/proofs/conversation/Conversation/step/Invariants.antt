@@ -1,5 +1,5 @@
 use Rattle.std.proofs.Common.{◌≤◌, ◌<◌, length, ◌-◌}
-use Rattle.stk_host.specs.Reach.{Reaches}
+use Rattle.stk_host.specs.Play.{Reaches}
 use Rattle.stk_host.specs.Steps.{step, attempts_or_fault, commands_by}
 use Rattle.ghosts.specs.Preserves.{Preserves}
 use Rattle.stk_host.proofs.conversation.Conversation.step.Given as goal
