@@ -21,10 +21,10 @@ record Back {F : Type 0} (encoded : F → List ℕ) (Fit : F → Type 0) (fields
   emits : MatchOption read (Unit {0}) (λ f. (encoded f ≡ fields) × Fit f)
 
 -- If the fields were read back as some record, the command made of it was read soundly.
-made : {F : Type 0} {encoded : F → List ℕ} {Fit : F → Type 0} (code : ℕ) (fields : List ℕ) (make : F → Command)
+made_soundly : {F : Type 0} {encoded : F → List ℕ} {Fit : F → Type 0} (code : ℕ) (fields : List ℕ) (make : F → Command)
     (read : Option F) → ((f : F) → Fit f → (body (make f) ≡ code ∷ encoded f) × FieldsFit (make f))
     → Back encoded Fit fields read → Sound code fields (option_map make read)
-made code fields make read each back = search rules
+made_soundly code fields make read each back = search rules
 
 -- Each number is a byte.
 abbrev pub Below : List ℕ → Type 0
@@ -70,25 +70,30 @@ spi_multi_sound : (fields : List ℕ) → Sound 0x1D fields (command_of (0x1D �
 spi_multi_sound fields = search rules
 
 -- one row of the table
-row : (own code : ℕ) (fields : List ℕ) (read others : Option Command) → Sound own fields read → Sound code fields others
+table_row : (own code : ℕ) (fields : List ℕ) (read others : Option Command) → Sound own fields read
+    → Sound code fields others
     → Sound code fields (cond (code == own) read others)
-row own code fields read others is other = search (rules, cases_Bool, cond-true, eqb-true, cond-false)
+table_row own code fields read others is other = search (rules, cases_Bool, cond-true, eqb-true, cond-false)
 
 -- Whatever the first byte is, a command is read soundly: row by row of the table.
 with_fields_sound : (code : ℕ) (fields : List ℕ) → Below fields → Sound code fields (command_of (code ∷ fields))
 with_fields_sound code fields below =
-    row 0x01 code fields _ _ (search rules)
-    (row 0x02 code fields _ _ (search rules)
-    (row 0x03 code fields _ _ (search rules)
-    (row 0x06 code fields _ _ (load_address_sound fields below)
-    (row 0x10 code fields _ _ (search rules)
-    (row 0x11 code fields _ _ (search rules)
-    (row 0x12 code fields _ _ (search rules)
-    (row 0x13 code fields _ _ (made 0x13 fields ProgramFlash _ (λ f k. (refl, k)) (program_block_back fields below))
-    (row 0x14 code fields _ _ (made 0x14 fields ReadFlash _ (λ f k. (refl, k)) (read_block_back fields below))
-    (row 0x15 code fields _ _ (made 0x15 fields ProgramEeprom _ (λ f k. (refl, k)) (program_block_back fields below))
-    (row 0x16 code fields _ _ (made 0x16 fields ReadEeprom _ (λ f k. (refl, k)) (read_block_back fields below))
-    (search (rules, row, made, instruction_back, read_byte_back, spi_multi_sound))))))))))))
+    table_row 0x01 code fields _ _ (search rules)
+    (table_row 0x02 code fields _ _ (search rules)
+    (table_row 0x03 code fields _ _ (search rules)
+    (table_row 0x06 code fields _ _ (load_address_sound fields below)
+    (table_row 0x10 code fields _ _ (search rules)
+    (table_row 0x11 code fields _ _ (search rules)
+    (table_row 0x12 code fields _ _ (search rules)
+    (table_row 0x13 code fields _ _ (made_soundly 0x13 fields ProgramFlash _ (λ f k. (refl, k))
+    (program_block_back fields below))
+    (table_row 0x14 code fields _ _ (made_soundly 0x14 fields ReadFlash _ (λ f k. (refl, k))
+    (read_block_back fields below))
+    (table_row 0x15 code fields _ _ (made_soundly 0x15 fields ProgramEeprom _ (λ f k. (refl, k))
+    (program_block_back fields below))
+    (table_row 0x16 code fields _ _ (made_soundly 0x16 fields ReadEeprom _ (λ f k. (refl, k))
+    (read_block_back fields below))
+    (search (rules, table_row, made_soundly, instruction_back, read_byte_back, spi_multi_sound))))))))))))
 
 -- A command that is read has exactly the bytes as its body, and its fields fit.
 pub only_body : (bytes : List ℕ) → Below bytes

@@ -6,7 +6,7 @@ use Rattle.avr_part.specs.declared.instruction.Instruction.TheVariants.{LoadFlas
 use Rattle.avr_part.specs.Block.{half_at, loaded_one_by_one, read_one_by_one, load_block, flash_block, is_in_flash}
 use Rattle.avr_part.proofs.Blocks.{offset_at}
 use Rattle.stk_emu.specs.Programmer.{after_instructions, extension, flash_loads, flash_reads, word_at}
-use Rattle.stk_emu.proofs.Memories.BlocksRead.{look_by, look_byte}
+use Rattle.stk_emu.proofs.Memories.BlocksRead.{bytes_read_by, look_byte}
 
 -- a load and an extended address don't affect each other
 loads_apart : (word i x y : ℕ) (bytes : List ℕ) (s : chip.ChipState)
@@ -62,7 +62,7 @@ all_looks wide a i (suc n) s right few inside =
     let w = word_at a i in
     let page : w / 65536 % 256 ≡ a / 65536 % 256 = omega arith in
     let inner : w / 256 % 256 * 256 + w % 256 ≡ a % 65536 + i / 2 = search rules in
-    search (rules, look_byte, offset_at, look_by, all_looks wide a (suc i) n s right few (omega arith))
+    search (rules, look_byte, offset_at, bytes_read_by, all_looks wide a (suc i) n s right few (omega arith))
 
 -- Reading sends the extended address itself, so sending it before changes nothing.
 looks_again : (wide : Bool) (cmd a n : ℕ) (s new : chip.ChipState) → a < 2147483648 → 0 < n

@@ -9,10 +9,10 @@ use Rattle.stk_emu.specs.Programmer.{after_instructions, extension, flash_reads,
 use Rattle.stk_emu.proofs.Memories.Pages.{extended_is}
 
 -- the bytes read after an instruction whose output is known
-pub look_by : (x : List ℕ) (s : chip.ChipState) {got : List ℕ × chip.ChipState}
+pub bytes_read_by : (x : List ℕ) (s : chip.ChipState) {got : List ℕ × chip.ChipState}
     (more : chip.ChipState → List ℕ × chip.ChipState) → chip.spi_of x s ≡ got
     → read_then x s more ≡ (slice_index got.0 3 ∷ (more got.1).0, (more got.1).1)
-look_by x s more e = ap (λ (z : List ℕ × chip.ChipState). (slice_index z.0 3 ∷ (more z.1).0, (more z.1).1)) e
+bytes_read_by x s more e = ap (λ (z : List ℕ × chip.ChipState). (slice_index z.0 3 ∷ (more z.1).0, (more z.1).1)) e
 
 -- The fourth output byte of a reading instruction is the byte of flash at its address.
 pub look_byte : (i h lo : ℕ) (s : chip.ChipState) → chip.spi_of (for_half 0x20 i ∷ h ∷ lo ∷ 0 ∷ []) s ≡ (

@@ -93,13 +93,13 @@ anded_in start page xs =
     (λ i l. search (rules, get_and_in, before_part, in_part, some_at, get_or_past, length-map)))
 
 -- a buffer into which bytes are loaded from one place on
-abbrev pub put : {A : Type 0} → (ℕ → A) → ℕ → List ℕ → List A → List A
-put f place [] buffer = buffer
-put f place (d ∷ ds) buffer = put f (suc place) ds (set buffer place (f d))
+abbrev pub put_bytes : {A : Type 0} → (ℕ → A) → ℕ → List ℕ → List A → List A
+put_bytes f place [] buffer = buffer
+put_bytes f place (d ∷ ds) buffer = put_bytes f (suc place) ds (set buffer place (f d))
 
 -- Bytes put into an empty buffer are there, between what was before and the rest of the buffer.
 pub put_is : {A : Type 0} (f : ℕ → A) (e : A) (ds : List ℕ) (prefix : List A) (place k : ℕ) → length prefix ≡ place
-    → put f place ds (prefix ++ replicate (length ds + k) e) ≡ prefix ++ (map f ds ++ replicate k e)
+    → put_bytes f place ds (prefix ++ replicate (length ds + k) e) ≡ prefix ++ (map f ds ++ replicate k e)
 put_is f e [] prefix place k at = ap (λ n. prefix ++ replicate n e) (omega arith)
 put_is f e (d ∷ ds) prefix place k at =
     let count : suc (length ds) + k ≡ suc (length ds + k) = omega arith in
@@ -107,12 +107,12 @@ put_is f e (d ∷ ds) prefix place k at =
 
 -- the bytes loaded for a run within a page, laid over a memory
 pub run_laid : (start off : ℕ) (run : List ℕ) (page : ℕ) (xs : List ℕ) → off + length run ≤ page
-    → map_indexed_from 0 (overlaid_byte start (put Some off run (replicate page None))) xs
+    → map_indexed_from 0 (overlaid_byte start (put_bytes Some off run (replicate page None))) xs
     ≡ with_image (image_at (start + off) run) xs
 run_laid start off run page xs fits =
-    let buffer : put Some off run (replicate page None)
+    let buffer : put_bytes Some off run (replicate page None)
     ≡ replicate off None ++ (map Some run ++ replicate (page - (off + length run)) None) =
-    ap (put Some off run) (search (rules, replicate-append-replicate))
+    ap (put_bytes Some off run) (search (rules, replicate-append-replicate))
     ∙ put_is Some None run (replicate off None) off (page - (off + length run))
     (length-replicate {A = Option ℕ} off None) in
     rw (buffer, overlaid_laid, ← append_assoc, ← append_assoc, replicate-append-replicate {A = Option ℕ} start off None)
@@ -120,6 +120,6 @@ run_laid start off run page xs fits =
 
 -- The buffer keeps its size.
 pub length_put : {A : Type 0} (f : ℕ → A) (place : ℕ) (ds : List ℕ) (buffer : List A)
-    → length (put f place ds buffer) ≡ length buffer
+    → length (put_bytes f place ds buffer) ≡ length buffer
 length_put f place [] buffer = refl
 length_put f place (d ∷ ds) buffer = search (rules, length_put f (suc place) ds (set buffer place (f d)))

@@ -20,7 +20,7 @@ use Rattle.stk_emu.specs.Effect.{Memories, Write, and_in, effects}
 use Rattle.stk_emu.specs.Settled.{Ready}
 use Rattle.stk_emu.specs.WriteOperations.{image_at, memories_after_step, IsPage}
 use Rattle.stk_emu.proofs.Memories.Blocks.{sent-append}
-use Rattle.stk_emu.proofs.Memories.LaidImages.{put, put_is, anded_in}
+use Rattle.stk_emu.proofs.Memories.LaidImages.{put_bytes, put_is, anded_in}
 
 -- whether the part needs the extended address
 abbrev pub is_wide : Part → Bool
@@ -58,7 +58,7 @@ load_byte i h lo d s = search rules
 record Loaded (wide : Bool) (i : ℕ) (ds : List ℕ) (s t : chip.ChipState) : Type 0 where
   value : ℕ
   kept : wide ≡ false → value ≡ s.extended
-  is : t ≡ record s { flash_buffer = put (λ d. d) i ds s.flash_buffer; extended = value }
+  is : t ≡ record s { flash_buffer = put_bytes (λ d. d) i ds s.flash_buffer; extended = value }
 
 -- All bytes of a block are loaded, if their places in the buffer are theirs in the block.
 flash_loaded : (wide : Bool) (a i half : ℕ) (ds : List ℕ) (s : chip.ChipState) → s.part.flash_page / 2 ≡ half
@@ -123,9 +123,13 @@ module _ (part : Part) (sound : IsPart part) where
       let few : a < 16777216 = omega arith in
       let loads : Loaded wide 0 page s (after_instructions (flash_loads wide 0x40 a 0 page) s) =
       search (rules, flash_loaded, word_place) in
-      let t : chip.ChipState = record s { flash_buffer = put (λ d. d) 0 page s.flash_buffer; extended = loads.value } in
-      let buffer : put (λ d. d) 0 page s.flash_buffer ≡ page =
-      ap (put (λ d. d) 0 page) (search rules)
+      let t : chip.ChipState = record s {
+        flash_buffer = put_bytes
+            (λ d. d) 0 page s.flash_buffer;
+        extended = loads.value;
+      } in
+      let buffer : put_bytes (λ d. d) 0 page s.flash_buffer ≡ page =
+      ap (put_bytes (λ d. d) 0 page) (search rules)
       ∙ (put_is (λ d. d) 255 page [] 0 0 refl ∙ (append-nil (map (λ d. d) page) ∙ map-id page)) in
       search (rules, mul-div_cancel, flash_written, sent-append, anded_in)
     where

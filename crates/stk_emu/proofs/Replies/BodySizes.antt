@@ -14,12 +14,13 @@ abbrev pub RepliesFitFrames : {P : Type 0} → Device P → Type 0
 RepliesFitFrames {P} m = (bytes : List ℕ) (p : P) → IsFrameBody bytes → IsFrameBody (m.reply bytes p)
 
 -- A body of two bytes fits a frame.
-two : (x y : ℕ) → IsFrameBody (x ∷ y ∷ [])
-two x y = record { some = omega arith; few = omega arith }
+two_bytes_fit : (x y : ℕ) → IsFrameBody (x ∷ y ∷ [])
+two_bytes_fit x y = record { some = omega arith; few = omega arith }
 
 -- If both of two replies fit a frame, so does the one that is chosen.
-when : (b : Bool) (x y : Response) → (b ≡ true → IsFrameBody x.0) → IsFrameBody y.0 → IsFrameBody (if b then x else y).0
-when b x y f g = search rules
+chosen_fits : (b : Bool) (x y : Response) → (b ≡ true → IsFrameBody x.0) → IsFrameBody y.0 → IsFrameBody
+    (if b then x else y).0
+chosen_fits b x y f g = search rules
 
 -- As many bytes of flash are read as were asked for; below, of EEPROM.
 pub flash_length : (wide : Bool) (cmd address i n : ℕ) (chip : ChipState)
@@ -35,15 +36,15 @@ eeprom_length cmd address i (suc n) chip =
 
 -- The reply with bytes of flash fits a frame; below, with bytes of EEPROM.
 flash_body : (f : ReadBlock) (p : Programmer) → IsFrameBody (read_flash f p).0
-flash_body f p = grind (arith, common_steps, and_parts, length-append, flash_length, two)
+flash_body f p = grind (arith, common_steps, and_parts, length-append, flash_length, two_bytes_fit)
 
 eeprom_body : (f : ReadBlock) (p : Programmer) → IsFrameBody (read_eeprom f p).0
-eeprom_body f p = grind (arith, common_steps, and_parts, length-append, eeprom_length, two)
+eeprom_body f p = grind (arith, common_steps, and_parts, length-append, eeprom_length, two_bytes_fit)
 
 -- The reply to SPI_MULTI fits a frame.
 multi_body : (send receive start : ℕ) (bytes : List ℕ) (p : Programmer)
     → IsFrameBody (spi_multi send receive start bytes p).0
-multi_body send receive start bytes p = grind (arith, common_steps, when, leb-true)
+multi_body send receive start bytes p = grind (arith, common_steps, chosen_fits, leb-true)
 
 -- The reply to each command fits a frame.
 command_body : (c : Command) (p : Programmer) → IsFrameBody (execute_command c p).0

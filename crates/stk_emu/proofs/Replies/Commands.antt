@@ -41,7 +41,7 @@ module _ {P : Type 0} (m : Device P) where
       → ((p : P) → Before p ⊎ After p → (m.reset p ≡ p) ⊎ FailsAt m (λ q. Before q ⊎ After q) d (m.reset p))
       → IsRepeatable m (c ∷ d ∷ []) Before After
   two_fits c d Before After first first_again does again restart_keeps restart_keeps_after ends =
-      search (rules, prefixes, agains)
+      search (rules, prefixes, prefixes_again)
     where
       -- Some of the two commands lead to either condition.
       prefixes : (p : P) (i : ℕ) → Before p → Before (after_commands m i (c ∷ d ∷ []) p)
@@ -51,10 +51,11 @@ module _ {P : Type 0} (m : Device P) where
       prefixes p (suc (suc i)) b = search (rules, executed_none)
 
       -- Some of the two commands keep the second condition.
-      agains : (p : P) (i : ℕ) → After p → After (after_commands m i (c ∷ d ∷ []) p)
-      agains p zero a = a
-      agains p (suc zero) a = first_again p a
-      agains p (suc (suc i)) a = subst After (sym (executed_none i (m.after (body d) (m.after (body c) p)))) (again p a)
+      prefixes_again : (p : P) (i : ℕ) → After p → After (after_commands m i (c ∷ d ∷ []) p)
+      prefixes_again p zero a = a
+      prefixes_again p (suc zero) a = first_again p a
+      prefixes_again p (suc (suc i)) a = subst After (sym (executed_none i (m.after (body d) (m.after (body c) p))))
+          (again p a)
 
 -- the device, if it never restarts
 abbrev pub steady : Device Programmer

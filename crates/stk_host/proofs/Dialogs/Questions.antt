@@ -95,10 +95,12 @@ attempt_most (command ∷ commands) before = λ reading.
     most_reply (length commands) (λ bytes. attempt commands (before ++ bytes)) (reply_from_reading command reading)
     (λ bytes. attempt_most commands (before ++ bytes))
 
+-- A bound on the attempts that are left bounds what follows from a reply.
 most_settled : (n : ℕ) (again : StepFault → Dialog ⊥ StepOutcome) (reply : Reply)
     → ((fault : StepFault) → AsksAtMost n (again fault)) → AsksAtMost n (retry_or_end again reply)
 most_settled n again reply f = search rules
 
+-- Each attempt asks once for each command.
 tries_most : (more : ℕ) (commands : List Command) (fault : StepFault)
     → AsksAtMost (more * length commands) (attempts_or_fault more commands fault)
 unfolding attempts_or_fault
@@ -109,6 +111,7 @@ tries_most (suc more) commands fault =
     (attempt_most commands []) (λ reply. most_settled (more * length commands) (attempts_or_fault more commands) reply
     (tries_most more commands))
 
+-- A step asks at most four times for each command.
 pub step_most : (commands : List Command) → AsksAtMost (4 * length commands) (step commands)
 step_most commands = tries_most 4 commands NoAnswer
 

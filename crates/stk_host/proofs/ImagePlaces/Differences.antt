@@ -14,8 +14,8 @@ use Rattle.stk_host.specs.declared.fault.HostFault.TheVariants.{Differs}
 use Rattle.stk_host.specs.Operations.{comparison_from}
 
 -- the result after one byte, given that of the later bytes
-abbrev decided : Mem → Bool → ℕ → ℕ → ℕ → Result ⊤ HostFault → Result ⊤ HostFault
-decided mem same addr want found later = if same then later else Err (Differs mem addr want found)
+abbrev byte_compared : Mem → Bool → ℕ → ℕ → ℕ → Result ⊤ HostFault → Result ⊤ HostFault
+byte_compared mem same addr want found later = if same then later else Err (Differs mem addr want found)
 
 -- the bytes of a run, in the form of an image
 abbrev pub held_as : List ℕ → List (Option ℕ)
@@ -24,11 +24,11 @@ held_as run = map (λ byte. Some byte) run
 -- ---- a run
 
 -- If the bytes at a place of a run are equal, the comparison goes on at the next place.
-pub run_goes_on : (mem : Mem) (addr i : ℕ) (run found : List ℕ) → i < length run → i < length found
+pub same_byte_compared : (mem : Mem) (addr i : ℕ) (run found : List ℕ) → i < length run → i < length found
     → (get_or found i 0 == get_or run i 0) ≡ true
     → comparison_from mem (addr + i) (held_as (drop i run)) (drop i found)
     ≡ comparison_from mem (addr + (i + 1)) (held_as (drop (i + 1) run)) (drop (i + 1) found)
-run_goes_on mem addr i run found within there same = search (rules, drop_more)
+same_byte_compared mem addr i run found within there same = search (rules, drop_more)
 
 -- A run that the memory holds differs nowhere.
 pub same_run : (mem : Mem) (addr : ℕ) (run bytes : List ℕ) → run ≡ take (length run) bytes
@@ -40,26 +40,28 @@ same_run mem addr (b ∷ run) (found ∷ bytes) same = search (rules, same_run m
 -- ---- the runs of an image
 
 -- what comparing the runs of an image in order returns: the first fault
-abbrev pub among : Mem → List (ℕ × List ℕ) → List ℕ → Result ⊤ HostFault
-among mem [] bytes = Ok tt
-among mem ((addr, run) ∷ more) bytes =
-    result_and (comparison_from mem addr (held_as run) (drop addr bytes)) (among mem more bytes)
+abbrev pub comparison_of_runs : Mem → List (ℕ × List ℕ) → List ℕ → Result ⊤ HostFault
+comparison_of_runs mem [] bytes = Ok tt
+comparison_of_runs mem ((addr, run) ∷ more) bytes =
+    result_and (comparison_from mem addr (held_as run) (drop addr bytes)) (comparison_of_runs mem more bytes)
 
 -- One more byte before the runs: it is compared first.
-among-onto : (mem : Mem) (addr b : ℕ) (cut : List (ℕ × List ℕ)) (bytes : List ℕ) → addr < length bytes
-    → among mem (onto_runs addr b cut) bytes ≡ decided mem (get_or bytes addr 0 == b) addr b (get_or bytes addr 0)
-    (among mem cut bytes)
-among-onto mem addr b cut bytes there = grind (arith, common_steps, nat_tests)
+byte_before_runs : (mem : Mem) (addr b : ℕ) (cut : List (ℕ × List ℕ)) (bytes : List ℕ) → addr < length bytes
+    → comparison_of_runs mem (onto_runs addr b cut) bytes ≡ byte_compared mem (get_or bytes addr 0 == b) addr b
+    (get_or bytes addr 0)
+    (comparison_of_runs mem cut bytes)
+byte_before_runs mem addr b cut bytes there = grind (arith, common_steps, nat_tests)
 
 -- Comparing an image's runs is comparing the image.
-pub among-runs : (mem : Mem) (addr : ℕ) (image : List (Option ℕ)) (bytes : List ℕ)
+pub runs_compare_as_image : (mem : Mem) (addr : ℕ) (image : List (Option ℕ)) (bytes : List ℕ)
     → addr + length image ≤ length bytes
-    → among mem (runs addr image) bytes ≡ comparison_from mem addr image (drop addr bytes)
-among-runs mem addr [] bytes there = refl
-among-runs mem addr (None ∷ image) bytes there =
-    rw (drop_more bytes addr 0 (omega (arith, there))) (among-runs mem (addr + 1) image bytes (omega (arith, there)))
-among-runs mem addr (Some b ∷ image) bytes there =
-    search (rules, among-onto, drop_more, among-runs mem (addr + 1) image bytes (omega (arith, there)))
+    → comparison_of_runs mem (runs addr image) bytes ≡ comparison_from mem addr image (drop addr bytes)
+runs_compare_as_image mem addr [] bytes there = refl
+runs_compare_as_image mem addr (None ∷ image) bytes there =
+    rw (drop_more bytes addr 0 (omega (arith, there)))
+    (runs_compare_as_image mem (addr + 1) image bytes (omega (arith, there)))
+runs_compare_as_image mem addr (Some b ∷ image) bytes there =
+    search (rules, byte_before_runs, drop_more, runs_compare_as_image mem (addr + 1) image bytes (omega (arith, there)))
 
 -- Bytes after the image aren't compared.
 pub within_image : (mem : Mem) (addr : ℕ) (image : List (Option ℕ)) (bytes : List ℕ)
@@ -87,10 +89,11 @@ pub runs_end : (size : ℕ) (image : List (Option ℕ)) → size ≡ length imag
 runs_end size image is = rw is (all_end (length image) (runs 0 image) (runs_inside image))
 
 -- After a run without a difference the result is that of the later runs.
-pub passes_run : (mem : Mem) (left more : List (ℕ × List ℕ)) (addr : ℕ) (run bytes : List ℕ) (r : Result ⊤ HostFault)
+pub same_run_passed : (mem : Mem) (left more : List (ℕ × List ℕ)) (addr : ℕ) (run bytes : List ℕ)
+    (r : Result ⊤ HostFault)
     (x : ⊤) → left ≡ (addr, run) ∷ more → r ≡ comparison_from mem addr (held_as run) (drop addr bytes) → r ≡ Ok x
-    → among mem left bytes ≡ among mem more bytes
-passes_run mem left more addr run bytes r x left_is is ok = search rules
+    → comparison_of_runs mem left bytes ≡ comparison_of_runs mem more bytes
+same_run_passed mem left more addr run bytes r x left_is is ok = search rules
 
 -- The runs after the first end inside, too.
 pub ends_behind : (size : ℕ) (left more : List (ℕ × List ℕ)) (run : ℕ × List ℕ) → left ≡ run ∷ more → EndBy size left
@@ -100,10 +103,11 @@ ends_behind size left more run is ends = let all : EndBy size (run ∷ more) = r
 -- The fault of the first run is the result of all runs.
 pub error_differs : (mem : Mem) (left more : List (ℕ × List ℕ)) (addr : ℕ) (run bytes : List ℕ) (r : Result ⊤ HostFault)
     (e : HostFault) → left ≡ (addr, run) ∷ more → r ≡ comparison_from mem addr (held_as run) (drop addr bytes)
-    → r ≡ Err e → r ≡ among mem left bytes
+    → r ≡ Err e → r ≡ comparison_of_runs mem left bytes
 error_differs mem left more addr run bytes r e left_is is err = search rules
 
 -- Comparing the runs of an image with the front of a memory is comparing the image with the memory.
 pub whole_is : (mem : Mem) (image : List (Option ℕ)) (bytes : List ℕ) (size : ℕ) → size ≡ length image
-    → length image ≤ length bytes → among mem (runs 0 image) (take size bytes) ≡ comparison_from mem 0 image bytes
-whole_is mem image bytes size is there = search (rules, among-runs, within_image)
+    → length image ≤ length bytes → comparison_of_runs mem (runs 0 image) (take size bytes)
+    ≡ comparison_from mem 0 image bytes
+whole_is mem image bytes size is there = search (rules, runs_compare_as_image, within_image)

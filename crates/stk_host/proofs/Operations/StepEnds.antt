@@ -13,45 +13,47 @@ use Rattle.stk_host.specs.Play.{Progress, RunsOverLink, Reaches}
 use Rattle.stk_host.specs.Steps.{StepOutcome, unless_step_fault, step, play}
 use Rattle.stk_host.specs.Operations.{host_fault, checked_by, signature_checked, handshake, opening, no_result, closing}
 use Rattle.stk_host.specs.Calls.{StopsSteps, EndsSteps, EndsCall}
-use Rattle.stk_host.proofs.Transcripts.Reached.{reaches_on, broken_on, broken_bind, reaches_bind}
+use Rattle.stk_host.proofs.Transcripts.Reached.{reaches_further, breaks_after, broken_bind, reaches_bind}
 
 -- a stop in a dialog that was reached
-pub stops_on : {a b : Dialog ⊥ StepOutcome} {m n : Progress} {o p : LinkState} (k : Progress) (q : LinkState)
+pub stops_once_reached : {a b : Dialog ⊥ StepOutcome} {m n : Progress} {o p : LinkState} (k : Progress) (q : LinkState)
     (fault : HostFault) → Reaches a m o b n p → StopsSteps b n p q fault k → StopsSteps a m o q fault k
-stops_on k q fault f (inl e) = inl (broken_on f e)
-stops_on k q fault f (inr (of, is, e)) = inr (of, is, reaches_on f e)
+stops_once_reached k q fault f (inl e) = inl (breaks_after f e)
+stops_once_reached k q fault f (inr (of, is, e)) = inr (of, is, reaches_further f e)
 
 -- a stop, after which nothing follows
-pub stops_there : (a : Dialog ⊥ StepOutcome) (go_on : List ℕ → Dialog ⊥ StepOutcome) (m n : Progress) (o p : LinkState)
+pub stops_before_more : (a : Dialog ⊥ StepOutcome) (go_on : List ℕ → Dialog ⊥ StepOutcome) (m n : Progress)
+    (o p : LinkState)
     (fault : HostFault) → StopsSteps a m o p fault n → StopsSteps (a >>= unless_step_fault go_on) m o p fault n
-stops_there a go_on m n o p fault (inl e) = inl (broken_bind (unless_step_fault go_on) e)
-stops_there a go_on m n o p fault (inr (of, is, e)) =
+stops_before_more a go_on m n o p fault (inl e) = inl (broken_bind (unless_step_fault go_on) e)
+stops_before_more a go_on m n o p fault (inr (of, is, e)) =
     inr (of, is, reaches_bind (unless_step_fault go_on) e)
 
 -- steps that brought their data
-pub goes_on : {a : Dialog ⊥ StepOutcome} {m n : Progress} {o p : LinkState} (go_on : List ℕ → Dialog ⊥ StepOutcome)
+pub continues_with_data : {a : Dialog ⊥ StepOutcome} {m n : Progress} {o p : LinkState}
+    (go_on : List ℕ → Dialog ⊥ StepOutcome)
     (bytes : List ℕ) → RunsOverLink a m o p (Ok bytes) n → Reaches (a >>= unless_step_fault go_on) m o (go_on bytes) n p
-goes_on go_on bytes f = reaches_bind (unless_step_fault go_on) f
+continues_with_data go_on bytes f = reaches_bind (unless_step_fault go_on) f
 
 -- a step of a list of steps
-pub play_on : (commands : List Command) (steps : List (List Command)) (before bytes : List ℕ) {m n : Progress}
+pub plays_first_step : (commands : List Command) (steps : List (List Command)) (before bytes : List ℕ) {m n : Progress}
     {o p : LinkState} → RunsOverLink (step commands) m o p (Ok bytes) n
     → Reaches (play (commands ∷ steps) before) m o (play steps (before ++ bytes)) n p
 unfolding play
-play_on commands steps before bytes f = goes_on (λ bs. play steps (before ++ bs)) bytes f
+plays_first_step commands steps before bytes f = continues_with_data (λ bs. play steps (before ++ bs)) bytes f
 
 -- If the first step stops, all of them stop.
-pub play_stops : (commands : List Command) (steps : List (List Command)) (before : List ℕ) (m n : Progress)
+pub stops_in_first_step : (commands : List Command) (steps : List (List Command)) (before : List ℕ) (m n : Progress)
     (o p : LinkState) (fault : HostFault)
     → StopsSteps (step commands) m o p fault n → StopsSteps (play (commands ∷ steps) before) m o p fault n
 unfolding play
-play_stops commands steps before m n o p fault e = search (rules, stops_there)
+stops_in_first_step commands steps before m n o p fault e = search (rules, stops_before_more)
 
 -- If no step is left, the dialog was run to its end.
-pub play_done : (bytes : List ℕ) {a : Dialog ⊥ StepOutcome} {m n : Progress} {o p : LinkState}
+pub plays_to_end : (bytes : List ℕ) {a : Dialog ⊥ StepOutcome} {m n : Progress} {o p : LinkState}
     → Reaches a m o (play [] bytes) n p → RunsOverLink a m o p (Ok bytes) n
 unfolding play
-play_done bytes f = f
+plays_to_end bytes f = f
 
 -- the result of an operation from the outcome of its steps
 

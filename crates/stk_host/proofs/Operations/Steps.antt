@@ -20,42 +20,43 @@ use Rattle.stk_host.specs.WriteSteps.{write_steps}
 use Rattle.stk_host.specs.Operations.{checked_by, operation, writing, comparison_from, comparison}
 use Rattle.stk_host.specs.Calls.{StopsSteps, EndsSteps, EndsCall, CompletesSteps, IsSizedShape}
 use Rattle.stk_host.proofs.ImagePlaces.PagesAndRuns.{next_place}
-use Rattle.stk_host.proofs.Transcripts.Reached.{reaches_here, reaches_on, reaches_bind}
-use Rattle.stk_host.proofs.Operations.StepEnds.{stops_on, stop_ends, play_on, play_stops, play_done}
+use Rattle.stk_host.proofs.Transcripts.Reached.{reaches_here, reaches_further, reaches_bind}
+use Rattle.stk_host.proofs.Operations.StepEnds.{stops_once_reached, stop_ends, plays_first_step, stops_in_first_step, plays_to_end}
 
 -- Data that fit a sized shape have its size.
 pub counted_data : (of : Shape) (bytes : List ℕ) → IsSizedShape of → FitsShape of bytes → length bytes ≡ data_count of
 counted_data of bytes counted sized = search rules
 
 -- a step that was run goes on with those that follow
-pub goes_with : (commands : List Command) (before bytes : List ℕ) {m n : Progress} {o p : LinkState}
+pub step_completes : (commands : List Command) (before bytes : List ℕ) {m n : Progress} {o p : LinkState}
     → RunsOverLink (step commands) m o p (Ok bytes) n → CompletesSteps (commands ∷ []) before (before
     ++ bytes) m o p (Ok tt) n
-goes_with commands before bytes f = λ steps. play_on commands steps before bytes f
+step_completes commands before bytes f = λ steps. plays_first_step commands steps before bytes f
 
 -- If a step stopped, all steps that begin with it stop.
-pub stops_with : (commands : List Command) (before : List ℕ) (m n : Progress) (o p : LinkState) (fault : HostFault)
+pub step_stops : (commands : List Command) (before : List ℕ) (m n : Progress) (o p : LinkState) (fault : HostFault)
     → StopsSteps (step commands) m o p fault n
     → (steps : List (List Command)) → StopsSteps (play (commands ∷ steps) before) m o p fault n
-stops_with commands before m n o p fault e = λ steps. play_stops commands steps before m n o p fault e
+step_stops commands before m n o p fault e = λ steps. stops_in_first_step commands steps before m n o p fault e
 
 -- a step that brings no data
-pub goes_quietly : (commands : List Command) (of : Shape) (bytes : List ℕ) (result : Result (Unit {0}) HostFault)
+pub quiet_step_completes : (commands : List Command) (of : Shape) (bytes : List ℕ)
+    (result : Result (Unit {0}) HostFault)
     (m n : Progress) (o p : LinkState) → IsSizedShape of → data_count of ≡ 0 → OnOk result (FitsShape of bytes)
     → EndsSteps (step commands) (λ done. bytes) m o p result n → CompletesSteps (commands ∷ []) [] [] m o p result n
-goes_quietly commands of bytes (Ok done) m n o p counted zero sized e =
-    rw (nil_from_length bytes (counted_data of bytes counted sized ∙ zero)) at (goes_with commands [] bytes e)
-goes_quietly commands of bytes (Err fault) m n o p counted zero sized e = stops_with commands [] m n o p fault e
+quiet_step_completes commands of bytes (Ok done) m n o p counted zero sized e =
+    rw (nil_from_length bytes (counted_data of bytes counted sized ∙ zero)) at (step_completes commands [] bytes e)
+quiet_step_completes commands of bytes (Err fault) m n o p counted zero sized e = step_stops commands [] m n o p fault e
 
 -- a step that nothing follows
-pub alone : (commands : List Command) (result : Result (Unit {0}) HostFault) (m n : Progress) (o p : LinkState)
+pub only_step_ends : (commands : List Command) (result : Result (Unit {0}) HostFault) (m n : Progress) (o p : LinkState)
     → CompletesSteps (commands ∷ []) [] [] m o p result n
     → EndsSteps (play (commands ∷ []) []) (λ done. []) m o p result n
-alone commands result m n o p e = search (rules, play_done)
+only_step_ends commands result m n o p e = search (rules, plays_to_end)
 
 -- No steps were run, and nothing has passed.
 pub none_played : (m : Progress) (o : LinkState) → RunsOverLink (play [] []) m o o (Ok []) m
-none_played m o = play_done [] (reaches_here (play [] []) m o)
+none_played m o = plays_to_end [] (reaches_here (play [] []) m o)
 
 -- the steps of a place among those that are left of a dialog
 module _ {a : Dialog ⊥ StepOutcome} {k m : Progress} {r o : LinkState} (steps_at : ℕ → List (List Command))
@@ -68,24 +69,24 @@ module _ {a : Dialog ⊥ StepOutcome} {k m : Progress} {r o : LinkState} (steps_
   -- If the steps of this place were run, those after it are left.
   pub reaches_next : {n : Progress} {p : LinkState} (after : List ℕ)
       → CompletesSteps (steps_at place) before after m o p (Ok tt) n → Reaches a k r (play rest after) n p
-  reaches_next after e = search (rules, reaches_on, next_place)
+  reaches_next after e = search (rules, reaches_further, next_place)
 
   -- If the steps of this place stopped, all stop.
   pub stops_next : (n : Progress) (p : LinkState) (fault : HostFault)
       → ((more : List (List Command)) → StopsSteps (play (steps_at place ++ more) before) m o p fault n)
       → StopsSteps a k r p fault n
-  stops_next n p fault e = search (rules, stops_on, next_place)
+  stops_next n p fault e = search (rules, stops_once_reached, next_place)
 
 -- a place without steps
-pub passes : {these : List (List Command)} (m : Progress) (o : LinkState) → these ≡ []
+pub no_steps_complete : {these : List (List Command)} (m : Progress) (o : LinkState) → these ≡ []
     → CompletesSteps these [] [] m o o (Ok tt) m
-passes m o none = λ steps. rw none (reaches_here (play steps []) m o)
+no_steps_complete m o none = λ steps. rw none (reaches_here (play steps []) m o)
 
 -- after the last place
 pub plays_all : {a : Dialog ⊥ StepOutcome} {k m : Progress} {r o : LinkState} (steps_at : ℕ → List (List Command))
     (place end : ℕ) {before : List ℕ} → Reaches a k r (play (each_from steps_at place (end - place)) before) m o
     → end ≤ place → RunsOverLink a k r o (Ok before) m
-plays_all steps_at place end {before = before} come past = search (rules, play_done)
+plays_all steps_at place end {before = before} come past = search (rules, plays_to_end)
 
 -- the outcome of an operation, from the outcome of its steps
 

@@ -44,8 +44,8 @@ none_left n (item ∷ tape) some = absurd (omega (arith, some))
 -- ---- calls
 
 -- Nothing was done since.
-pub of_tape_now : (a : TapeState) → ConsumesTape a a
-of_tape_now a = record {
+pub nothing_consumed : (a : TapeState) → ConsumesTape a a
+nothing_consumed a = record {
   during = [];
   grows = sym (append-nil a.transcript);
   ends = 0;
@@ -54,8 +54,8 @@ of_tape_now a = record {
 }
 
 -- What holds since a first state and of a later one holds since the first.
-of_tape_on : (a b c : TapeState) → ConsumesTape a b → ConsumesTape b c → ConsumesTape a c
-of_tape_on a b c f g = record {
+consumed_since_first : (a b c : TapeState) → ConsumesTape a b → ConsumesTape b c → ConsumesTape a c
+consumed_since_first a b c f g = record {
   during = f.during ++ g.during;
   grows = g.grows ∙ ap (λ (t : Transcript). t ++ g.during) f.grows ∙ append_assoc a.transcript f.during g.during;
   ends = f.ends + g.ends;
@@ -63,6 +63,7 @@ of_tape_on a b c f g = record {
   over = none f.ends g.ends g.gave f.over g.over;
 }
   where
+    -- If an end came in either part, no item is left after both.
     none : (m n : ℕ) → heard g.during ++ c.left ≡ b.left ++ replicate n End → (0 < m → b.left ≡ [])
         → (0 < n → c.left ≡ []) → 0 < m + n → c.left ≡ []
     none m (suc n) gave first last some = last (omega arith)
@@ -70,13 +71,13 @@ of_tape_on a b c f g = record {
         nothing_behind (heard g.during) c.left (gave ∙ append-nil b.left ∙ first (omega (arith, some)))
 
 -- So each call that keeps it keeps it since any start.
-since : (b c : TapeState) → ConsumesTape b c → Preserves ConsumesTape b c
-since b c g = λ start f. of_tape_on start b c f g
+kept_since : (b c : TapeState) → ConsumesTape b c → Preserves ConsumesTape b c
+kept_since b c g = λ start f. consumed_since_first start b c f g
 
 -- nothing was received
 quiet_of_tape : (during : Transcript) (b c : TapeState) → heard during ≡ [] → c.left ≡ b.left
     → c.transcript ≡ b.transcript ++ during → Preserves ConsumesTape b c
-quiet_of_tape during b c quiet left transcript = since b c (search rules)
+quiet_of_tape during b c quiet left transcript = kept_since b c (search rules)
 
 -- Neither the tape nor the transcript has changed.
 pub same_of_tape : (b c : TapeState) → c.left ≡ b.left → c.transcript ≡ b.transcript → Preserves ConsumesTape b c
@@ -97,7 +98,7 @@ received_of_tape (Ok given) buffer b c receives piece left kept =
     let most : ℕ = min b.cut (length buffer) in
     let rest : c.left ≡ drop (length (next_piece most b.left)) b.left =
     left ∙ ap (λ (t : Tape). drop (length t) b.left) piece in
-    since b c (record {
+    kept_since b c (record {
       during = Got (items_of given buffer) ∷ [];
       grows = receives.ok;
       ends = ends_of b.left;

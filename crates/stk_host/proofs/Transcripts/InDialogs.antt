@@ -132,42 +132,44 @@ leads_here dialog m = record { goes_on = λ more. refl; all_sent = refl; none_ta
 module _ {E R : Type 0} {a b : Dialog E R} {m n : Progress} {x : Transcript} {events : List (Event E)}
     (f : TranscriptLeads a m x events b n) where
   -- The run over both transcripts is the events so far and the run of the rest over the second.
-  led : (y : Transcript) → played_over a m (x ++ y) ≡ prepend_events events (played_over b n y)
-  led y = ap (λ t. played a m.next (on_tape m.unread ++ t)) (got_append x y) ∙ f.goes_on (heard y)
+  run_over_both : (y : Transcript) → played_over a m (x ++ y) ≡ prepend_events events (played_over b n y)
+  run_over_both y = ap (λ t. played a m.next (on_tape m.unread ++ t)) (got_append x y) ∙ f.goes_on (heard y)
 
   -- What both transcripts sent is what the events sent.
-  led_bytes : (y : Transcript) (later : List (Event E)) → bytes_sent later ≡ sent y
+  bytes_over_both : (y : Transcript) (later : List (Event E)) → bytes_sent later ≡ sent y
       → bytes_sent (events ++ later) ≡ sent (x ++ y)
-  led_bytes y later is = rw (bytes_append events later, f.all_sent, is, sent_append x y) refl
+  bytes_over_both y later is = rw (bytes_append events later, f.all_sent, is, sent_append x y) refl
 
   -- Both transcripts are in turn.
-  led_in_turn : (y : Transcript) → InTurn b n y → InTurn a m (x ++ y)
-  led_in_turn y in_turn = search (rules, in_turn_joined, in_turn_after, append_assoc, bytes_append)
+  in_turn_over_both : (y : Transcript) → InTurn b n y → InTurn a m (x ++ y)
+  in_turn_over_both y in_turn = search (rules, in_turn_joined, in_turn_after, append_assoc, bytes_append)
 
   -- A transcript that leads on from there leads on in both.
   pub leads_on : {c : Dialog E R} {l : Progress} {y : Transcript} {ys : List (Event E)}
       → TranscriptLeads b n y ys c l → TranscriptLeads a m (x ++ y) (events ++ ys) c l
   leads_on {c = c} {l = l} {y = y} {ys = ys} g =
-      search (rules, got_both, append_assoc, led_bytes, led_in_turn, none_append)
+      search (rules, got_both, append_assoc, bytes_over_both, in_turn_over_both, none_append)
 
   -- A transcript that breaks off there breaks off in both, by the same fault.
-  pub by_on : (by : HostFault) (y : Transcript) (shown : List (Event E)) → BreaksBy by b n y shown
+  pub breaks_by_after : (by : HostFault) (y : Transcript) (shown : List (Event E)) → BreaksBy by b n y shown
       → BreaksBy by a m (x ++ y) (events ++ shown)
-  by_on SendFailed y shown g = record {
+  breaks_by_after SendFailed y shown g = record {
     whole = events ++ g.whole;
     part = g.part;
     unsent = g.unsent;
     later = g.later;
     shown_is = ap (λ es. events ++ es) g.shown_is ∙ sym (append_assoc events g.whole (Frame g.part ∷ []));
-    events_are = rw (led y, g.events_are) (sym (append_assoc events g.whole (Frame (g.part ++ g.unsent) ∷ g.later)));
+    events_are = rw (run_over_both y, g.events_are)
+        (sym (append_assoc events g.whole (Frame (g.part ++ g.unsent) ∷ g.later)));
     not_whole = λ none. g.not_whole (none_behind x y none);
-    all_sent = led_bytes y shown g.all_sent;
-    in_turn = led_in_turn y g.in_turn;
+    all_sent = bytes_over_both y shown g.all_sent;
+    in_turn = in_turn_over_both y g.in_turn;
   }
-  by_on by y shown g = search (rules, led, led_bytes, led_in_turn, none_append)
+  breaks_by_after by y shown g = search (rules, run_over_both, bytes_over_both, in_turn_over_both, none_append)
 
 -- the same before what follows, and before a transcript that breaks off
 module _ {E R : Type 0} {a b : Dialog E R} {m n : Progress} {x : Transcript} {events : List (Event E)} where
+  -- A transcript leads as far if more follows the dialog.
   pub leads_bind : {B : Type 0} (go_on : R → Dialog E B) → TranscriptLeads a m x events b n
       → TranscriptLeads (a >>= go_on) m x events (b >>= go_on) n
   leads_bind go_on f = search (rules, played_bind, append_assoc, in_turn_bind)
@@ -176,7 +178,8 @@ module _ {E R : Type 0} {a b : Dialog E R} {m n : Progress} {x : Transcript} {ev
   pub breaks_on : (IsPartOfEvent : E → E → Type 0) {y : Transcript} {shown : List (Event E)}
       → TranscriptLeads a m x events b n → Breaks IsPartOfEvent b n y shown → Breaks IsPartOfEvent a m (x ++ y) (events
       ++ shown)
-  breaks_on IsPartOfEvent {y = y} {shown = shown} f g = search (rules, led, prefix_behind, led_bytes, led_in_turn, f, g)
+  breaks_on IsPartOfEvent {y = y} {shown = shown} f g = search
+      (rules, run_over_both, prefix_behind, bytes_over_both, in_turn_over_both, f, g)
 
 -- an output event
 pub leads_emit : {E R : Type 0} (e : E) (dialog : Dialog E R) (m : Progress)

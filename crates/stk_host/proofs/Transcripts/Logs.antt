@@ -49,25 +49,25 @@ back_more (mark.Heard h ∷ marks) m = omega (arith, back_more marks m)
 back_more (other ∷ marks) m = back_more marks m
 
 -- The bytes sent in the transcript of the marks are those that are kept.
-pub sent_in : (marks : List Mark) (out back : List ℕ) → sent_count marks ≡ length out
+pub sent_bytes_kept : (marks : List Mark) (out back : List ℕ) → sent_count marks ≡ length out
     → sent (transcript_of marks out back) ≡ out
-sent_in [] [] back o = refl
-sent_in [] (x ∷ out) back o = absurd (omega arith)
-sent_in (mark.Sent n ∷ marks) out back o =
-    rw (sent_in marks (drop n out) back (rw length-drop (omega arith))) (take-append-drop n out)
-sent_in (mark.Heard h ∷ marks) out back o = sent_in marks out (drop (received_byte_count h) back) o
+sent_bytes_kept [] [] back o = refl
+sent_bytes_kept [] (x ∷ out) back o = absurd (omega arith)
+sent_bytes_kept (mark.Sent n ∷ marks) out back o =
+    rw (sent_bytes_kept marks (drop n out) back (rw length-drop (omega arith))) (take-append-drop n out)
+sent_bytes_kept (mark.Heard h ∷ marks) out back o = sent_bytes_kept marks out (drop (received_byte_count h) back) o
 
 -- The bytes received in the transcript of the marks are those that are kept.
-pub received_in : (marks : List Mark) (out back : List ℕ) → received_count marks ≡ length back
+pub received_bytes_kept : (marks : List Mark) (out back : List ℕ) → received_count marks ≡ length back
     → bytes_on_tape (transcript.heard (transcript_of marks out back)) ≡ back
-received_in [] out [] b = refl
-received_in [] out (x ∷ back) b = absurd (omega arith)
-received_in (mark.Sent n ∷ marks) out back b = received_in marks (drop n out) back b
-received_in (mark.Heard (heard.Bytes n) ∷ marks) out back b =
+received_bytes_kept [] out [] b = refl
+received_bytes_kept [] out (x ∷ back) b = absurd (omega arith)
+received_bytes_kept (mark.Sent n ∷ marks) out back b = received_bytes_kept marks (drop n out) back b
+received_bytes_kept (mark.Heard (heard.Bytes n) ∷ marks) out back b =
     rw (bytes_of_append (on_tape (take n back)) (transcript.heard (transcript_of marks out (drop n back))))
-    (rw (bytes_of_on_tape (take n back), received_in marks out (drop n back) (rw length-drop (omega arith)))
+    (rw (bytes_of_on_tape (take n back), received_bytes_kept marks out (drop n back) (rw length-drop (omega arith)))
     (take-append-drop n back))
-received_in (mark.Heard none ∷ marks) out back b = received_in marks out back (omega (arith, b))
+received_bytes_kept (mark.Heard none ∷ marks) out back b = received_bytes_kept marks out back (omega (arith, b))
 
 -- what was received is what is kept of the buffer
 pub items_received : (h : Heard) (buffer : List ℕ) → FitsBuffer h (length buffer)

@@ -6,7 +6,7 @@ use Rattle.stk_host.specs.Transcript.{LinkState}
 use Rattle.stk_host.specs.Dialog.{Dialog, Done, ◌>>=◌}
 use Rattle.stk_host.specs.Play.{Progress, RunsOverLink, BreaksOverLink, Reaches}
 use Rattle.stk_host.proofs.Transcripts.Laws.{grows_on}
-use Rattle.stk_host.proofs.Transcripts.InDialogs.{leads_here, leads_on, leads_bind, by_on, by_bind}
+use Rattle.stk_host.proofs.Transcripts.InDialogs.{leads_here, leads_on, leads_bind, breaks_by_after, by_bind}
 
 -- Nothing has passed.
 pub reaches_here : {R : Type 0} (dialog : Dialog ⊥ R) (before : Progress) (o : LinkState)
@@ -16,8 +16,8 @@ reaches_here dialog before o = search (rules, leads_here dialog before)
 -- from where a call has come
 module _ {R : Type 0} {a b : Dialog ⊥ R} {m n : Progress} {o p : LinkState} (f : Reaches a m o b n p) where
   -- A call that reaches a later dialog from there has come that far from the start.
-  pub reaches_on : {c : Dialog ⊥ R} {l : Progress} {q : LinkState} → Reaches b n p c l q → Reaches a m o c l q
-  reaches_on {q = q} g = record {
+  pub reaches_further : {c : Dialog ⊥ R} {l : Progress} {q : LinkState} → Reaches b n p c l q → Reaches a m o c l q
+  reaches_further {q = q} g = record {
     during = f.during ++ g.during;
     events = f.events ++ g.events;
     grows = grows_on o.transcript p.transcript q.transcript f.during g.during f.grows g.grows;
@@ -26,12 +26,12 @@ module _ {R : Type 0} {a b : Dialog ⊥ R} {m n : Progress} {o p : LinkState} (f
   }
 
   -- A call that broke off there broke off in the dialog from the start.
-  pub broken_on : {by : HostFault} {q : LinkState} → BreaksOverLink by b n p q → BreaksOverLink by a m o q
-  broken_on {by = by} {q = q} g = record {
+  pub breaks_after : {by : HostFault} {q : LinkState} → BreaksOverLink by b n p q → BreaksOverLink by a m o q
+  breaks_after {by = by} {q = q} g = record {
     during = f.during ++ g.during;
     shown = f.events ++ g.shown;
     grows = grows_on o.transcript p.transcript q.transcript f.during g.during f.grows g.grows;
-    breaks = by_on f.leads by g.during g.shown g.breaks;
+    breaks = breaks_by_after f.leads by g.during g.shown g.breaks;
     failed = subst (λ n. OneFailureCounted n q.failures) f.sound g.failed;
   }
 

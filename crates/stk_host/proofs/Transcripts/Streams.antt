@@ -49,13 +49,13 @@ module _ (IsTimeout : List ℕ → Type 0) where
   none_in_bytes before (byte ∷ bytes) = none_in_bytes (before ++ byte ∷ []) bytes
 
   -- If each timeout of two tapes was one, so was each of both joined.
-  each_on : (before : List ℕ) (x y : Tape) → EachTimedOut IsTimeout before x
+  each_joined : (before : List ℕ) (x y : Tape) → EachTimedOut IsTimeout before x
       → EachTimedOut IsTimeout (before ++ bytes_on_tape x) y → EachTimedOut IsTimeout before (x ++ y)
-  each_on before [] y f g = rw (append-nil before) at g
-  each_on before (Silence ∷ x) y f g = (f.0, each_on before x y f.1 g)
-  each_on before (Byte byte ∷ x) y f g =
-      each_on (before ++ byte ∷ []) x y f (rw (← append_assoc before (byte ∷ []) (bytes_on_tape x)) at g)
-  each_on before (End ∷ x) y f g = each_on before x y f g
+  each_joined before [] y f g = rw (append-nil before) at g
+  each_joined before (Silence ∷ x) y f g = (f.0, each_joined before x y f.1 g)
+  each_joined before (Byte byte ∷ x) y f g =
+      each_joined (before ++ byte ∷ []) x y f (rw (← append_assoc before (byte ∷ []) (bytes_on_tape x)) at g)
+  each_joined before (End ∷ x) y f g = each_joined before x y f g
 
   -- timeouts of a reader that began behind `front`
   each_behind : (Later : List ℕ → Type 0) (front : List ℕ)
@@ -79,7 +79,7 @@ module _ {R : Type 0} (remaining : R → Option (List ℕ)) (has_timed_out : R �
       let front = bytes_on_tape (heard x) in
       let later = each_behind (TimedOutAfter remaining has_timed_out old) (TimedOutAfter remaining has_timed_out mid)
       front (λ bytes p. (p.0, p.1, Consumes-trans _ _ _ front bytes gave p.2)) [] (heard y) g in
-      rw (got_append x y) (each_on (TimedOutAfter remaining has_timed_out old) [] (heard x) (heard y) f
+      rw (got_append x y) (each_joined (TimedOutAfter remaining has_timed_out old) [] (heard x) (heard y) f
       (rw (append-nil front) at later))
 
   -- The same of what one call received.
@@ -99,10 +99,10 @@ module _ {R W : Type 0} (remaining : R → Option (List ℕ)) (has_timed_out : R
   true_now a = search rules
 
   -- What is true since a first state and of a later one is true since the first.
-  pub true_on : (a b c : StreamState R W) → TranscriptIsTrueSince remaining has_timed_out contents a b
+  pub true_since_first : (a b c : StreamState R W) → TranscriptIsTrueSince remaining has_timed_out contents a b
       → TranscriptIsTrueSince remaining has_timed_out contents b c
       → TranscriptIsTrueSince remaining has_timed_out contents a c
-  true_on a b c f g =
+  true_since_first a b c f g =
       let paused = each_both remaining has_timed_out a.reader b.reader f.during g.during f.paused f.gave g.paused in
       search (rules, append_assoc, got_append, bytes_of_append, sent_append)
 

@@ -1,7 +1,7 @@
 use Rattle.std.proofs.Common.{rules, eq-eqb, ◌≡◌, length, take}
 use Rattle.std.proofs.lemmas.Bool.Decides.{Decides-eqb}
 use Rattle.std.proofs.lemmas.Slice.Eq.{slice_eq-Decides}
-use Rattle.stk_host.proofs.ImagePlaces.Differences.{run_goes_on, same_run}
+use Rattle.stk_host.proofs.ImagePlaces.Differences.{same_byte_compared, same_run}
 use Rattle.stk_host.proofs.comparing.compare_run.Goals as goal
 
 pub returns-then-eq : goal.returns-then-eq
@@ -11,4 +11,4 @@ returns-then-eq c =
     search (rules, same_run c.args.mem c.args.addr c.args.run.now c.args.bytes.now same)
 
 pub loop-i-preserved : goal.loop-i-preserved
-loop-i-preserved c = search (rules, eq-eqb, run_goes_on)
+loop-i-preserved c = search (rules, eq-eqb, same_byte_compared)

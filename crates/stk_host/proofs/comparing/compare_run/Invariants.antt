@@ -3,6 +3,7 @@ use Rattle.stk_host.specs.Operations.{comparison_from}
 use Rattle.stk_host.proofs.ImagePlaces.Differences.{held_as}
 use Rattle.stk_host.proofs.comparing.compare_run.Given as goal
 
+-- The bytes before place `i` are equal, so the result is that of the rest.
 abbrev pub invariant-loop-i : goal.invariant-loop-i
 invariant-loop-i l =
     comparison_from l.mem l.addr (held_as l.run) l.bytes

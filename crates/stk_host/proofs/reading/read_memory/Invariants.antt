@@ -9,6 +9,7 @@ use Rattle.ghosts.specs.Preserves.{Preserves}
 use Rattle.stk_host.proofs.Operations.Reads.{read_before}
 use Rattle.stk_host.proofs.reading.read_memory.Given as goal
 
+-- The steps before this number were run, and `out` has their data.
 abbrev pub invariant-loop-number : goal.invariant-loop-number
 invariant-loop-number g l = record {
   reaches : Reaches (play (read_steps l.part l.mem) []) l.fn.talk.progress (g.L.Link.view l.fn.link)

@@ -6,6 +6,7 @@ use Rattle.stk_host.specs.Steps.{play}
 use Rattle.ghosts.specs.Preserves.{Preserves}
 use Rattle.stk_host.proofs.writing.write_places.Given as goal
 
+-- The steps of the places before this one were run.
 abbrev pub invariant-loop-place : goal.invariant-loop-place
 invariant-loop-place g l = record {
   reaches : Reaches (play (each_from (place_steps l.part l.mem l.image) 0 (place_count l.part l.mem)) [])
