@@ -1,9 +1,9 @@
 -- The emulated programmer, as the table sees it.
-use Rattle.std.specs.Prelude.{◌≡◌, ◌≤◌, length, replicate, None}
+use Rattle.std.specs.Prelude.{◌≡◌, length, replicate, None}
 use Rattle.avr_part.specs.Part.{Part}
-use Rattle.stk_host.specs.declared.writing.TheConstants.{NARROW_FLASH}
 use Rattle.stk_emu.specs.Effect.{Memories, memories_of}
 use Rattle.stk_emu.specs.Programmer.{Programmer}
+use Rattle.stk_emu.specs.Settled.{NeedsNoExtendedAddress}
 
 -- The memories of its chip.
 abbrev pub chip_memories : Programmer → Memories
@@ -20,4 +20,4 @@ pub record HasEmptyBuffers (part : Part) (p : Programmer) : Type 0 where
   pub part_is : p.chip.part ≡ part
   pub flash_buffer : p.chip.flash_buffer ≡ replicate part.flash_page 255
   pub eeprom_buffer : p.chip.eeprom_buffer ≡ replicate part.eeprom_page None
-  pub extended : part.flash_size ≤ NARROW_FLASH → p.chip.extended ≡ 0
+  pub extended : NeedsNoExtendedAddress part → p.chip.extended ≡ 0

@@ -1,7 +1,6 @@
 -- Steps that are cut short and repeated, on a device that may restart.
-use Rattle.std.specs.Prelude.{ℕ, zero, suc, ◌⊎◌, ◌≡◌, ◌≤◌, List, [], ◌∷◌, ◌++◌, length, replicate, None}
+use Rattle.std.specs.Prelude.{ℕ, zero, suc, ◌⊎◌, ◌≡◌, List, [], ◌∷◌, ◌++◌, length, replicate, None}
 use Rattle.avr_part.specs.Part.{Part}
-use Rattle.stk_host.specs.declared.writing.TheConstants.{NARROW_FLASH}
 use Rattle.stk_frame.specs.declared.command.Command.{Command}
 use Rattle.stk_frame.specs.Commands.{body}
 use Rattle.stk_host.specs.Tape.{Replied}
@@ -9,6 +8,7 @@ use Rattle.stk_host.specs.Steps.{Reply, Data, Again, Stop, reply_from_reading}
 use Rattle.stk_emu.specs.Programmer.{Programmer}
 use Rattle.stk_emu.specs.Device.{Device}
 use Rattle.stk_emu.specs.Effect.{Memories, memories_of}
+use Rattle.stk_emu.specs.Settled.{NeedsNoExtendedAddress}
 
 -- Goes on with a reply's data.
 abbrev pub on_data : Reply → (List ℕ → Reply) → Reply
@@ -76,4 +76,4 @@ pub record Settled (part : Part) (m : Memories) (p : Programmer) : Type 0 where
   pub part_is : p.chip.part ≡ part
   pub flash_buffer : p.chip.flash_buffer ≡ replicate part.flash_page 255
   pub eeprom_buffer : p.chip.eeprom_buffer ≡ replicate part.eeprom_page None
-  pub extended : part.flash_size ≤ NARROW_FLASH → p.chip.extended ≡ 0
+  pub extended : NeedsNoExtendedAddress part → p.chip.extended ≡ 0

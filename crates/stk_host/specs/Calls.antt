@@ -23,7 +23,7 @@ use Rattle.stk_host.specs.Tape as tape
 use Rattle.stk_host.specs.Tape.{on_tape}
 use Rattle.stk_host.specs.Steps as steps
 use Rattle.stk_host.specs.Steps.{play}
-use Rattle.stk_host.specs.Operations.{host_fault}
+use Rattle.stk_host.specs.Operations.{host_fault, signature_checked}
 use Rattle.stk_host.specs.Transcript.{LinkState, Got, Grows}
 use Rattle.stk_host.specs.Dialog.{Dialog}
 use Rattle.stk_host.specs.Play.{Progress, RunsOverLink, BreaksOverLink, Reaches}
@@ -161,3 +161,8 @@ command_named fault = None
 abbrev pub status_named : HostFault → Option (List ℕ)
 status_named (Refused command status) = name_in status_names status
 status_named fault = None
+
+-- The result of `Host::open`: the signature found if it is accepted, or a fault.
+abbrev pub opening_result : List ℕ → Bool → Result (List ℕ) HostFault → Result (List ℕ) HostFault
+opening_result wanted force (Ok found) = signature_checked wanted force found
+opening_result wanted force (Err fault) = Err fault

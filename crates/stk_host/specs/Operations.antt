@@ -70,18 +70,30 @@ writing part mem image =
 abbrev pub reading : Part → Mem → Dialog ⊥ (Result (List ℕ) HostFault)
 reading part mem = operation (read_steps part mem) Ok
 
--- What comparing a part of an image with a part of a memory returns, if both begin at `addr`. A fault has the lowest
--- address at which the image holds a byte and the memory another, the image's byte and the memory's byte.
-abbrev pub comparison_from : Mem → ℕ → List (Option ℕ) → List ℕ → Result ⊤ HostFault
-comparison_from mem addr [] bytes = Ok tt
-comparison_from mem addr (byte ∷ image) [] = Ok tt
-comparison_from mem addr (None ∷ image) (found ∷ bytes) = comparison_from mem (addr + 1) image bytes
-comparison_from mem addr (Some want ∷ image) (found ∷ bytes) =
-    if found == want then comparison_from mem (addr + 1) image bytes else Err (Differs mem addr want found)
+-- The address, the image's byte and the memory's byte.
+pub record Difference : Type 0 where
+  pub addr : ℕ
+  pub want : ℕ
+  pub found : ℕ
+
+-- The first difference: the lowest address at which the image holds a byte and the memory another. Both lists begin
+-- at `addr`.
+abbrev pub difference_from : ℕ → List (Option ℕ) → List ℕ → Option Difference
+difference_from addr [] bytes = None
+difference_from addr (byte ∷ image) [] = None
+difference_from addr (None ∷ image) (found ∷ bytes) = difference_from (addr + 1) image bytes
+difference_from addr (Some want ∷ image) (found ∷ bytes) =
+    if found == want then difference_from (addr + 1) image bytes
+    else Some (record { addr = addr; want = want; found = found })
+
+-- The fault for a difference, if there is one.
+abbrev pub differs : Mem → Option Difference → Result ⊤ HostFault
+differs mem None = Ok tt
+differs mem (Some d) = Err (Differs mem d.addr d.want d.found)
 
 -- What comparing a memory with an image returns.
 abbrev pub comparison : Mem → List (Option ℕ) → List ℕ → Result ⊤ HostFault
-comparison mem image bytes = comparison_from mem 0 image bytes
+comparison mem image bytes = differs mem (difference_from 0 image bytes)
 
 -- The dialog of `Host::verify`.
 abbrev pub verifying : Part → Mem → List (Option ℕ) → Dialog ⊥ (Result ⊤ HostFault)

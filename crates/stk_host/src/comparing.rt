@@ -1,5 +1,5 @@
 ghost use Rattle.std.specs.Prelude.{◌≡◌, ◌+◌, ◌≤◌, ◌^◌, length, map, Some};
-ghost use Rattle.stk_host.specs.Operations.{comparison, comparison_from};
+ghost use Rattle.stk_host.specs.Operations.{comparison, differs, difference_from};
 
 use crate::fault::HostFault;
 use avr_image::Image;
@@ -9,7 +9,7 @@ use avr_part::Mem;
 fn compare_run(mem: Mem, addr: u32, run: &[u8], bytes: &[u8]) -> Result<(), HostFault>
     requires there { length run.now ≤ length bytes.now }
     requires short { addr + length run.now ≤ 2 ^ 32 }
-    ensures { result ≡ comparison_from mem addr (map (λ byte. Some byte) run.now) bytes.now }
+    ensures { result ≡ differs mem (difference_from addr (map (λ byte. Some byte) run.now) bytes.now) }
 {
     // Comparing slices is fast. The loop looks for the address only if they differ.
     if run == &bytes[..run.len()] {

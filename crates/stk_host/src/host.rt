@@ -1,14 +1,14 @@
 //! The host: operations over a link, and the fault after which nothing more is sent.
-ghost use Rattle.std.specs.Prelude.{◌≡◌, ◌<◌, ◌≤◌, ◌^◌, ℕ, List, [], length, Some, None, Ok, Err, IfOk, OnOk, OnErr, MatchOption, MatchResult, true, false, ◌∷◌, if◌then◌else◌, is_ok};
+ghost use Rattle.std.specs.Prelude.{◌≡◌, ◌<◌, ◌≤◌, ◌^◌, ℕ, List, [], length, Some, None, Ok, Err, IfOk, OnOk, OnErr, MatchOption, true, false, ◌∷◌, if◌then◌else◌, is_ok};
 ghost use Rattle.std.specs.Result.{result_and};
 ghost use Rattle.avr_part.specs.Mem.{is_writable};
 ghost use Rattle.avr_part.specs.Part.{size_of};
 ghost use Rattle.stk_host.specs.declared.fault.HostFault.{HostFault};
 ghost use Rattle.stk_host.specs.declared.fault.HostFault.TheVariants as fault;
 ghost use Rattle.ghosts.specs.Preserves.{Preserves};
-ghost use Rattle.stk_host.specs.Operations.{signature_checked, opening, closing, erasing, writing, reading, comparison, verifying, handshake};
+ghost use Rattle.stk_host.specs.Operations.{opening, closing, erasing, writing, reading, comparison, verifying, handshake};
 ghost use Rattle.stk_host.specs.State.{lasting_fault};
-ghost use Rattle.stk_host.specs.Calls.{Calls, Converses, EndsSteps};
+ghost use Rattle.stk_host.specs.Calls.{Calls, opening_result, Converses, EndsSteps};
 ghost use Rattle.stk_frame.specs.HostCommands.{leave, read_signature};
 ghost use Rattle.stk_host.specs.Steps.{step};
 
@@ -77,7 +77,7 @@ fn check_signature(
     force: bool,
     begun: Result<[u8; 3], HostFault>,
 ) -> Result<[u8; 3], HostFault>
-    ensures { MatchResult begun (λ found. result ≡ signature_checked wanted force found) (λ fault. result ≡ Err fault) }
+    ensures { result ≡ opening_result wanted force begun }
 {
     let found = begun?;
     if force || found == wanted {

@@ -17,7 +17,7 @@ use Rattle.avr_session.specs.FileText.{file_text}
 use Rattle.avr_session.specs.Lines.{informs, fault_line}
 use Rattle.avr_session.specs.Session.{opening_output, saving_output, bytes_output, written_output, verified_output, read_output, standing, session}
 use Rattle.stk_host.specs.Dialog.{Dialog, Emit, Ask}
-use Rattle.stk_host.specs.Operations.{comparison, host_fault}
+use Rattle.stk_host.specs.Operations.{difference_from, comparison, host_fault}
 use Rattle.stk_host.specs.declared.fault.HostFault.{HostFault}
 use Rattle.stk_host.specs.declared.fault.StepFault.{StepFault}
 use Rattle.stk_emu.specs.Exchange.{Exchange}
@@ -35,7 +35,7 @@ use Rattle.avr_tool.proofs.Emulated.{actions_work, all_work, emulated}
 use Rattle.avr_tool.proofs.Real.{ActionsWork, AllWork, HasMemories, Real, Settled}
 use Rattle.avr_tool.proofs.OverFaultyLink.EachAction.{ActionTrue, ActionsTrue, opening_comes}
 use Rattle.avr_tool.proofs.OverFaultyLink.Sessions.{AtMoment, AtEnd, anyhow, session_prints}
-use Rattle.avr_laws.proofs.Memories.Bytes.{bytes_same}
+use Rattle.avr_laws.proofs.Memories.Bytes.{bytes_same, no_difference_if_fine}
 use Rattle.avr_tool.proofs.Hosts.OneLink.{Spot, on_link, this_link}
 use Rattle.avr_tool.proofs.Hosts.Outputs.{AllTrue, End, Moment, Prints, PrintsFrom}
 use Rattle.stk_host.proofs.Dialogs.Logic.{World}
@@ -100,7 +100,9 @@ module _ (plan : Plan) (sound : IsPart plan.part) (real : Real plan.part) (m0 : 
       → AllTrue Holds (verified_output plan.switches.quiet plan.part mem image r) q
   compared_now mem image q has (Ok a) e = counts_hold mem (byte_count image) (codes " bytes verified") q
       (BytesVerified mem image has refl
-      (no_difference mem 0 image (memory_in plan.part mem (real.memories q)) e))
+      (no_difference 0 image (memory_in plan.part mem (real.memories q))
+      (no_difference_if_fine mem (difference_from 0 image (memory_in plan.part mem (real.memories q)))
+      (ap standing e))))
   compared_now mem image q has (Err fault) e = (Differed mem image fault has refl e, tt)
 
   -- what the save of a memory puts out

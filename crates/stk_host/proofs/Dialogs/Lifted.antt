@@ -60,7 +60,7 @@ pub plays_lifted : {E R : Type 0} {dialog : Dialog ⊥ R} {m n : Progress} {tran
     {events : List (Event ⊥)} {result : R} → Plays dialog m transcript events result n
     → Plays {E = E} (lifted dialog) m transcript (raised events) result n
 plays_lifted {E = E} {dialog = dialog} {m = m} {transcript = transcript} {events = events} f =
-    search (rules, played_lifted, bytes_raised, in_turn_lifted, raised_append events [])
+    search (rules, played_lifted, bytes_raised, in_turn_lifted, raised_append {E = E} events [])
 
 -- A transcript in which the dialog broke off is one in which the lifted dialog broke off, by the same fault.
 pub by_lifted : {R : Type 0} (E : Type 0) (by : HostFault) (dialog : Dialog ⊥ R) (m : Progress)

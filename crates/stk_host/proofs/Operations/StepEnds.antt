@@ -1,6 +1,5 @@
 -- One step after another, by the clauses of each call.
 use Rattle.std.proofs.Common.{◌≡◌, refl, ℕ, Bool, false, if◌then◌else◌, List, [], ◌∷◌, ◌++◌, Ok, Err, Result, inl, inr, rules}
-use Rattle.std.specs.Prelude.{MatchResult}
 use Rattle.std.specs.Str.{bytes_eq}
 use Rattle.stk_frame.specs.declared.command.Command.{Command}
 use Rattle.stk_frame.specs.HostCommands.{leave}
@@ -12,7 +11,7 @@ use Rattle.stk_host.specs.Dialog.{Dialog, Done, ◌>>=◌}
 use Rattle.stk_host.specs.Play.{Progress, RunsOverLink, Reaches}
 use Rattle.stk_host.specs.Steps.{StepOutcome, unless_step_fault, step, play}
 use Rattle.stk_host.specs.Operations.{host_fault, checked_by, signature_checked, handshake, opening, no_result, closing}
-use Rattle.stk_host.specs.Calls.{StopsSteps, EndsSteps, EndsCall}
+use Rattle.stk_host.specs.Calls.{StopsSteps, EndsSteps, EndsCall, opening_result}
 use Rattle.stk_host.proofs.Transcripts.Reached.{reaches_further, breaks_after, broken_bind, reaches_bind}
 
 -- a stop in a dialog that was reached
@@ -76,15 +75,14 @@ checked_ends : {dialog : Dialog ⊥ (Result (List ℕ) HostFault)} {m n : Progre
 checked_ends wanted found force same e = search rules
 
 -- The result of an opening, from that of its steps; below, of a closing.
-pub opening_ends : (wanted : List ℕ) (force : Bool) (begun result : Result (List ℕ) HostFault)
-    → MatchResult begun (λ found. result ≡ signature_checked wanted force found) (λ fault. result ≡ Err fault)
-    → (m n : Progress) (o p : LinkState) → EndsSteps handshake (λ found. found) m o p begun n
-    → EndsCall false (opening wanted force) m o p result n
+pub opening_ends : (wanted : List ℕ) (force : Bool) (begun : Result (List ℕ) HostFault) (m n : Progress)
+    (o p : LinkState) → EndsSteps handshake (λ found. found) m o p begun n
+    → EndsCall false (opening wanted force) m o p (opening_result wanted force begun) n
 unfolding opening
-opening_ends wanted force (Ok found) result is m n o p e =
-    rw is (checked_ends wanted found force (bytes_eq found wanted)
-    (reaches_bind (λ outcome. Done (checked_by (signature_checked wanted force) outcome)) e))
-opening_ends wanted force (Err fault) result is m n o p e = search (rules, stop_ends)
+opening_ends wanted force (Ok found) m n o p e =
+    checked_ends wanted found force (bytes_eq found wanted)
+    (reaches_bind (λ outcome. Done (checked_by (signature_checked wanted force) outcome)) e)
+opening_ends wanted force (Err fault) m n o p e = search (rules, stop_ends)
 
 pub closing_ends : (result : Result (Unit {0}) HostFault) (m n : Progress) (o p : LinkState)
     → EndsSteps (step (leave ∷ [])) (λ done. []) m o p result n → EndsCall false closing m o p result n

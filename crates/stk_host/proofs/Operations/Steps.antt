@@ -17,7 +17,7 @@ use Rattle.stk_host.specs.Play.{Progress, RunsOverLink, Reaches}
 use Rattle.stk_host.specs.Steps.{StepOutcome, step, play}
 use Rattle.stk_host.specs.Places.{each_from}
 use Rattle.stk_host.specs.WriteSteps.{write_steps}
-use Rattle.stk_host.specs.Operations.{checked_by, operation, writing, comparison_from, comparison}
+use Rattle.stk_host.specs.Operations.{checked_by, operation, writing, Difference, difference_from, differs, comparison}
 use Rattle.stk_host.specs.Calls.{StopsSteps, EndsSteps, EndsCall, CompletesSteps, IsSizedShape}
 use Rattle.stk_host.proofs.ImagePlaces.PagesAndRuns.{next_place}
 use Rattle.stk_host.proofs.Transcripts.Reached.{reaches_here, reaches_further, reaches_bind}
@@ -131,15 +131,10 @@ reading_ends steps bytes (Ok done) m n o p e = checked_from steps Ok bytes e
 reading_ends steps bytes (Err fault) m n o p e = reported_ends true steps Ok fault m n o p e
 
 -- A comparison's result is no fault of the link.
-compared_ends : (dialog : Dialog ⊥ (Result (Unit {0}) HostFault)) (mem : Mem) (addr : ℕ) (image : List (Option ℕ))
-    (bytes : List ℕ) {m n : Progress} {o p : LinkState}
-    → RunsOverLink dialog m o p (comparison_from mem addr image bytes) n
-    → EndsCall true dialog m o p (comparison_from mem addr image bytes) n
-compared_ends dialog mem addr [] bytes e = e
-compared_ends dialog mem addr (byte ∷ image) [] e = e
-compared_ends dialog mem addr (None ∷ image) (found ∷ bytes) e = compared_ends dialog mem (addr + 1) image bytes e
-compared_ends dialog mem addr (Some want ∷ image) (found ∷ bytes) e =
-    search (rules, compared_ends dialog mem (addr + 1) image bytes)
+differs_ends : (dialog : Dialog ⊥ (Result (Unit {0}) HostFault)) (mem : Mem) (found : Option Difference)
+    {m n : Progress} {o p : LinkState}
+    → RunsOverLink dialog m o p (differs mem found) n → EndsCall true dialog m o p (differs mem found) n
+differs_ends dialog mem found e = search rules
 
 -- A comparison returns what comparing the data of its steps gives, or their fault.
 pub verifying_ends : (steps : List (List Command)) (mem : Mem) (image : List (Option ℕ)) (bytes : List ℕ)
@@ -147,7 +142,7 @@ pub verifying_ends : (steps : List (List Command)) (mem : Mem) (image : List (Op
     → EndsSteps (play steps []) (λ done. bytes) m o p result n
     → EndsCall true (operation steps (comparison mem image)) m o p (result_and result (comparison mem image bytes)) n
 verifying_ends steps mem image bytes (Ok done) m n o p e =
-    compared_ends (operation steps (comparison mem image)) mem 0 image bytes
+    differs_ends (operation steps (comparison mem image)) mem (difference_from 0 image bytes)
     (checked_from steps (comparison mem image) bytes e)
 verifying_ends steps mem image bytes (Err fault) m n o p e = search (rules, reported_ends)
 

@@ -191,7 +191,7 @@ pub whole_run : {E R : Type 0} {a : Dialog E R} {m n : Progress} {transcript : T
     {result : R} → Plays a m transcript events result n → (more : Tape)
     → played a m.next (on_tape m.unread ++ (heard transcript ++ more))
     ≡ record { events = events; outcome = Some (result, n.next, on_tape n.unread ++ more) }
-whole_run {events = events} f more = search (rules, f.goes_on more, append-nil events)
+whole_run {events = events} f more = search (rules, f.goes_on more)
 
 -- breaking off
 
