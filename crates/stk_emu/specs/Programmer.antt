@@ -1,5 +1,5 @@
 -- The programmer, and what each command does.
-use Rattle.std.specs.Prelude.{ℕ, Bool, true, false, zero, suc, List, [], ◌∷◌, ◌++◌, ◌+◌, ◌-◌, ◌/◌, ◌%◌, length, ◌==◌, ◌&&◌, ◌||◌, not, nat_le, nat_lt, if◌then◌else◌, slice_index, slice_set, bit_or, take, drop, replicate, fold}
+use Rattle.std.specs.Prelude.{ℕ, Bool, true, false, zero, suc, List, [], ◌∷◌, ◌++◌, ◌+◌, ◌-◌, ◌/◌, ◌%◌, length, ◌==◌, ◌&&◌, ◌||◌, not, nat_le, nat_lt, if◌then◌else◌, slice_index, slice_set, bit_or, take, drop, replicate}
 use Rattle.std.specs.Int.{bit_at}
 use Rattle.std.specs.Option.{option_map_or}
 use Rattle.avr_part.specs.State.{ChipState, spi_of, with_empty_buffers}
@@ -44,7 +44,8 @@ if_programming code p fits done =
 
 -- The chip after these instructions.
 abbrev pub after_instructions : List (List ℕ) → ChipState → ChipState
-after_instructions xs chip = fold (λ chip x. (spi_of x chip).1) chip xs
+after_instructions [] chip = chip
+after_instructions (x ∷ xs) chip = after_instructions xs ((spi_of x chip).1)
 
 -- The programmer after these instructions.
 abbrev pub with_instructions : List (List ℕ) → Programmer → Programmer
