@@ -154,7 +154,8 @@ session_opened : (plan : Plan) (old new : Devices) (status : ℕ) → RunsSessio
     → all_openings new.desk.kept ≡ all_openings old.desk.kept
 session_opened plan old new status (inl (after, ran)) =
     let none = session_opens_none plan start.next (on_tape start.unread ++ (heard ran.during ++ [])) in
-    search (rules, openings_since old.desk new.desk (outputs ran.events) ran.kept, whole_run ran.plays [], none, append-nil)
+    let whole = whole_run ran.plays [] in
+    search (rules, openings_since old.desk new.desk (outputs ran.events) ran.kept, whole, none, append-nil)
 session_opened plan old new status (inr (broke, one)) = search (
   rules,
   prefix_none,

@@ -79,7 +79,8 @@ pub fault_reported : {dialog : Dialog OutputEvent Standing} {m n : Progress} {o 
     → ReportsFault dialog → (ran : RanWhole dialog m o p standing n) → reports_fault (outputs ran.events)
     ≡ has_fault standing
 fault_reported {dialog = dialog} {m = m} f ran =
-    subst (λ (p : Played OutputEvent Standing). Ends FaultAsInState (outputs p.events) p.outcome) (whole_run ran.plays [])
+    subst (λ (p : Played OutputEvent Standing). Ends FaultAsInState (outputs p.events) p.outcome)
+    (whole_run ran.plays [])
     (along_play FaultAsInState dialog m.next (on_tape m.unread ++ (heard ran.during ++ [])) f)
 
 pub then_reports : (first more : Dialog OutputEvent Standing) → ReportsFault first → ReportsFault more
