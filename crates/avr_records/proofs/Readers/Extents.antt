@@ -19,6 +19,7 @@ pub record Walked (kind : Kind) (e : Extent) (text : List ℕ) (left : List (Lis
   pub cut : lines text ≡ prefix ++ left
   pub extent : IsExtentOf largest_memory e (up_to_end (map (line_result kind) prefix))
 
+-- the results of all lines are those of the lines before, then those of the lines left
 meant_all : (kind : Kind) (prefix left : List (List ℕ)) (text : List ℕ) → lines text ≡ prefix ++ left
     → map (line_result kind) (lines text) ≡ map (line_result kind) prefix ++ map (line_result kind) left
 meant_all kind prefix left text cut = grind (arith, nat_tests, map-append)
@@ -28,6 +29,7 @@ pub left_lines : (left line more : List ℕ) → lines line ≡ line ∷ [] → 
     → lines left ≡ line ∷ lines more
 left_lines left line more one end = ap lines end ∙ line_first line more one
 
+-- one more line was good
 pub walk_next : (kind : Kind) (e new : Extent) (text line : List ℕ) (left more : List (List ℕ)) → left ≡ line ∷ more
     → e.ended ≡ false → Walked kind e text left → next_extent largest_memory e (line_result kind line) ≡ Ok new
     → Walked kind new text more
@@ -37,6 +39,7 @@ walk_next kind e new text line left more is on w step = record {
   extent = search (rules, results_prefix, counts_next);
 }
 
+-- the end of the extent is the size that these lines need
 needed_is : (e : Extent) (meant : List LineResult) → IsExtentOf largest_memory e (up_to_end meant) → Ok e.end
     ≡ needed_by meant
 needed_is e meant m = rw (m.no_fault, ← m.end) refl
@@ -49,10 +52,12 @@ walk_ended kind e text left done w =
     w.extent)
     ∙ ap needed_by (sym (meant_all kind w.prefix left text w.cut))
 
+-- without lines left the extent has the size that the text needs
 pub walk_last : (kind : Kind) (e : Extent) (text : List ℕ) → Walked kind e text [] → Ok e.end
     ≡ size_needed_in_text kind text
 walk_last kind e text w = grind (arith, nat_tests, append-nil)
 
+-- a line with a fault gives the fault of the text
 pub walk_fault : (kind : Kind) (e : Extent) (text line : List ℕ) (left more : List (List ℕ)) (fault : RecordFault)
     → left ≡ line ∷ more → e.ended ≡ false → Walked kind e text left
     → next_extent largest_memory e (line_result kind line) ≡ Err fault → Err fault ≡ size_needed_in_text kind text

@@ -29,14 +29,17 @@ pub text_goes_on : (text more : List ℕ) (prefix : List (List ℕ)) (last first
     → lines more ≡ first ∷ rest → lines (text ++ more) ≡ prefix ++ (last ++ first) ∷ rest
 text_goes_on text more prefix last first rest cut next = grind (arith, nat_tests, slice_split_append, pasted_last)
 
+-- a line before LF is the first of the lines
 pub line_first : (line more : List ℕ) → lines line ≡ line ∷ [] → lines (line ++ 10 ∷ more) ≡ line ∷ lines more
 line_first line more one = search (rules, text_goes_on line (10 ∷ more) [] line [] (lines more) one refl)
 
+-- all lines but the last are those of the first list, then all but the last of the second
 pub closed_prefix : (prefix : List (List ℕ)) (first : List ℕ) (more : List (List ℕ))
     → all_but_last (prefix ++ first ∷ more) ≡ prefix ++ all_but_last (first ∷ more)
 closed_prefix (line ∷ next ∷ prefix) first more = grind (arith, nat_tests, closed_prefix (next ∷ prefix) first more)
 closed_prefix x first more = refl
 
+-- lines are all but the last, then the last
 pub but_last : (first : List ℕ) (more : List (List ℕ))
     → (last : List ℕ) × (first ∷ more ≡ all_but_last (first ∷ more) ++ last ∷ [])
 but_last first [] = (first, refl)
@@ -44,14 +47,17 @@ but_last first (next ∷ more) = let rest = but_last next more in (rest.0, ap (�
 
 -- ---- what is kept of a line
 
+-- bytes that fit into the room left continue what is kept of a line
 pub kept_more : (part more : List ℕ) (room : ℕ) → room + length part ≡ longest + 1
     → part ++ take room more ≡ kept_of_line (part ++ more)
 kept_more part more room is = search (rules, take-append-add part more room)
 
+-- what is kept can be cut again before it is continued
 take_again : (n : ℕ) (xs ys : List ℕ) → take n (take n xs ++ ys) ≡ take n (xs ++ ys)
 take_again (suc n) (x ∷ xs) ys = ap (λ (zs : List ℕ). x ∷ zs) (take_again n xs ys)
 take_again x y ys = refl
 
+-- a line of more than the longest length is too long
 emits_too_long : (kind : Kind) (line : List ℕ) → nat_lt longest (length line) ≡ true
     → line_result kind line ≡ Err TooLong
 emits_too_long x line is = grind (arith, nat_tests)
@@ -105,6 +111,7 @@ ends : (text rest more : List ℕ) (prefix : List (List ℕ)) (last : List ℕ) 
     → lines text ≡ prefix ++ last ∷ [] → lines (text ++ (rest ++ 10 ∷ more)) ≡ prefix ++ (last ++ rest) ∷ lines more
 ends text rest more prefix last one cut = grind (arith, nat_tests, text_goes_on, line_first)
 
+-- the results of some lines and one more
 pub results_prefix : (kind : Kind) (prefix : List (List ℕ)) (line : List ℕ)
     → map (line_result kind) (prefix ++ line ∷ []) ≡ map (line_result kind) prefix ++ line_result kind line ∷ []
 results_prefix kind prefix line = map-append (line_result kind) prefix (line ∷ [])
@@ -149,16 +156,19 @@ pub reads_sound : (kind : Kind) (p : Progress) (part text : List ℕ) → ReadsL
     → ended_lines_fault kind text (image_size p) ≡ None
 reads_sound kind p part text r = grind (arith, nat_tests, closed_prefix, append-nil)
 
+-- so feeding returns no fault
 pub no_fault_so_far : (kind : Kind) (p : Progress) (size : ℕ) (part text : List ℕ) → image_size p ≡ size
     → ReadsLines kind p part text → Ok tt ≡ ok_unless (ended_lines_fault kind text size) (tt {0})
 no_fault_so_far kind p size part text same r = search (rules, reads_sound kind p part text r)
 
 -- ---- the whole text
 
+-- the results of a text are those of its ended lines, then that of its last line
 whole_meant : (kind : Kind) (text : List ℕ) (prefix : List (List ℕ)) (last : List ℕ) → lines text ≡ prefix ++ last
     ∷ [] → map (line_result kind) (lines text) ≡ map (line_result kind) prefix ++ line_result kind last ∷ []
 whole_meant kind text prefix last cut = ap (map (line_result kind)) cut ∙ results_prefix kind prefix last
 
+-- a text reads as the state after its last line
 whole_next : (kind : Kind) (p new : Progress) (part text : List ℕ) (r : ReadsLines kind p part text)
     → image_size new ≡ image_size p → next_progress p (line_result kind r.last) ≡ Ok new
     → image_in_text kind text (image_size p) ≡ Ok (new.image, ending_of new.extent)
@@ -180,9 +190,11 @@ whole_bad kind p part text fault is r =
     ∙ rw (holds_bad p _ [] (line_result kind r.last) fault r.holds
     (rw (append-nil r.last) at (line_step kind p part text [] r) ∙ is)) refl
 
+-- if nothing is kept of a line, it is empty
 kept_nothing : (line : List ℕ) → [] ≡ kept_of_line line → line ≡ []
 kept_nothing line is = search rules
 
+-- an empty line means nothing
 pub result_nothing : (kind : Kind) → line_result kind [] ≡ Ok Nothing
 result_nothing x = grind (arith, nat_tests)
 
@@ -200,6 +212,7 @@ whole_empty kind p part text empty r = elim (cases_Bool p.extent.ended) [
 
 -- ---- the pieces
 
+-- a line and its LF belong to the bytes used
 rearranged : (used line rest : List ℕ) → used ++ (line ++ 10 ∷ rest) ≡ (used ++ (line ++ 10 ∷ [])) ++ rest
 rearranged used line rest = grind (arith, nat_tests, append_assoc)
 
@@ -208,6 +221,7 @@ pub record LineState : Type 0 where
   pub progress : Progress
   pub part : List ℕ
 
+-- the state with this progress and this part
 abbrev pub line_state : Progress → List ℕ → LineState
 line_state progress part = record { progress = progress; part = part }
 
@@ -218,6 +232,7 @@ pub record Carries (kind : Kind) (old now : LineState) (piece left : List ℕ) :
   pub reads : (text : List ℕ) → ReadsLines kind old.progress old.part text
       → ReadsLines kind now.progress now.part (text ++ used)
 
+-- one more line of the piece was good
 pub carries_next : (kind : Kind) (old now new : LineState) (piece left line more : List ℕ)
     → Carries kind old now piece left → lines line ≡ line ∷ [] → left ≡ line ++ 10 ∷ more
     → next_progress now.progress (line_result kind (now.part ++ line)) ≡ Ok new.progress → new.part ≡ []
@@ -225,6 +240,7 @@ pub carries_next : (kind : Kind) (old now new : LineState) (piece left line more
 carries_next kind old now new piece left line more carries one end is clear =
     grind (arith, nat_tests, rearranged, append_assoc, ends_good)
 
+-- a line of the piece with a fault gives the fault of the ended lines
 pub carries_fault : (kind : Kind) (old now : LineState) (piece left line more : List ℕ) (fault : RecordFault)
     → Carries kind old now piece left → lines line ≡ line ∷ [] → left ≡ line ++ 10 ∷ more
     → next_progress now.progress (line_result kind (now.part ++ line)) ≡ Err fault
@@ -234,6 +250,7 @@ carries_fault kind old now piece left line more fault carries one end is same te
     let parts : text ++ piece ≡ (text ++ carries.used) ++ (line ++ 10 ∷ more) =
     search (rules, append_assoc) in search (rules, ends_bad)
 
+-- the rest of the piece continues the last line
 pub carries_last : (kind : Kind) (old now new : LineState) (piece left : List ℕ) → Carries kind old now piece left
     → (now.progress.extent.ended ≡ false → lines left ≡ left ∷ []) → new.progress ≡ now.progress
     → (now.progress.extent.ended ≡ false → new.part ≡ kept_of_line (now.part ++ left)) → (text : List ℕ)
@@ -241,11 +258,13 @@ pub carries_last : (kind : Kind) (old now new : LineState) (piece left : List �
 carries_last kind old now new piece left carries one is goes text r =
     grind (arith, nat_tests, append_assoc, keeps_done, keeps)
 
+-- at the beginning of a piece the state is as before
 pub carries_start : (kind : Kind) (state : LineState) (piece : List ℕ) → Carries kind state state piece piece
 carries_start kind state piece = grind (arith, nat_tests, append-nil)
 
 -- ---- the beginning
 
+-- a new reader has read the empty text
 pub begins : (kind : Kind) (size : ℕ) (p : Progress) (part : List ℕ) → p.extent ≡ no_lines → p.image ≡ empty size
     → part ≡ [] → (image_size p ≡ size) × ReadsLines kind p part []
 begins kind size p part none is part_is =
@@ -255,4 +274,5 @@ begins kind size p part none is part_is =
 -- the lemmas for a reader of lines
 pub ruleset piece_read = (nat_tests, length-append, length-take, kept_more, carries_start, carries_next)
 
+-- the lemmas for `LineReader`
 pub ruleset lines_read = (piece_read, nil_from_length, result_kept, whole_empty, whole_good)

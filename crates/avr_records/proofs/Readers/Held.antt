@@ -21,26 +21,31 @@ use Rattle.avr_records.proofs.Readers.LaterLines.{with_lines_before_append, firs
 
 -- ---- one line after others
 
+-- a sound line after lines without a fault makes none
 fault_last : (size : ℕ) (meant : List LineResult) (line : LineResult)
     → first_fault size (with_lines_before [] meant) ≡ None → fault_of_line size (meant, line) ≡ None
     → first_fault size (with_lines_before [] (meant ++ line ∷ [])) ≡ None
 fault_last size meant line none sound = grind (arith, nat_tests, with_lines_before_append, first_fault_append)
 
+-- the end of all bytes, with those of one more line
 end_last : (meant : List LineResult) (line : LineResult)
     → end_of_bytes (bytes_of_lines (meant ++ line ∷ [])) ≡ end_after (end_of_bytes (bytes_of_lines meant))
     (bytes_of_line (meant, line))
 end_last meant line = grind (arith, nat_tests, with_lines_before_append, flat_map-append, fold-append)
 
+-- how many data records there are, with one more line
 count_last : (meant : List LineResult) (line : LineResult) → count_by is_data_record (meant ++ line ∷ [])
     ≡ (if is_data_record line then count_by is_data_record meant + 1 else count_by is_data_record meant)
 count_last meant line = grind (arith, nat_tests, sum_by-append)
 
+-- whether there is an end record, with one more line
 any_end_last : (meant : List LineResult) (line : LineResult)
     → (if is_end_record line then true else list_any is_end_record meant) ≡ list_any is_end_record (meant ++ line ∷ [])
 any_end_last meant line = grind (arith, nat_tests, list_any-append)
 
 -- ---- one more line
 
+-- a line that can't extend the lines before is the first fault
 extent_bad : (size : ℕ) (e : Extent) (meant more : List LineResult) (line : LineResult) (fault : RecordFault)
     → IsExtentOf size e meant → next_extent size e line ≡ Err fault
     → first_fault size (with_lines_before [] (meant ++ line ∷ more)) ≡ Some fault
@@ -48,10 +53,12 @@ extent_bad size e meant more line fault m is = grind (arith, nat_tests, with_lin
 
 -- ---- up to an end record
 
+-- without an end record all lines count, and the last one, too
 upto_last : (meant : List LineResult) (line : LineResult) → list_any is_end_record (up_to_end meant) ≡ false
     → up_to_end (meant ++ line ∷ []) ≡ up_to_end meant ++ line ∷ []
 upto_last meant line none = grind (arith, nat_tests, up_to_end_open)
 
+-- a good line extends the lines that count
 pub counts_next : (size : ℕ) (e new : Extent) (meant : List LineResult) (line : LineResult) → e.ended ≡ false
     → IsExtentOf size e (up_to_end meant) → next_extent size e line ≡ Ok new
     → IsExtentOf size new (up_to_end (meant ++ line ∷ []))
@@ -71,18 +78,22 @@ counts_bad size e meant more line fault on m is = grind (arith, nat_tests, up_to
 
 -- ---- with the image
 
+-- putting bytes into a memory keeps its size
 length_with_pairs : (places : List (ℕ × ℕ)) (image : List (Option ℕ)) → length (with_pairs image places) ≡ length image
 length_with_pairs [] image = refl
 length_with_pairs (p ∷ ps) image = length_with_pairs ps (with_byte image p.0 p.1) ∙ length-set image p.0 (Some p.1)
 
+-- a line that extends the lines before also puts its bytes into the image
 with_good : (p new : Progress) (line : LineResult) (step : Result Extent RecordFault) → with_extent p line step ≡ Ok new
     → (step ≡ Ok new.extent) × (new.image ≡ with_pairs p.image (bytes_under_base p.extent.base line))
 with_good p new line step is = search (rules, nat_tests)
 
+-- lines after an end record change nothing
 pub holds_more : (p : Progress) (meant more : List LineResult) → p.extent.ended ≡ true → HoldsLines p meant
     → HoldsLines p (meant ++ more)
 holds_more p meant more done h = grind (arith, nat_tests, up_to_end_done)
 
+-- a good line before an end record changes the state as the definitions say
 holds_on : (p new : Progress) (meant : List LineResult) (line : LineResult) → p.extent.ended ≡ false
     → HoldsLines p meant → next_progress p line ≡ Ok new → HoldsLines new (meant ++ line ∷ [])
 holds_on p new meant line on h is =
@@ -93,6 +104,7 @@ holds_on p new meant line on h is =
     let extent = counts_next (image_size p) p.extent new.extent meant line on h.extent parts.0 in
     search (rules, nat_tests, upto_last, with_lines_before_append, flat_map-append, fold-append)
 
+-- after an end record a step changes nothing
 done_step : (p : Progress) (line : LineResult) (out : Result Progress RecordFault) → p.extent.ended ≡ true
     → next_progress p line ≡ out → Ok p ≡ out
 done_step p line out done is = sym (cond-true p.extent.ended (Ok p) _ done) ∙ is

@@ -20,6 +20,7 @@ abbrev pub threaded : AddressBase → List LineResult → List (ℕ × ℕ)
 threaded base [] = []
 threaded base (meant ∷ more) = bytes_under_base base meant ++ threaded (next_base base meant) more
 
+-- the bytes of lines are at the addresses that the bases before them set
 placed_threaded : (before meant : List LineResult)
     → flat_map bytes_of_line (with_lines_before before meant) ≡ threaded (base_after before) meant
 placed_threaded before [] = refl
@@ -34,9 +35,11 @@ GoesOn (Ok Nothing) = Unit {0}
 GoesOn (Ok (Data offset bytes)) = Unit {0}
 GoesOn (Ok (Rebase base)) = Unit {0}
 
+-- these lines, then the end record
 abbrev pub then_end : List LineResult → List LineResult
 then_end prefix = prefix ++ Ok End ∷ []
 
+-- what follows the end record doesn't count
 pub stops : (prefix more : List LineResult) → Every GoesOn prefix → up_to_end (prefix ++ Ok End ∷ more) ≡ then_end prefix
 stops [] more on = refl
 stops (Ok Nothing ∷ prefix) more on = ap (λ (zs : List LineResult). Ok Nothing ∷ zs) (stops prefix more on.1)
@@ -45,13 +48,16 @@ stops (Ok (Rebase base) ∷ prefix) more on =
     ap (λ (zs : List LineResult). Ok (Rebase base) ∷ zs) (stops prefix more on.1)
 stops x more on = absurd on.0
 
+-- these lines have an end record
 has_end : (prefix more : List LineResult) → list_any is_end_record (prefix ++ Ok End ∷ more) ≡ true
 has_end [] more = refl
 has_end (s ∷ prefix) more = grind (arith, nat_tests, has_end prefix more)
 
+-- so the file has ended
 pub ended : (prefix more : List LineResult) → file_ending (prefix ++ Ok End ∷ more) ≡ Ended
 ended prefix more = ap (λ (b : Bool). if b then Ended else NoEnd) (has_end prefix more)
 
+-- such lines have no fault if all bytes are inside
 pub first_fault_none : (size : ℕ) (before prefix : List LineResult) → Every GoesOn prefix
     → first_outside size (flat_map bytes_of_line (with_lines_before before (then_end prefix))) ≡ None
     → first_fault size (with_lines_before before (then_end prefix)) ≡ None
