@@ -19,7 +19,7 @@ use Rattle.avr_records.specs.declared.kind.Kind.TheVariants.{Ihex}
 use Rattle.avr_records.specs.declared.kind.AddressBase.TheVariants.{Linear}
 use Rattle.avr_records.proofs.Rows.Cuts.{IsBytes_nil, IsBytes_cons, IsBytes_append, IsRow, Every}
 use Rattle.avr_records.proofs.Writers.Lines.{is_plain, plain_digits, encode_digits, bytes_of_encode, result_plain, lines_plain, lines_written}
-use Rattle.avr_records.proofs.Writers.Reread.{GoesOn, then_end, threaded, places_linear}
+use Rattle.avr_records.proofs.Writers.Reread.{GoesOn, with_end, threaded, places_linear}
 
 -- the bytes between the colon and the checksum
 abbrev unsummed : ℕ → ℕ → List ℕ → List ℕ
@@ -109,7 +109,7 @@ rows_go_on upper (row ∷ more) = let high : ℕ = row.0 / 65536 in search (rule
 
 -- the lines of rows put each byte at its address
 pub rows_threaded : (upper : ℕ) (rows : List (ℕ × List ℕ))
-    → threaded (Linear upper) (then_end (row_results upper rows)) ≡ flat_map places_of rows
+    → threaded (Linear upper) (with_end (row_results upper rows)) ≡ flat_map places_of rows
 rows_threaded upper [] = refl
 rows_threaded upper (row ∷ rows) =
     let high : ℕ = row.0 / 65536 in search (rules, nat_tests, places_linear, rows_threaded high rows)

@@ -67,9 +67,9 @@ row_part place most end bytes image inside is whole =
     grind (arith, nat_tests, lead_within, length-drop, filled_is, filled_part, lead_is_filled, take_min)
 
 -- a row has as many bytes as fit, and as the run has
-row_long : (size place : ℕ) (row : List ℕ) (image : List (Option ℕ)) → row ≡ take size (leading_run (drop place image))
-    → length row ≡ min size (length (leading_run (drop place image)))
-row_long size place row image is = ap length is ∙ length-take size (leading_run (drop place image))
+row_length : (size place : ℕ) (row : List ℕ) (image : List (Option ℕ))
+    → row ≡ take size (leading_run (drop place image)) → length row ≡ min size (length (leading_run (drop place image)))
+row_length size place row image is = ap length is ∙ length-take size (leading_run (drop place image))
 
 -- the next row: the bytes from the next address that holds one
 rows_walk : (size : ℕ → ℕ) (addr place : ℕ) (row : List ℕ) (image : List (Option ℕ))
@@ -79,7 +79,7 @@ rows_walk : (size : ℕ → ℕ) (addr place : ℕ) (row : List ℕ) (image : Li
 rows_walk size addr place row image found wide is =
     let run : List ℕ = leading_run (drop place image) in
     let n : ℕ = length row in
-    let long = row_long (size place) place row image is in
+    let long = row_length (size place) place row image is in
     let same : take n run ≡ row = ap (λ (k : ℕ). take k run) long ∙ take_min (size place) run ∙ sym is in
     ap (rows_of size) (runs_next image addr place found)
     ∙ rows_step size place n (drop place image) (lead_some image addr place found) wide long
@@ -110,8 +110,8 @@ pub text_row : (kind : Kind) (upper : ℕ) (size : AddressSize) (addr place : �
 text_row kind upper size addr place row image found same is = grind (arith, nat_tests, rows_walk)
 
 -- a text with a piece in front isn't empty
-pub longer : (text piece more : List ℕ) → text ≡ piece ++ more → 0 < length piece → 0 < length text
-longer text piece more is some = omega (arith, ap length is, length-append piece more, some)
+pub some_with_piece : (text piece more : List ℕ) → text ≡ piece ++ more → 0 < length piece → 0 < length text
+some_with_piece text piece more is some = omega (arith, ap length is, length-append piece more, some)
 
 -- ---- the last address that holds a byte
 
@@ -166,7 +166,7 @@ last_walk last addr place end row image found is ends =
     let some = lead_some image addr place found in
     let short = lead_within (drop place image) in
     let left = length-drop place image in
-    let long = row_long 32 place row image is in
+    let long = row_length 32 place row image is in
     let n : ℕ = length row - 1 in
     let within : n < length (leading_run (drop place image)) = omega (arith, long, some) in
     let last_is : place + n ≡ end - 1 = omega (arith, long, some, ends) in
@@ -184,7 +184,7 @@ last_walk last addr place end row image found is ends =
     }
 
 -- the lemmas for the lines of a cursor
-pub ruleset lines_written = (nat_tests, append-nil, longer, text_end, text_row, text_upper)
+pub ruleset lines_written = (nat_tests, append-nil, some_with_piece, text_end, text_row, text_upper)
 
 -- for the last address
 pub ruleset last_found = (nat_tests, last_walk, last_done)

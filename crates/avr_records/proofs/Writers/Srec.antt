@@ -26,7 +26,7 @@ use Rattle.avr_records.specs.declared.fault.LineFault.TheVariants.{Mark}
 use Rattle.avr_records.proofs.Writers.Pieces.{few_bytes, length_low_bytes}
 use Rattle.avr_records.proofs.Rows.Cuts.{IsBytes_nil, IsBytes_append, IsRow, Every}
 use Rattle.avr_records.proofs.Writers.Lines.{is_plain, plain_digits, encode_digits, bytes_of_encode, result_plain, lines_plain, lines_written}
-use Rattle.avr_records.proofs.Writers.Reread.{GoesOn, then_end, threaded, places_linear}
+use Rattle.avr_records.proofs.Writers.Reread.{GoesOn, with_end, threaded, places_linear}
 
 -- the low bytes of a number are bytes
 IsBytes_low_bytes : (size n : ℕ) → IsBytes (low_bytes size n)
@@ -134,7 +134,7 @@ rows_go_on (row ∷ rows) = (tt, rows_go_on rows)
 
 -- the lines of rows put each byte at its address
 pub rows_threaded : (rows : List (ℕ × List ℕ))
-    → threaded (Linear 0) (then_end (map emitted_of rows)) ≡ flat_map places_of rows
+    → threaded (Linear 0) (with_end (map emitted_of rows)) ≡ flat_map places_of rows
 rows_threaded [] = refl
 rows_threaded (row ∷ rows) = grind (arith, nat_tests, rows_threaded rows, places_linear)
 
