@@ -6,6 +6,7 @@ use Rattle.avr_desk.specs.declared.record.Open.TheVariants.{ToRead, ToWrite}
 use Rattle.avr_desk.specs.Record.{Record, with_open, with_absent, with_held, with_denied, with_none_held, with_replaced, with_tried, after_read}
 use Rattle.avr_desk.specs.Stream.{after_sent}
 
+-- the record after this call
 abbrev pub after_call : Call → Record → Record
 after_call (call.Opened name) r = with_open (ToRead (record { name = name.now; bytes = []; ended = false })) r
 after_call (call.Absent name) r = with_absent name.now r

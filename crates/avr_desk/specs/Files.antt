@@ -8,6 +8,7 @@ use Rattle.avr_desk.specs.declared.files.FileFault.{FileFault}
 use Rattle.avr_desk.specs.declared.files.FileFault.TheVariants.{Absent, NotOpened, NotRead, Memory}
 use Rattle.avr_desk.specs.declared.stream.Stream.TheVariants.{File}
 
+-- the number of a fault, which never changes
 abbrev pub file_fault_number : FileFault → ℕ
 file_fault_number fault = elim fault [ Absent ↦ 1 | NotOpened ↦ 2 | NotRead ↦ 3 | Memory ↦ 4 ]
 

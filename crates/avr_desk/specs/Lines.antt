@@ -36,31 +36,39 @@ line mark pieces = mark ++ (concat pieces ++ 10 ∷ [])
 abbrev pub information : List Bytes → Bytes
 information pieces = line (codes "avrstk: ") pieces
 
+-- a line of warning
 abbrev pub warning : List Bytes → Bytes
 warning pieces = line (codes "avrstk: warning: ") pieces
 
+-- a line of an error
 abbrev pub error : List Bytes → Bytes
 error pieces = line (codes "avrstk: error: ") pieces
 
 -- ---- the messages about any file, and about failed allocation
 
+-- allocation failed
 abbrev pub memory_pieces : List Bytes
 memory_pieces = codes "out of memory" ∷ []
 
+-- the file could not be opened or read, or allocation for it failed
 abbrev pub file_pieces : Bytes → FileFault → List Bytes
 file_pieces file NotRead = file ∷ codes ": cannot be read" ∷ []
 file_pieces file Memory = memory_pieces
 file_pieces file fault = file ∷ codes ": cannot be opened" ∷ []
 
+-- the file has more bytes than may be read
 abbrev pub too_long_pieces : Bytes → ℕ → List Bytes
 too_long_pieces file limit = file ∷ codes ": longer than " ∷ decimal limit ∷ codes " bytes" ∷ []
 
+-- the file could not be created
 abbrev pub not_created_pieces : Bytes → List Bytes
 not_created_pieces file = file ∷ codes ": cannot be created" ∷ []
 
+-- the file could not be written
 abbrev pub not_written_pieces : Bytes → List Bytes
 not_written_pieces file = file ∷ codes ": cannot be written" ∷ []
 
+-- the lines of these messages
 abbrev pub memory_line : Bytes
 memory_line = error memory_pieces
 

@@ -35,6 +35,7 @@ abbrev pub after_events : List OutputEvent → Record → Record
 after_events [] r = r
 after_events (event ∷ events) r = after_events events (after event r)
 
+-- the second bytes begin with the first
 abbrev pub IsBytePrefixOf : Bytes → Bytes → Type 0
 IsBytePrefixOf prefix bytes = (back : Bytes) × (prefix ++ back ≡ bytes)
 

@@ -10,6 +10,7 @@ use Rattle.avr_desk.specs.declared.record.FileUse.TheVariants.{Opened, Created}
 use Rattle.avr_desk.specs.declared.record.Open.{Open}
 use Rattle.avr_desk.specs.declared.record.Open.TheVariants.{Closed, ToRead, ToWrite}
 
+-- bytes of a file, of a name or of a text
 abbrev pub Bytes : Type 0
 Bytes = List ℕ
 

@@ -3,6 +3,7 @@ use Rattle.std.specs.Prelude.{◌≡◌, ◌⊎◌, ℕ, Result, Err}
 use Rattle.avr_image.specs.declared.fault.ImageFault.{ImageFault}
 use Rattle.avr_image.specs.declared.fault.ImageFault.TheVariants.{OutOfRange, BadNumber, TooLarge, Failed, Memory, OtherSize}
 
+-- the number of a fault, which never changes
 abbrev pub image_fault_number : ImageFault → ℕ
 image_fault_number (OutOfRange addr) = 1
 image_fault_number (BadNumber value_number) = 2

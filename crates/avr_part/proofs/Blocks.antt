@@ -16,6 +16,7 @@ use Rattle.avr_part.specs.Sound.{IsSoundChip}
 pub page_within : (at page size : ℕ) → at < size → size % page ≡ 0 → at / page * page + page ≤ size
 page_within at page size inside whole = grind (arith, common_steps)
 
+-- the offset of a half is 0 or 1
 pub offset_at : (i : ℕ) → half_offset (half_at i) ≡ i % 2
 offset_at i = search rules
 
@@ -27,6 +28,7 @@ mod_on word k half small = grind (arith, common_steps)
 place_on : (word i half : ℕ) → word % half * 2 + i < half * 2 → (word + i / 2) % half * 2 + i % 2 ≡ word % half * 2 + i
 place_on word i half inside = search (rules, mod_on)
 
+-- loading bytes one by one puts them side by side into the page buffer
 pub loaded_at_once : (word i half : ℕ) (bytes : List ℕ) (s : ChipState) → s.part.flash_page / 2 ≡ half
     → ((x : ℕ) → x % 256 % half ≡ x % half) → word % half * 2 + i + length bytes ≤ half * 2
     → half * 2 ≤ length s.flash_buffer → loaded_one_by_one word i bytes s ≡ record s {
@@ -41,6 +43,7 @@ loaded_at_once word i half (d ∷ ds) s is wraps inside long =
     let long₂ : half * 2 ≤ length (set s.flash_buffer p d) = rw (length-set s.flash_buffer p d) long in
     grind (arith, common_steps, loaded_at_once word (suc i) half ds s₂ is wraps (omega arith) long₂)
 
+-- reading bytes one by one gives the bytes side by side in flash
 pub read_at_once : (word i n half : ℕ) (s : ChipState) → s.part.flash_size / 2 ≡ half
     → (s.extended * 65536 + word) % half * 2 + i + n ≤ half * 2 → half * 2 ≤ length s.flash
     → read_one_by_one word i n s ≡ take n (drop ((s.extended * 65536 + word) % half * 2 + i) s.flash)
@@ -58,6 +61,7 @@ read_at_once word i (suc n) half s is inside long =
 wraps_in_page : (half : ℕ) → 256 % (half * 2) ≡ 0 → (x : ℕ) → x % 256 % half ≡ x % half
 wraps_in_page half whole x = search (rules, mod-mod_of_dvd, dvd_trans, dvd-mul_right, dvd_of_mod-eq-zero)
 
+-- so a block is loaded at once as its instructions load it
 pub block_loaded : (word place : ℕ) (bytes : List ℕ) (s : ChipState) → IsSoundChip s
     → is_in_page word (length bytes) s ≡ true → place ≡ word % (s.part.flash_page / 2) * 2
     → record s { flash_buffer = with_bytes_at place bytes s.flash_buffer } ≡ loaded_one_by_one word 0 bytes s
@@ -68,9 +72,11 @@ block_loaded word place bytes s sound inside at =
     let long = sound.flash_buffer_size in
     let first : place ≡ word % half * 2 + 0 = omega arith in search (rules, loaded_at_once, wraps_in_page)
 
+-- flash has an even number of bytes
 flash_even : (part : Part) → IsPart part → part.flash_size % 2 ≡ 0
 flash_even part sound = search (rules, mod-eq-zero_of_dvd, dvd_trans, dvd_of_mod-eq-zero)
 
+-- so a block is read at once as its instructions read it
 pub block_read : (word n start len : ℕ) (bytes : List ℕ) (s : ChipState) → IsSoundChip s → is_in_flash word n s ≡ true
     → start ≡ word_address s word → len ≡ n → bytes ≡ s.flash
     → take (start + len - start) (drop start bytes) ≡ read_one_by_one word 0 n s

@@ -3,6 +3,7 @@ use Rattle.std.proofs.Common.{◌≡◌, ◌∙◌, ap, refl, arith, ℕ, suc, �
 use Rattle.std.proofs.lemmas.Bool.Decides.{nat_tests}
 use Rattle.avr_part.specs.Memory.{map_indexed_from, byte_and_page, overlaid_byte}
 
+-- a list whose items are changed place by place, the first at place k
 pub changed_from_is : (k : ℕ) (f : ℕ → ℕ → ℕ) (xs ys : List ℕ) → length ys ≡ length xs
     → ((i : ℕ) → i < length xs → get_or ys i 0 ≡ f (k + i) (get_or xs i 0)) → ys ≡ map_indexed_from k f xs
 changed_from_is k f [] [] len each = refl
@@ -13,6 +14,7 @@ changed_from_is k f (x ∷ xs) (y ∷ ys) len each =
     let rest : ys ≡ map_indexed_from (suc k) f xs = changed_from_is (suc k) f xs ys (omega (arith, len))
     (λ i l. each (suc i) (omega arith) ∙ ap (λ (n : ℕ). f n (get_or xs i 0)) (omega arith)) in search rules
 
+-- the same from place 0 on
 pub changed_is : (f : ℕ → ℕ → ℕ) (xs ys : List ℕ) → length ys ≡ length xs
     → ((i : ℕ) → i < length xs → get_or ys i 0 ≡ f i (get_or xs i 0)) → ys ≡ map_indexed_from 0 f xs
 changed_is f xs ys len each = search (rules, changed_from_is)

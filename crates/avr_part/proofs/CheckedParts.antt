@@ -14,10 +14,12 @@ abbrev pub onto : List Part → Result (List Part) NamedFault → Result (List P
 onto ps (Ok qs) = Ok (ps ++ qs)
 onto ps (Err e) = Err e
 
+-- one more part in front of the result is one more behind these
 pub onto_next : (ps : List Part) (p : Part) (r : Result (List Part) NamedFault)
     → onto ps (r >>= (λ qs. Ok (p ∷ qs))) ≡ onto (ps ++ p ∷ []) r
 onto_next ps p r = search (rules, append_assoc)
 
+-- a good part goes behind those that were checked
 pub checked_next : (all : Result (List Part) NamedFault) (ps : List Part) (left next : List (String Global × Value))
     (k : String Global) (v : Value) (p : Part) → left ≡ (k, v) ∷ next → all ≡ onto ps (parts_in (members_view left))
     → Ok p ≡ in_part (string_bytes k) (part_of (string_bytes k) (view v))

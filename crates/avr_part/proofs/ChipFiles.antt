@@ -11,10 +11,12 @@ use Rattle.avr_part.specs.ChipFile.{chip_file, chip_file_size, chip_from_file, s
 pub flash_part : (flash eeprom fuses : List ℕ) (n : ℕ) → length flash ≡ n → take n (flash ++ eeprom ++ fuses) ≡ flash
 flash_part flash eeprom fuses n e = ap (take n) (append_assoc flash eeprom fuses) ∙ take_at flash (eeprom ++ fuses) n e
 
+-- then EEPROM
 pub eeprom_part : (flash eeprom fuses : List ℕ) (n m : ℕ) → length flash ≡ n → length eeprom ≡ m
     → take m (drop n (flash ++ eeprom ++ fuses)) ≡ eeprom
 eeprom_part flash eeprom fuses n m e f = search (rules, append_assoc, drop_at, take_at)
 
+-- then the fuses and the lock byte
 pub fuse_part : (flash eeprom fuses : List ℕ) (at k : ℕ) → at ≡ length flash + length eeprom + k
     → get_or (flash ++ eeprom ++ fuses) at 0 ≡ get_or fuses k 0
 fuse_part flash eeprom fuses at k e = search (rules, length-append, get_or-append-add)
@@ -34,9 +36,11 @@ read_again s sound =
     let lock = fuse_part s.flash s.eeprom fuses (at + 3) 3 (omega arith) in
     search (rules, length-append)
 
+-- four bytes are these four
 four_bytes : (xs : List ℕ) → length xs ≡ 4 → xs ≡ get_or xs 0 0 ∷ get_or xs 1 0 ∷ get_or xs 2 0 ∷ get_or xs 3 0 ∷ []
 four_bytes xs e = grind (arith, common_steps)
 
+-- a chip made from a file has this file
 pub written_again : (p : Part) (bytes : List ℕ) → length bytes ≡ chip_file_size p → chip_file (state_from_file p bytes)
     ≡ bytes
 written_again p bytes e =

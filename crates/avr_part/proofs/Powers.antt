@@ -9,6 +9,7 @@ abbrev pub all_below : (ℕ → Bool) → ℕ → Bool
 all_below test zero = true
 all_below test (suc n) = test n && all_below test n
 
+-- so does each single number below n
 pub below : (test : ℕ → Bool) (n i : ℕ) → all_below test n ≡ true → i < n → test i ≡ true
 below test zero i all l = absurd (omega arith)
 below test (suc n) i all l =
@@ -22,18 +23,22 @@ below test (suc n) i all l =
 abbrev is_page : ℕ → Bool
 is_page n = 256 % n == 0 && (nat_lt n 2 || n % 2 == 0)
 
+-- a power of two is such a number
 abbrev page_if_power : ℕ → Bool
 page_if_power n = cond (is_power_of_two n) (is_page n) true
 
+-- each power of two up to 256 is
 page_of_power : (n : ℕ) → is_power_of_two n ≡ true → n ≤ 256 → is_page n ≡ true
 unfolding lib.Count.ones
 page_of_power n power most =
     ap (λ (b : Bool). cond b (is_page n) true) (let e : true ≡ is_power_of_two n = cc in e)
     ∙ below page_if_power 257 n refl (omega arith)
 
+-- a power of two up to 256 divides 256
 pub power_divides : (n : ℕ) → is_power_of_two n ≡ true → n ≤ 256 → 256 % n ≡ 0
 power_divides n power most = search (rules, page_of_power n power most)
 
+-- a power of two from 2 to 256 is even
 pub power_is_even : (n : ℕ) → is_power_of_two n ≡ true → n ≤ 256 → 2 ≤ n → n % 2 ≡ 0
 power_is_even n power most some =
     elim (or_cases (nat_lt n 2) (n % 2 == 0)

@@ -5,6 +5,7 @@ use Rattle.avr_part.specs.Part.{Part}
 use Rattle.avr_part.specs.declared.fault.PartFault.{PartFault}
 use Rattle.avr_part.specs.declared.fault.PartFault.TheVariants.{NoSuchPart}
 
+-- the ATmega328P
 abbrev pub m328p : Part
 m328p = record {
   id = codes "m328p";
@@ -16,6 +17,7 @@ m328p = record {
   eesave_bit = 3;
 }
 
+-- the ATtiny85
 abbrev pub t85 : Part
 t85 = record {
   id = codes "t85";
@@ -27,6 +29,7 @@ t85 = record {
   eesave_bit = 3;
 }
 
+-- the ATmega2560
 abbrev pub m2560 : Part
 m2560 = record {
   id = codes "m2560";
@@ -38,6 +41,7 @@ m2560 = record {
   eesave_bit = 3;
 }
 
+-- the parts that are known without a part file
 abbrev pub built_in_parts : List Part
 built_in_parts = m328p ∷ t85 ∷ m2560 ∷ []
 

@@ -2,6 +2,7 @@
 use Rattle.avr_part.specs.State.{ChipState}
 use Rattle.avr_part.specs.declared.chip.Chip.TheInside.{Inside}
 
+-- the state that contracts see of a chip
 abbrev pub state_of : Inside → ChipState
 state_of c = record {
   part = c.part;

@@ -5,9 +5,11 @@ use Rattle.avr_part.specs.State.{ChipState, fresh_state}
 use Rattle.avr_part.specs.declared.fault.PartFault.{PartFault}
 use Rattle.avr_part.specs.declared.fault.PartFault.TheVariants.{BadChipFile}
 
+-- the bytes of a chip's file: flash, EEPROM, fuses and the lock byte
 abbrev pub chip_file : ChipState → List ℕ
 chip_file s = s.flash ++ s.eeprom ++ s.lfuse ∷ s.hfuse ∷ s.efuse ∷ s.lock ∷ []
 
+-- how many bytes the file of a chip has
 abbrev pub chip_file_size : Part → ℕ
 chip_file_size p = p.flash_size + p.eeprom_size + 4
 

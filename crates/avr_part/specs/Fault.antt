@@ -5,6 +5,7 @@ use Rattle.avr_part.specs.declared.fault.Field.TheVariants as field
 use Rattle.avr_part.specs.declared.fault.PartFault.{PartFault}
 use Rattle.avr_part.specs.declared.fault.PartFault.TheVariants.{NotToml, Missing, BadValue, BadSizes, NoSuchPart, BadChipFile, Memory}
 
+-- the name of a field in a part file
 abbrev pub field_name : Field → List ℕ
 field_name field.Parts = codes "parts"
 field_name field.Id = codes "id"
@@ -15,6 +16,7 @@ field_name field.EepromSize = codes "eeprom_size"
 field_name field.EepromPage = codes "eeprom_page"
 field_name field.EesaveBit = codes "eesave_bit"
 
+-- the number of a fault, which never changes
 abbrev pub part_fault_number : PartFault → ℕ
 part_fault_number NotToml = 1
 part_fault_number (Missing field) = 2

@@ -4,6 +4,7 @@ use Rattle.std.specs.Str.{bytes_eq}
 use Rattle.avr_part.specs.declared.part.Mem.{Mem}
 use Rattle.avr_part.specs.declared.part.Mem.TheVariants.{Flash, Eeprom, Lfuse, Hfuse, Efuse, Lock, Signature, Calibration}
 
+-- the name of a memory
 abbrev pub name_of : Mem → List ℕ
 name_of Flash = codes "flash"
 name_of Eeprom = codes "eeprom"
@@ -14,6 +15,7 @@ name_of Lock = codes "lock"
 name_of Signature = codes "signature"
 name_of Calibration = codes "calibration"
 
+-- all memories
 abbrev pub all_memories : List Mem
 all_memories = Flash ∷ Eeprom ∷ Lfuse ∷ Hfuse ∷ Efuse ∷ Lock ∷ Signature ∷ Calibration ∷ []
 

@@ -14,6 +14,7 @@ pub record Part : Type 0 where
   pub eeprom_page : ℕ
   pub eesave_bit : ℕ
 
+-- the number is neither below the first bound nor above the second
 abbrev pub is_between : ℕ → ℕ → ℕ → Bool
 is_between low high n = nat_le low n && nat_le n high
 

@@ -18,6 +18,7 @@ use Rattle.avr_part.specs.declared.fault.Field.TheVariants as field
 use Rattle.avr_part.specs.declared.fault.PartFault.{PartFault}
 use Rattle.avr_part.specs.declared.fault.PartFault.TheVariants.{NotToml, Missing, BadValue, BadSizes, Memory}
 
+-- bytes of a text or of a name
 abbrev pub Bytes : Type 0
 Bytes = List ℕ
 
@@ -136,6 +137,7 @@ GivesPartUnlessOutOfMemory want got = (got ≡ want) ⊎ (got ≡ Err Memory)
 abbrev pub ReadsUnlessOutOfMemory : {T : Type 0} → Result T NamedFault → Result T NamedFault → Type 0
 ReadsUnlessOutOfMemory want got = (got ≡ want) ⊎ (got ≡ Err (of_file Memory))
 
+-- the parts that were listed, as a list
 abbrev pub listed_items : Result (Vec Part) NamedFault → Result (List Part) NamedFault
 listed_items = result_map_both (λ v. v.items) (λ e. e)
 

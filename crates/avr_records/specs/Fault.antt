@@ -3,6 +3,7 @@ use Rattle.std.specs.Prelude.{ℕ, Option, Some, None}
 use Rattle.avr_records.specs.declared.fault.RecordFault.{RecordFault}
 use Rattle.avr_records.specs.declared.fault.RecordFault.TheVariants.{BadMark, BadDigit, BadLength, BadSum, BadType, OutOfRange, LineTooLong, BadCount, Failed, Memory, TooLong}
 
+-- the number of a fault, which never changes
 abbrev pub fault_number : RecordFault → ℕ
 fault_number (BadMark line) = 1
 fault_number (BadDigit line) = 2

@@ -24,6 +24,7 @@ abbrev pub ReturnsRecord : Kind → Result RecordFields LineFault → Result Lin
 ReturnsRecord kind want result =
     MatchResult result (λ found. (want ≡ Ok (record_of found)) × FitsFields kind found) (λ fault. want ≡ Err fault)
 
+-- the meaning of a line that was read, in terms of definitions
 abbrev pub meaning_of : Line → Meaning
 meaning_of line.Nothing = meant.Nothing
 meaning_of (line.Data offset bytes) = meant.Data offset bytes.now

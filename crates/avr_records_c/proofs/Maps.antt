@@ -16,6 +16,7 @@ octets_are image k (suc n) (x ∷ xs) len each =
     (λ i l. each (suc i) (omega arith) ∙ ap (λ (a : ℕ). octet image (a * 8)) (omega arith)) in search rules
 octets_are image k y z len each = absurd (omega (arith, len))
 
+-- the same from the first octet on
 pub bitmap_is : (image : List (Option ℕ)) (n : ℕ) (xs : List ℕ) → length xs ≡ n
     → ((i : ℕ) → i < n → get_or xs i 0 ≡ octet image (i * 8)) → xs ≡ bitmap image n
 bitmap_is image n xs len each = grind (arith, nat_tests, octets_are)
@@ -54,6 +55,7 @@ pub put_gap : (image : List (Option ℕ)) (from place : ℕ) (xs : List ℕ) →
 put_gap image from place xs found p =
     grind (arith, nat_tests, next_held image (from * 8) place found, gap_before image from place found)
 
+-- if no byte follows, the octets that are put are the bitmap
 pub none_put : (image : List (Option ℕ)) (from : ℕ) (xs : List ℕ) → first_from image (from * 8) ≡ None
     → PutUpTo image from xs → xs ≡ bitmap image (length xs)
 none_put image from xs none p = grind (arith, nat_tests, bitmap_is, gap_behind image from none)

@@ -13,10 +13,12 @@ pub record IsPut (text rest room : List ℕ) (put : ℕ) (now : List ℕ) : Type
   pub left : rest ≡ drop put text
   pub stands : now ≡ take put text ++ drop put room
 
+-- putting text keeps the size of the room
 pub room_length : {text rest room : List ℕ} {put : ℕ} {now : List ℕ} → IsPut text rest room put now
     → length now ≡ length room
 room_length {text} {rest} {room} {put} {now} is = grind (arith, nat_tests, length-append, length-take-le, length-drop)
 
+-- the first bytes of a text, in two steps
 take_more : (put count : ℕ) (text : List ℕ) → put ≤ length text
     → take (put + count) text ≡ take put text ++ take count (drop put text)
 take_more put count text few =

@@ -6,6 +6,7 @@ use Rattle.avr_records_c.specs.Numbers.{outcome_of_fault, misfit, no_records}
 use Rattle.avr_records_c.specs.Reading.{ReadResult, checked_read_kind, Reads}
 use Rattle.avr_records_c.specs.Writing.{checked_write_kind, file_rest, file_start, put_none, Writes}
 
+-- a gap, and two bytes
 abbrev gap_first : List (Option ℕ)
 gap_first = None ∷ Some 10 ∷ Some 11 ∷ []
 
@@ -13,18 +14,23 @@ gap_first = None ∷ Some 10 ∷ Some 11 ∷ []
 no_fourth_kind : checked_read_kind 4 0 9 2 ≡ Err misfit
 no_fourth_kind = refl
 
+-- the number of raw files
 no_records_in_raw_bytes : checked_read_kind 0 0 9 2 ≡ Err no_records
 no_records_in_raw_bytes = refl
 
+-- the number of executables
 no_records_in_an_executable : checked_read_kind 3 0 9 2 ≡ Err no_records
 no_records_in_an_executable = refl
 
+-- a format without records, and a bitmap that is too short
 misfit_before_the_format : checked_read_kind 3 0 9 1 ≡ Err misfit
 misfit_before_the_format = refl
 
+-- a file of more than 32 bits
 no_longer_file : checked_read_kind 1 4294967296 9 2 ≡ Err misfit
 no_longer_file = refl
 
+-- a bitmap that is too short
 no_longer_bitmap : checked_write_kind 2 8 2 ≡ None
 no_longer_bitmap = refl
 
@@ -32,10 +38,12 @@ no_longer_bitmap = refl
 no_end_of_two : file_rest Ihex gap_first (record { addr = 3; gone = 0; upper = 0; address_size = 0; ended = 2 }) ≡ None
 no_end_of_two = refl
 
+-- addresses of one byte
 no_address_of_a_byte : file_rest Srec gap_first
     (record { addr = 3; gone = 0; upper = 0; address_size = 1; ended = 0 }) ≡ None
 no_address_of_a_byte = refl
 
+-- addresses of five bytes
 no_address_of_five_bytes : file_rest Srec gap_first
     (record { addr = 3; gone = 0; upper = 0; address_size = 5; ended = 0 }) ≡ None
 no_address_of_five_bytes = refl

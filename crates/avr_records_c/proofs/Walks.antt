@@ -10,11 +10,13 @@ use Rattle.avr_records_c.specs.Bitmap.{is_marked, image_of}
 
 -- ---- the image of the bytes from an address on
 
+-- an image is as long as its bytes
 pub length_image : (addr : ℕ) (present bytes : List ℕ)
     → length (with_gaps (is_marked present) addr bytes) ≡ length bytes
 length_image addr present [] = refl
 length_image addr present (b ∷ bytes) = ap suc (length_image (suc addr) present bytes)
 
+-- the image from a later address on
 drop_image : (k addr : ℕ) (present bytes : List ℕ)
     → drop k (with_gaps (is_marked present) addr bytes) ≡ with_gaps (is_marked present) (addr + k) (drop k bytes)
 drop_image zero addr present bytes = ap (λ (a : ℕ). with_gaps (is_marked present) a bytes) (sym (add-zero addr))
@@ -28,14 +30,17 @@ next_here k present bytes inside = grind (arith, nat_tests, drop_image, drop_mor
 
 -- ---- the next byte that the bitmap marks
 
+-- a marked byte is the first
 pub first_there : (k : ℕ) (present bytes : List ℕ) → k < length bytes → is_marked present k ≡ true
     → first_from (image_of present bytes) k ≡ Some k
 first_there k present bytes inside there = search (rules, nat_tests, next_here)
 
+-- a byte that isn't marked is passed over
 pub first_gap : (k : ℕ) (present bytes : List ℕ) → k < length bytes → is_marked present k ≡ false
     → first_from (image_of present bytes) k ≡ first_from (image_of present bytes) (k + 1)
 first_gap k present bytes inside gap = search (rules, nat_tests, next_here)
 
+-- past the bytes there is none
 pub first_past : (k : ℕ) (present bytes : List ℕ) → length bytes ≤ k → first_from (image_of present bytes) k ≡ None
 first_past k present bytes past = search (rules, nat_tests, drop_all, length_image)
 
@@ -57,20 +62,25 @@ octet_gap k present bytes whole none = first_gaps 8 k present bytes (λ at after
 
 -- ---- the bytes before a gap
 
+-- how many marked bytes follow each other from an address on
 abbrev run : ℕ → List ℕ → List ℕ → ℕ
 run k present bytes = length (leading_run (drop k (image_of present bytes)))
 
+-- a marked byte makes the run longer by one
 pub run_there : (k : ℕ) (present bytes : List ℕ) → k < length bytes → is_marked present k ≡ true
     → run k present bytes ≡ suc (run (k + 1) present bytes)
 run_there k present bytes inside there = grind (arith, nat_tests, next_here)
 
+-- at a byte that isn't marked there is no run
 pub run_gap : (k : ℕ) (present bytes : List ℕ) → k < length bytes → is_marked present k ≡ false
     → run k present bytes ≡ 0
 run_gap k present bytes inside gap = grind (arith, nat_tests, next_here)
 
+-- nor past the bytes
 pub run_past : (k : ℕ) (present bytes : List ℕ) → length bytes ≤ k → run k present bytes ≡ 0
 run_past k present bytes past = grind (arith, nat_tests, drop_all, length_image)
 
+-- the bytes of a run are stored side by side
 leading_run_bytes : (n addr : ℕ) (present bytes : List ℕ)
     → n ≤ length (leading_run (with_gaps (is_marked present) addr bytes))
     → take n bytes ≡ take n (leading_run (with_gaps (is_marked present) addr bytes))
@@ -84,6 +94,7 @@ leading_run_bytes (suc n) addr present (b ∷ bytes) few = elim (cases_Bool (is_
 ]
 leading_run_bytes x addr present y few = refl
 
+-- a run is no longer than the bytes
 leading_run_within : (addr : ℕ) (present bytes : List ℕ)
     → length (leading_run (with_gaps (is_marked present) addr bytes)) ≤ length bytes
 leading_run_within addr present [] = omega arith
@@ -93,6 +104,7 @@ pub record IsRow (addr most end : ℕ) (present bytes : List ℕ) : Type 0 where
   pub within : end ≤ length bytes
   pub row : take (end - addr) (drop addr bytes) ≡ take most (leading_run (drop addr (image_of present bytes)))
 
+-- a row ends where its run does, or after the most bytes
 pub row_is : (addr most end : ℕ) (present bytes : List ℕ) → addr ≤ length bytes
     → end ≡ addr + min most (run addr present bytes) → IsRow addr most end present bytes
 row_is addr most end present bytes inside is =

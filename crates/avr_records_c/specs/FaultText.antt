@@ -1,6 +1,7 @@
 -- The texts of fault numbers: what `avr_records_fault_text` puts into a room.
 use Rattle.std.specs.Prelude.{ℕ, ◌==◌, min, List, [], ◌∷◌, ◌++◌, length, take, drop, codes, if◌then◌else◌}
 
+-- the text of a fault's number
 abbrev pub fault_text : ℕ → List ℕ
 fault_text fault =
     if fault == 0 then codes "no fault"

@@ -26,6 +26,7 @@ abbrev pub outcome_of_end : Ending → Outcome
 outcome_of_end Ended = record { line = 0; address = 0; fault = 0; ended = true }
 outcome_of_end NoEnd = record { line = 0; address = 0; fault = 0; ended = false }
 
+-- the outcome that a fault has in C
 abbrev pub outcome_of_fault : RecordFault → Outcome
 outcome_of_fault fault =
     let line = unwrap_or (fault_line_number fault) 0 in

@@ -3,6 +3,7 @@ use Rattle.std.proofs.Common.{◌≡◌, ◌+◌, ◌-◌, ◌^◌, ℕ, arith, 
 use Rattle.ghosts.specs.Failures.{OneFailureCounted, NoFailureCounted}
 use Rattle.ghosts.specs.Preserves.{Preserves}
 
+-- the largest count
 abbrev last : ℕ
 last = 2 ^ 64 - 1
 
@@ -10,12 +11,15 @@ last = 2 ^ 64 - 1
 pub no_failure_uncounted : OneFailureCounted 0 0 → ⊥
 no_failure_uncounted rises = let e : 0 ≡ 1 = rises in omega (arith, e)
 
+-- a failure that counts two
 pub no_failure_twice : OneFailureCounted 0 2 → ⊥
 no_failure_twice rises = let e : 2 ≡ 1 = rises in omega (arith, e)
 
+-- a count that falls
 pub no_fall : OneFailureCounted 2 1 → ⊥
 no_fall rises = let e : 1 ≡ 3 = rises in omega (arith, e)
 
+-- a count that jumps to its end
 pub no_jump_to_the_end : OneFailureCounted 0 last → ⊥
 no_jump_to_the_end rises = let e : last ≡ 1 = rises in omega (arith, e)
 
@@ -23,6 +27,7 @@ no_jump_to_the_end rises = let e : last ≡ 1 = rises in omega (arith, e)
 pub no_count_past_the_end : OneFailureCounted last (last + 1) → ⊥
 no_count_past_the_end rises = let e : last + 1 ≡ last = rises in omega (arith, e)
 
+-- a count that leaves its end
 pub no_count_leaves_the_end : OneFailureCounted last 0 → ⊥
 no_count_leaves_the_end rises = let e : 0 ≡ last = rises in omega (arith, e)
 
@@ -30,9 +35,11 @@ no_count_leaves_the_end rises = let e : 0 ≡ last = rises in omega (arith, e)
 pub a_failure_at_the_end : OneFailureCounted last last
 a_failure_at_the_end = refl
 
+-- a count at its end shows no soundness
 pub nothing_stood_at_the_end : NoFailureCounted last last → ⊥
 nothing_stood_at_the_end stood = omega (arith, stood.1)
 
+-- nor does a count that rose
 pub nothing_stood_that_rose : NoFailureCounted 0 1 → ⊥
 nothing_stood_that_rose stood = let e : 1 ≡ 0 = stood.0 in omega (arith, e)
 

@@ -5,6 +5,8 @@ use Rattle.ghosts.specs.Preserves.{Preserves}
 use Rattle.avr_desk.specs.Journal.{ChangesCalls, SystemCalls, with_calls, with_one_more_held, made}
 use Rattle.avr_desk.specs.Record.{Bytes}
 
+-- After a success the system has made the file, and the hold that was taken for it is given back. After an error it has
+-- done nothing more.
 pub put_and_left : {S A E : Type 0} (Replaced : Type 0) (has_done : SystemCalls → S → Type 0) (name : Bytes)
     {old held put new : S} (result : Result A E) → ChangesCalls has_done with_one_more_held old held
     → MatchResult result (λ done. Replaced × ChangesCalls has_done (with_calls (made name)) held put)

@@ -47,15 +47,18 @@ pub same_true : (old new : MemDeskState) → new.input ≡ old.input → new.sto
     → new.kept.uses ≡ old.kept.uses → new.kept.current ≡ old.kept.current → Preserves HoldsTrue old new
 same_true old new input stored opened uses current = search rules
 
+-- a file was created, empty
 pub created_true : (name : Bytes) (old new : MemDeskState)
     → new ≡ updated (with_open (ToWrite (record { name = name; bytes = [] })) old.kept) old new
     → Preserves HoldsTrue old new
 created_true name old new is = search (rules, all_true)
 
+-- a file was replaced with these bytes
 pub replaced_true : (name bytes : Bytes) (old new : MemDeskState)
     → new ≡ updated (with_replaced name bytes old.kept) old new → Preserves HoldsTrue old new
 replaced_true name bytes old new is = search (rules, all_true, true_append)
 
+-- no file had this name, so nothing was opened
 pub absent_true : (name : Bytes) (old new : MemDeskState) → contents name old ≡ None
     → new ≡ record (updated (with_absent name old.kept) old new) { opened = new.opened }
     → Preserves HoldsTrue old new
@@ -77,6 +80,7 @@ module _ (old new : MemDeskState) (ends : Bool) (n room : ℕ) (whole gave piece
     (gave_is : gave ≡ bytes_given old.kept.current) (count : n ≡ min room (length (drop (length gave) whole)))
     (took : piece ≡ take n (drop (length gave) whole)) (ended : ends ≡ (n == 0 && not (room == 0)))
     (input : new.input ≡ old.input) (stored : new.stored ≡ old.stored) (opened : new.opened ≡ old.opened) where
+  -- what the open file has given is still a prefix of it
   prefix_on : (x : Reading) → bytes_given old.kept.current ≡ x.bytes → IsReadPrefix (Some old.opened) x.bytes x.ended
       → IsReadPrefix (Some old.opened) (x.bytes ++ piece) (x.ended || ends)
   prefix_on x given_is is =
@@ -87,11 +91,13 @@ module _ (old new : MemDeskState) (ends : Bool) (n room : ℕ) (whole gave piece
         ends = grind (arith, nat_tests, common_steps);
       }
 
+  -- so the record stays true after a read, and after one that failed for lack of memory
   pub read_true : (ok : Bool) → new.kept.uses ≡ old.kept.uses
       → new.kept.current ≡ (if ok then noted piece ends old.kept.current else old.kept.current) → new.opened
       ≡ old.opened → Preserves HoldsTrue old new
   read_true ok uses current same = search (rules, prefix_on)
 
+-- bytes were written to the open file
 pub written_true : (bytes : Bytes) (old new : MemDeskState) → new.input ≡ old.input → new.stored ≡ old.stored
     → new.opened ≡ old.opened
     → new.kept.uses ≡ old.kept.uses → new.kept.current ≡ written_on bytes old.kept.current → Preserves HoldsTrue old new

@@ -40,6 +40,7 @@ use Rattle.avr_desk.specs.declared.system.OpenFile.TheVariants as open_file
 
 -- ---- files that are the output
 
+-- if no file is `-`, none of the first files is, and none of the last ones
 no_dash_parts : {all : List Writing} (front back : List Writing) → all ≡ front ++ back → has_dash all ≡ false
     → (has_dash front ≡ false) × (has_dash back ≡ false)
 no_dash_parts front back is none =
@@ -52,9 +53,11 @@ written_dashes bytes r = grind (arith, nat_tests, list_any-append)
 -- ---- reading from a handle
 
 module _ {H : Type 0} (reads : Reads H) where
+  -- a handle that was just opened has given nothing
   given_none : (now : H) (name : Bytes) → HandleGave reads now now (record { name = name; bytes = []; ended = false })
   given_none now name = record { gave = Consumes-nil (reads.remaining now); ends = λ e. absurd (cc) }
 
+  -- after one more read a handle has given these bytes, too
   given_more : (first old new : H) (x : Reading) (buf : Bytes) (n : ℕ) → HandleGave reads first old x
       → GivesBytes reads old new buf n → HandleGave reads first new
       (record x { bytes = x.bytes ++ take n buf; ended = x.ended || (n == 0 && not (length buf == 0)) })
@@ -62,12 +65,14 @@ module _ {H : Type 0} (reads : Reads H) where
 
 -- ---- what a call records
 
+-- a call keeps `IsCall` by these three facts
 pub is_call : {D S T : Type 0} {view : D → DeskState} {started_as : S → D → Type 0}
     {Counted : DeskState → DeskState → Result T DeskFault → Type 0} {old new : D} {r : Result T DeskFault}
     → Counted (view old) (view new) r → IfErr r (λ e. e ≡ Failed) → Preserves started_as old new
     → IsCall view started_as Counted old new r
 is_call counts fault stays = record { counts = counts; fault = fault; stays = stays }
 
+-- a write keeps `IsWrite` by these five facts
 pub is_write : {D S : Type 0} {view : D → DeskState} {started_as : S → D → Type 0} {stream : Stream} {bytes : Bytes}
     {old new : D} {r : Result ℕ DeskFault} → IfOk r (λ n. n ≤ length bytes)
     → SendsTaken stream bytes (view old) (view new) r → WriteCounts stream bytes (view old) (view new) r
@@ -78,24 +83,31 @@ is_write bound kept counts fault stays = record { bound = bound; kept = kept; ca
 
 module _ {S F I H O E : Type 0} (system : Ghosts S F I H) (reads : Reads F) (writes : Writes F) (input : Reads I)
     (output_of : Writes O) (messages_of : Writes E) where
+  -- the states of a desk over this system and these writers
   abbrev Desk : Type 0
   Desk = Shown S F H I O E
 
+  -- what the record gained between two states is true
   abbrev Since : Desk → Desk → Type 0
   Since = IsTrueSince system reads writes input output_of messages_of
 
+  -- the open handle gave or took what the record says
   abbrev TrueOpen : OpenFile F I → Open → Type 0
   TrueOpen = IsTrueOpen system reads writes input
 
+  -- a finished use is as the record says
   abbrev TrueUse : FileUse → Type 0
   TrueUse = IsTrueUse system reads writes input
 
+  -- the record of files and standard input is true in this state of the system
   abbrev Files : S → OpenFile F I → Option H → Record → Type 0
   Files = IsTrueRecord system reads writes input
 
+  -- the file that was open to write is closed
   abbrev Closed : OpenFile F I → Type 0
   Closed = IsClosed system.closed
 
+  -- once the open file is closed, all uses are true, that file among them
   uses_true : (s : S) (opened : OpenFile F I) (hold : Option H) (r : Record) → Files s opened hold r → Closed opened
       → All TrueUse (all_uses r)
   uses_true s opened hold r are closed =
@@ -110,9 +122,11 @@ module _ {S F I H O E : Type 0} (system : Ghosts S F I H) (reads : Reads F) (wri
 
   -- ---- what the system did
 
+  -- the system has made these calls, and holds a file if a name is held
   abbrev Did : List FileCall → Option Bytes → S → Type 0
   Did calls held now = system.has_done (record { calls = calls; holds = option_len held }) now
 
+  -- the same, by another list of the same calls
   did_as : {one other : List FileCall} (held : Option Bytes) (now : S) → one ≡ other → Did other held now
       → Did one held now
   did_as held now same has_done = subst (λ (calls : List FileCall). Did calls held now) (sym same) has_done
@@ -126,21 +140,26 @@ module _ {S F I H O E : Type 0} (system : Ghosts S F I H) (reads : Reads F) (wri
   abbrev Holds : Option H → S → Type 0
   Holds hold now = Counts system.has_done (option_len hold) now
 
+  -- the system holds as many files as the desk has locks
   counts : (s : S) (hold : Option H) (held : Option Bytes) (calls : List FileCall) → IsHeldBy system hold held
       → Did calls held s → Holds hold s
   counts s hold held calls is has_done = search rules
 
   -- ---- what a crash may leave
 
+  -- in the second state a crash may leave nothing that it could not leave in the first
   abbrev NoMore : S → S → Type 0
   NoMore = CrashLeavesNoMore system.left
 
+  -- two steps after which a crash may leave nothing more are one such step
   left_on : {s t u : S} → NoMore s t → NoMore t u → NoMore s u
   left_on keeps keeps_on = λ name found is. keeps name found (keeps_on name found is)
 
+  -- if a crash may leave nothing more, the replacements tried still cover what it leaves
   crash_kept : {s t : S} (tried : List Writing) → NoMore s t → CrashLeaves system s tried → CrashLeaves system t tried
   crash_kept tried keeps leaves = λ name found is. leaves name found (keeps name found is)
 
+  -- they also do once a file is held: a crash may then leave what was there
   crash_held : {s t : S} (tried : List Writing) {name : Bytes} → CrashMayAlsoLeave system.left name (system.began name)
       s t → CrashLeaves system s tried → CrashLeaves system t tried
   crash_held tried also leaves = search rules
@@ -159,6 +178,7 @@ module _ {S F I H O E : Type 0} (system : Ghosts S F I H) (reads : Reads F) (wri
 
   -- after a call that sent nothing
   module _ (b : Desk) (failures unreported : ℕ) (error : Option ErrorKind) where
+    -- the desk with another system, open file, lock and record, and these counts of failures
     abbrev Then : S → OpenFile F I → Option H → Record → Desk
     Then now o hold kept = record b {
       system = now;
@@ -170,6 +190,7 @@ module _ {S F I H O E : Type 0} (system : Ghosts S F I H) (reads : Reads F) (wri
       kept = kept;
     }
 
+    -- the record of files was true before the call
     abbrev Before : Type 0
     Before = Files b.system b.opened b.hold b.kept
 
@@ -177,6 +198,7 @@ module _ {S F I H O E : Type 0} (system : Ghosts S F I H) (reads : Reads F) (wri
     holds : {held : Option H} → held ≡ b.hold → Before → Holds held b.system
     holds same are = rw same (counts b.system b.hold b.kept.held _ are.held are.has_done)
 
+    -- A call that sends nothing keeps what is known of the writers. Its record is true if that of its files is.
     quiet : {s : S} {o : OpenFile F I} {h : Option H} {k : Record} → k.output ≡ b.kept.output
         → k.messages ≡ b.kept.messages → (has_dash (all_files k) ≡ false → has_dash (all_files b.kept) ≡ false)
         → (has_dash (all_files k) ≡ false → writes_to_output b ≡ false → is_output o ≡ false)
@@ -217,6 +239,7 @@ module _ {S F I H O E : Type 0} (system : Ghosts S F I H) (reads : Reads F) (wri
         (did_as b.kept.held s (calls_opened (ToRead x) (Opened (Found x)) b.kept refl) (does _ are.has_done))
         keeps))
 
+    -- standard input was opened
     pub input_true : {s t : S} {o : OpenFile F I} {k : Record} {name own : Bytes} {i : I} → o ≡ open_file.Input i
         → own ≡ name → true ≡ is_dash name → k ≡ with_open (ToRead (record { name = own; bytes = []; ended = false }))
         b.kept → Closed b.opened → system.is_input i → ChangesCalls system.has_done (with_calls (Gives ∷ [])) b.system s
@@ -227,6 +250,7 @@ module _ {S F I H O E : Type 0} (system : Ghosts S F I H) (reads : Reads F) (wri
         rw is_open (opened_true x kept refl (λ are. (x, refl, is, (i, begins, given_none input i own))) closed
         (λ done has_done. rw (opened_dash own is) (stays _ (does done has_done))) (left_on keeps keeps_on))
 
+    -- a file was opened by its name
     pub file_true : {s t : S} {o : OpenFile F I} {k : Record} {name own : Bytes} {h : F} (held : Option H)
         → held ≡ b.hold → o ≡ open_file.ToRead h → own ≡ name → false ≡ is_dash name
         → (Holds held b.system → system.is_of h name)
@@ -264,6 +288,7 @@ module _ {S F I H O E : Type 0} (system : Ghosts S F I H) (reads : Reads F) (wri
         (λ are. files_now are (uses_true b.system b.opened b.hold b.kept are closed) is
         (did_as b.kept.held s (calls_opened (ToWrite x) (Created x) b.kept refl) (does _ are.has_done)) (keeps are)))
 
+    -- `-` was created, so the output is the open file
     pub output_true : {s : S} {o : OpenFile F I} {k : Record} {name own : Bytes} → o ≡ open_file.Output → own ≡ name
         → true ≡ is_dash name → k ≡ with_open (ToWrite (record { name = own; bytes = [] })) b.kept → Closed b.opened
         → Preserves system.has_done b.system s → NoMore b.system s → Since b (Then s o b.hold k)
@@ -273,6 +298,7 @@ module _ {S F I H O E : Type 0} (system : Ghosts S F I H) (reads : Reads F) (wri
         rw is_open (create_true x kept is (x, refl, sym is) closed
         (λ done has_done. rw (made_dash own (sym is), append-nil done.calls) (stays _ has_done)) (λ are. keeps))
 
+    -- a file was created by its name
     pub created_true : {s t : S} {o : OpenFile F I} {k : Record} {name own : Bytes} {h : F} → o ≡ open_file.ToWrite h
         → own ≡ name → false ≡ is_dash name → system.is_of h name
         → k ≡ with_open (ToWrite (record { name = own; bytes = [] })) b.kept → Closed b.opened
@@ -311,6 +337,7 @@ module _ {S F I H O E : Type 0} (system : Ghosts S F I H) (reads : Reads F) (wri
           crash = crash_kept _ keeps_on (crash_kept _ keeps (crash_tried _ same also are.crash));
         }))
 
+    -- replacing a file failed
     pub unreplaced_true : {s : S} {h : Option H} {k : Record} {name own bytes : Bytes} → own ≡ name
         → k ≡ with_tried own bytes b.kept
         → ((name : Option Bytes) → IsHeldBy system b.hold name → IsHeldBy system h name)
@@ -331,6 +358,7 @@ module _ {S F I H O E : Type 0} (system : Ghosts S F I H) (reads : Reads F) (wri
         let had = does _ are.has_done in
         let crash = crash_kept _ keeps (crash_held _ also are.crash) in search rules))
 
+    -- another process held the file
     pub denied_true : {s : S} {k : Record} {name own : Bytes} → own ≡ name
         → system.denies name → k ≡ record b.kept { denied = b.kept.denied ++ own ∷ [] }
         → Preserves system.has_done b.system s → CrashMayAlsoLeave system.left name (system.began name) b.system s
@@ -343,6 +371,7 @@ module _ {S F I H O E : Type 0} (system : Ghosts S F I H) (reads : Reads F) (wri
         → CrashMayAlsoLeave system.left name (system.began name) b.system s → Since b (Then s b.opened b.hold b.kept)
     unheld_true stays also = same_files refl refl refl (λ are. let crash = crash_held _ also are.crash in search rules)
 
+    -- the held file was released, if there was one
     pub released_true : {t : S} {h : Option H} {k : Record} → h ≡ None → k ≡ with_none_held b.kept
         → ReleasesHeld system.has_done b.hold b.system t → NoMore b.system t → Since b (Then t b.opened h k)
     released_true none kept leaves keeps = rw (none, kept) (same_files refl refl refl (λ are.
@@ -353,6 +382,7 @@ module _ {S F I H O E : Type 0} (system : Ghosts S F I H) (reads : Reads F) (wri
         → OpenFileGives reads input old new buf n → TrueOpen old current → TrueOpen new (noted (take n buf) (n == 0 && not (length buf == 0)) current)
     read_open old new current buf n gives is = search (rules, given_more)
 
+    -- the open file gave these bytes
     pub read_true : {o : OpenFile F I} {k : Record} (buf : Bytes) (n : ℕ) → k ≡ after_read buf (Ok n) b.kept
         → is_output o ≡ is_output b.opened → OpenFileGives reads input b.opened o buf n
         → Since b (Then b.system o b.hold k)
@@ -367,10 +397,12 @@ module _ {S F I H O E : Type 0} (system : Ghosts S F I H) (reads : Reads F) (wri
     unchanged_true same current = quiet refl refl (λ none. none) (λ none was. same ∙ was)
         (λ are. files_now are are.uses (current are) are.has_done (λ name found is. is))
 
+    -- a read of the open file failed
     pub unread_true : {o : OpenFile F I} → is_output o ≡ is_output b.opened
         → OpenFileGivesNothing reads input b.opened o → Since b (Then b.system o b.hold b.kept)
     unread_true same none = unchanged_true same (λ are. search (rules, nat_tests))
 
+    -- the open file took these bytes
     pub write_true : {k : Record} {old new : F} (bytes : Bytes) → b.opened ≡ open_file.ToWrite old
         → Appends (writes.contents old) (writes.contents new) bytes → k ≡ after_write bytes b.kept
         → Since b (Then b.system (open_file.ToWrite new) b.hold k)
@@ -379,6 +411,7 @@ module _ {S F I H O E : Type 0} (system : Ghosts S F I H) (reads : Reads F) (wri
         (λ none. sym (written_dashes bytes b.kept) ∙ none) (λ none elsewhere. refl)
         (grind (arith, common_steps)))
 
+    -- a write to the open file failed
     pub unwritten_true : {old new : F} → b.opened ≡ open_file.ToWrite old
         → Keeps (writes.contents old) (writes.contents new)
         → Since b (Then b.system (open_file.ToWrite new) b.hold b.kept)
@@ -394,6 +427,7 @@ module _ {S F I H O E : Type 0} (system : Ghosts S F I H) (reads : Reads F) (wri
     Reported messages kept = record b
         { messages = messages; failures = failures; message_failures = unreported; last_error = error; kept = kept }
 
+    -- the output took these bytes as those of the file `-`
     pub write_out_true : {w : O} {k : Record} (bytes : Bytes) → b.opened ≡ open_file.Output
         → k ≡ after_write bytes b.kept → Since b (Put w k)
     write_out_true bytes was kept = rw kept (record {
@@ -407,20 +441,24 @@ module _ {S F I H O E : Type 0} (system : Ghosts S F I H) (reads : Reads F) (wri
       files = search (rules, flat_map-append);
     })
 
+    -- the output took these bytes
     pub out_true : {w : O} {k : Record} (bytes : Bytes) → k ≡ record b.kept { output = b.kept.output ++ bytes }
         → Appends (output_of.contents b.output) (output_of.contents w) bytes → Since b (Put w k)
     out_true bytes kept took = search (rules, append-nil b.kept.messages)
 
+    -- the messages took these bytes
     pub err_true : {w : E} {k : Record} (bytes : Bytes) → k ≡ record b.kept { messages = b.kept.messages ++ bytes }
         → Appends (messages_of.contents b.messages) (messages_of.contents w) bytes → Since b (Reported w k)
     err_true bytes kept took = grind (arith, nat_tests, append-nil)
 
+  -- nothing was done
   pub true_now : (a : Desk) → Since a a
   true_now a = counted_true a _ _ _
 
 -- ---- a new desk
 
 module _ {S F I H : Type 0} (system : Ghosts S F I H) (reads : Reads F) (writes : Writes F) (input : Reads I) where
+  -- an empty record is true of a system that has done nothing
   pub none_kept_true : (fresh : S) → system.has_done no_calls fresh
       → ((name : Bytes) (found : Option Bytes) → system.left fresh name found → ⊥)
       → IsTrueRecord system reads writes input fresh open_file.Nothing None nothing_kept
@@ -429,6 +467,7 @@ module _ {S F I H : Type 0} (system : Ghosts S F I H) (reads : Reads F) (writes 
 -- the record of a desk that was new
 module _ {S F I H O E : Type 0} (system : Ghosts S F I H) (reads : Reads F) (writes : Writes F) (input : Reads I)
     (output_of : Writes O) (messages_of : Writes E) where
+  -- if the desk was new, its record is true and has all that the system did
   pub reported_all : {old new : Shown S F H I O E}
       → Preserves (IsTrueSince system reads writes input output_of messages_of) old new
       → RecordsAll system reads writes input old new

@@ -4,6 +4,7 @@ use Rattle.std.proofs.lemmas.Bool.Decides.{nat_tests}
 use Rattle.avr_desk.specs.Record.{Record, Bytes, after_read}
 use Rattle.avr_desk.specs.Files.{after_reading}
 
+-- bytes read after others are one reading of both
 pub read_next : (old now new : Record) (a b : Bytes) (ends : Bool) → now ≡ after_reading a false old
     → new ≡ after_reading b ends now → new ≡ after_reading (a ++ b) ends old
 read_next old now new a b ends first then = grind (arith, nat_tests, append_assoc)

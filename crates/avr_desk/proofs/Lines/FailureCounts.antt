@@ -4,6 +4,7 @@ use Rattle.avr_desk.specs.Fault.{HasSameCounts, WriteCounts}
 use Rattle.avr_desk.specs.Record.{Bytes, DeskState}
 use Rattle.avr_desk.specs.declared.stream.Stream.{Stream}
 
+-- a write that took a byte counts no failure
 pub taken_uncounted : (stream : Stream) (bytes : Bytes) (old new : DeskState) (n : ℕ) → (n ≡ 0 → ⊥)
     → WriteCounts stream bytes old new (Ok n) → HasSameCounts old new
 taken_uncounted stream bytes old new n some counts = search rules

@@ -17,6 +17,7 @@ use Rattle.avr_desk.specs.declared.line.Piece.{Piece}
 abbrev pub all_text : List Piece → List ℕ
 all_text ps = concat (map text_of ps)
 
+-- the text of two lists of pieces is that of the first, then that of the second
 all_text-append : (ps qs : List Piece) → all_text (ps ++ qs) ≡ all_text ps ++ all_text qs
 all_text-append [] qs = refl
 all_text-append (p ∷ ps) qs = grind (arith, nat_tests, all_text-append ps qs, append_assoc)
@@ -27,6 +28,7 @@ pub all_text_at : (ps : List Piece) (i : ℕ) (d : Piece) → i < length ps
 all_text_at ps i d l =
     grind (arith, nat_tests, take-append-drop i ps, all_text-append (take i ps) (drop i ps), drop_more ps i d l)
 
+-- the text of the pieces up to the ith is that of those before, then that of the ith
 pub all_text_more : (ps : List Piece) (i : ℕ) (d : Piece) → i < length ps
     → all_text (take (i + 1) ps) ≡ all_text (take i ps) ++ text_of (get_or ps i d)
 all_text_more ps i d l = grind (arith, common_steps, all_text-append, append-nil)

@@ -29,6 +29,7 @@ same_on a b c first then = (then.0 ∙ first.0, then.1 ∙ first.1)
 pub follows_same : (a b : DeskState) → HasSameCounts a b → CountsNeverFall a b
 follows_same a b same = (omega (arith, same.0), omega (arith, same.1))
 
+-- a failure to report is counted as well from an earlier state with the same counts
 pub message_failures_since : (a b c : DeskState) → HasSameCounts a b → HasFailedToReport b c → HasFailedToReport a c
 message_failures_since a b c same failed = grind (arith, nat_tests)
 

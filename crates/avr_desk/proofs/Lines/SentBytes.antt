@@ -8,10 +8,12 @@ use Rattle.avr_desk.specs.Record.{Record, Bytes, showing}
 use Rattle.avr_desk.specs.Stream.{after_sent, SendsPart}
 use Rattle.avr_desk.specs.declared.stream.Stream.{Stream}
 
+-- bytes sent after others are one sending of both
 pub after_sent-after_sent : (s : Stream) (r : Record) (a b : Bytes)
     → after_sent s b (after_sent s a r) ≡ after_sent s (a ++ b) r
 after_sent-after_sent s r a b = search (rules, append_assoc)
 
+-- sending nothing changes nothing
 pub sent_none : (s : Stream) (r : Record) → r ≡ after_sent s [] r
 sent_none s r = search rules
 

@@ -29,14 +29,17 @@ sound_refusal taking stage before after failed failed_now unprinted unprinted_no
 
 -- ---- what openings a desk shows
 
+-- the opening that an event shows, if it is one
 abbrev opening_in : OutputEvent → List Opening
 opening_in (Opens opening) = opening ∷ []
 opening_in event = []
 
+-- the openings that events show, in order
 abbrev pub openings_in : List OutputEvent → List Opening
 openings_in [] = []
 openings_in (event ∷ events) = opening_in event ++ openings_in events
 
+-- an event shows its opening in the record
 one_shown : (event : OutputEvent) (r : Record) → all_openings (after event r) ≡ all_openings r ++ opening_in event
 one_shown event r = search (rules, nat_tests, filter_map-append, append-nil)
 
@@ -58,6 +61,7 @@ abbrev pub Begins : {A : Type 0} → Bytes → Stage A → Type 0
 Begins name stage = (openings : List Opening)
     → (extra : List OutputEvent) × ((stage openings).output_events ≡ Opens (next_opening name openings) ∷ extra)
 
+-- a stage goes on with a next one, and still begins so
 pub begins_then : {A B : Type 0} (name : Bytes) (stage : Stage A) (go_on : A → Stage B) → Begins name stage
     → Begins name (stage >>= go_on)
 begins_then name stage go_on begins openings =
@@ -68,6 +72,7 @@ begins_then name stage go_on begins openings =
       begins openings,
     )
 
+-- reading a file begins by opening it
 pub begins_file : {A : Type 0} (name : Bytes) (limit : ℕ) (judge : Bytes → Result A Bytes)
     → Begins name (file_stage name limit judge)
 begins_file name limit judge openings = grind (arith, nat_tests)
@@ -80,16 +85,20 @@ only_reported r notice line kept = grind (arith, nat_tests, append_cancel_left)
 -- reported; or an allocation before any output failed, and that was reported.
 module _ {A : Type 0} (taking : AllocationPoints) (name notice : Bytes) (stage : Stage A) (begins : Begins name stage)
     (r : Record) (failed failed_now unprinted unprinted_now : ℕ) where
+  -- the desk before the stage
   abbrev Old : DeskState
   Old = showing r failed unprinted
 
+  -- the desk after it, which reported one notice
   abbrev New : DeskState
   New = showing (after_err notice r) failed_now unprinted_now
 
+  -- The file could not be opened, and that was reported. Or allocation failed before any output, and that was.
   abbrev ReportedAs : Type 0
   ReportedAs = ReportsFailureAs (not_opened_line name) notice Old New
       ⊎ (ReportsLineAs memory_line notice Old New × ((passed : List Opening) × taking passed []))
 
+  -- a desk that only reported shows no opening
   none_opened : (events : List OutputEvent) → after_err notice r ≡ after_events events r → [] ≡ openings_in events
   none_opened events kept = same_openings (PrintsLine notice ∷ []) events r kept
 
@@ -103,6 +112,7 @@ module _ {A : Type 0} (taking : AllocationPoints) (name notice : Bytes) (stage :
   by_break passed openings p x later break line begun are is taken is_reported kept =
       let none = none_opened (x ++ events_of_break break line) kept in search (rules, only_reported, nat_tests)
 
+  -- so a stage with a status other than that of a plan ended at the opening, or before it
   pub unopened : (status : ℕ) → RunsStage taking stage Old New (Err status) → ReportedAs
   unopened status (one, inl (line, went)) =
       let (extra, begun) = begins (went.passed ++ []) in
@@ -120,9 +130,11 @@ module _ {A : Type 0} (taking : AllocationPoints) (name notice : Bytes) (stage :
 module _ {A : Type 0} (name : Bytes) (limit : ℕ) (judge : Bytes → Result A Bytes) (bytes notice : Bytes) (good : A)
     (given : judge bytes ≡ Ok good) (taking : AllocationPoints) (r : Record)
     (failed failed_now unprinted unprinted_now : ℕ) where
+  -- the reading of the whole file
   abbrev reading : Reading
   reading = record { name = name; bytes = bytes; ended = true }
 
+  -- the file was opened, and one notice was reported
   abbrev done : List OutputEvent
   done = Opens (Found reading) ∷ PrintsLine notice ∷ []
 
@@ -158,16 +170,20 @@ module _ {A : Type 0} (line notice : Bytes) (stage : Stage A)
     (refuses : (openings : List Opening) → stage openings
     ≡ record { output_events = []; stage_outcome = Refused line; openings_left = openings })
     (taking : AllocationPoints) (r : Record) (failed failed_now unprinted unprinted_now : ℕ) where
+  -- the desk before the stage
   abbrev Here : DeskState
   Here = showing r failed unprinted
 
+  -- the desk after it, which reported one notice
   abbrev There : DeskState
   There = showing (after_err notice r) failed_now unprinted_now
 
+  -- the line was reported, or a failed allocation was
   abbrev pub ReportsOne : Type 0
   ReportsOne = ReportsLineAs line notice Here There
       ⊎ (ReportsLineAs memory_line notice Here There × ((passed : List Opening) × taking passed []))
 
+  -- a break of such a stage is one of its line, or of memory
   at_once : (passed : List Opening) (whole later : List OutputEvent) (break : BreakCause) (some : Bytes)
       → [] ≡ whole ++ later → BreakFitsNext break [] (events_with_refusal {A = A} later (Refused line))
       → AllocatesThere taking break passed whole → ReportsBreakAs break some Here There
@@ -175,6 +191,7 @@ module _ {A : Type 0} (line notice : Bytes) (stage : Stage A)
   at_once passed [] [] NoMemory some output_events is taken is_reported kept = search (rules, only_reported)
   at_once passed x y break some output_events is taken is_reported kept = search (rules, only_reported)
 
+  -- so a status other than that of a plan was reported by the line, or as a failed allocation
   pub refused_once : (status : ℕ) → RunsStage taking stage Here There (Err status) → ReportsOne
   refused_once status (one, inl (other, went)) = let comes = went.comes [] in grind (arith, nat_tests, only_reported)
   refused_once status (one, inr b) = let rest = b.rest [] in search (rules, at_once)

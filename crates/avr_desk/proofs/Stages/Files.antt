@@ -32,6 +32,7 @@ module _ {A : Type 0} (taking : AllocationPoints) (name : Bytes) (limit : ℕ) (
       kept same (λ passed emitted never. absurd (never_allocates passed emitted never))
       (runs_content (OnlyAtStart false) name limit judge reading mid new result whole goes)
 
+  -- so a file whose bytes are good is a stage that completed
   pub went_whole : (bytes : Bytes) (ended : Bool) (old mid : DeskState) (a : A)
       → ChangesRecord (with_read name bytes ended) old mid
       → EndsOrExceedsLimit limit (record { bytes = bytes; ended = ended }) → HasSameCounts old mid

@@ -19,6 +19,7 @@ use Rattle.avr_desk.specs.Stage.{Stage, Produced, StageResult, ◌>>=◌, result
 
 -- ---- the opening passed
 
+-- the result of a stage that has only opened a file
 abbrev after_opening : List Opening → Opening → StageResult Opening
 after_opening more opening =
     record { output_events = Opens opening ∷ []; stage_outcome = Produced opening; openings_left = more }
@@ -50,6 +51,7 @@ runs_content taking name limit judge reading old new result whole goes = grind (
 
 -- ---- the opening broke off
 
+-- such a break is one of the stage
 broke_opening : {A : Type 0} (taking : AllocationPoints) (name : Bytes) (next : Opening → Stage A) (break : BreakCause)
     (notice : Bytes) (old new : DeskState) (status : ℕ) → AllocatesThere taking break [] [] → status ≡ 1
     → ((more : List Opening) → BreakFitsNext break more (Opens (next_opening name more) ∷ []))
@@ -85,6 +87,7 @@ runs_until_break taking name next file_fault.Memory old mid new status there (by
 
 -- ---- a whole file in memory
 
+-- a file that could not be read breaks the stage as its fault says
 pub breaks_as : (name : Bytes) (old mid : Record) (fault : FileFault)
     → ReadsFile name (showing old 0 0) (showing mid 0 0) (Err fault)
     → FileBreaks name (showing old 0 0) (showing mid 0 0) fault

@@ -18,6 +18,7 @@ use Rattle.avr_desk.specs.Stage.{Stage, StageOutcome, Produced, Refused, StageRe
 
 -- ---- counts
 
+-- a break is reported as well since an earlier state with the same counts
 break_since : (break : BreakCause) (notice : List ℕ) (first old new : DeskState) → HasSameCounts first old
     → ReportsBreakAs break notice old new → ReportsBreakAs break notice first new
 break_since break notice first old new same is_reported = search (rules, nat_tests)
@@ -36,11 +37,13 @@ pub reported_append : {A : Type 0} (first second : List OutputEvent) (stage_outc
     → events_with_refusal (first ++ second) stage_outcome ≡ first ++ events_with_refusal second stage_outcome
 reported_append first second stage_outcome = search (rules, append_assoc)
 
+-- what is left of a stage is left of one with a next stage, too
 rest_more : {A B : Type 0} (p : StageResult A) (go_on : A → Stage B) (whole : List OutputEvent) (break : BreakCause)
     (more : List Opening) → RestOfStage p whole break more
     → RestOfStage (continued_stage p.output_events p.openings_left go_on p.stage_outcome) whole break more
 rest_more p go_on whole break more rest = search (rules, nat_tests, append_assoc)
 
+-- two stages that completed, one after the other, are one stage that completed
 pub completed_then : {A B : Type 0} (stage : Stage A) (go_on : A → Stage B) (old mid new : DeskState) (a : A)
     (stage_outcome : StageOutcome B) → StageCompleted stage old mid (Produced a)
     → StageCompleted (go_on a) mid new stage_outcome → StageCompleted (stage >>= go_on) old new stage_outcome
@@ -58,6 +61,7 @@ abbrev pub TakesBehind : {A : Type 0} (inner taking : AllocationPoints) (stage :
 TakesBehind inner taking stage old mid a first = (passed : List Opening) (emitted : List OutputEvent)
     → inner passed emitted → taking (first.passed ++ passed) (first.output_events ++ emitted)
 
+-- a stage that completed, and a next one that broke off, are one stage that broke off
 went_broke : {A B : Type 0} (inner taking : AllocationPoints) (stage : Stage A) (go_on : A → Stage B)
     (old mid new : DeskState) (a : A) (first : StageCompleted stage old mid (Produced a))
     → TakesBehind inner taking stage old mid a first → StageBrokeOff inner (go_on a) mid new
@@ -149,25 +153,30 @@ runs_without_memory taking stage old new status allocates one notice = (
 
 -- ---- results and output
 
+-- a good result is a stage that completes without events
 pub went_settled : {A : Type 0} (r : Result A (List ℕ)) (a : A) (d : DeskState) → r ≡ Ok a
     → StageCompleted (result_stage r) d d (Produced a)
 went_settled r a d is = rw is (completed_without_events d a)
 
+-- a bad result is a stage that is refused by its line
 pub goes_unsettled : {A : Type 0} (taking : AllocationPoints) (r : Result A (List ℕ)) (line : List ℕ)
     (old new : DeskState) (status : ℕ) → r ≡ Err line → status ≡ 1 → ReportsLine old new line
     → RunsStage taking (result_stage r) old new (Err status)
 goes_unsettled taking r line old new status is one notice =
     rw is (runs_to_refusal taking old new line status one notice)
 
+-- output of nothing is a stage that completes without events
 pub completed_silently : (d : DeskState) → StageCompleted (output_stage []) d d (Produced tt)
 completed_silently d =
     record { passed = []; output_events = []; comes = λ more. refl; kept = kept_none d.kept; sound = same_here d }
 
+-- output of a line that was printed is a stage that completed
 pub completed_output : (old new : DeskState) (line : List ℕ) → ChangesRecord (after_events (PrintsLine line ∷ [])) old
     new → HasSameCounts old new → StageCompleted (output_stage (PrintsLine line ∷ [])) old new (Produced tt)
 completed_output old new line kept same =
     record { passed = []; output_events = PrintsLine line ∷ []; comes = λ more. refl; kept = kept; sound = same }
 
+-- output of a line that was printed in part is a stage that broke off
 pub goes_output_part : (taking : AllocationPoints) (old new : DeskState) (line : List ℕ) (fault : DeskFault)
     → SendsPart Messages old new line → fault ≡ Failed → CountsFailure {T = Unit {0}} Messages old new (Err fault)
     → RunsStage taking (output_stage (PrintsLine line ∷ [])) old new (Err 1)

@@ -12,18 +12,21 @@ use Rattle.avr_image.specs.Present.{is_present, is_within, NextOne, FirstPlace}
 abbrev pub above : ℕ → ℕ → ℕ
 above n from = bit_and n ((2 ^ 64 - 1) * 2 ^ from % 2 ^ 64)
 
+-- the other bits stay
 pub above_is : (n from i : ℕ) → from < 64 → i < 64 → from ≤ i → bit_at (above n from) i ≡ bit_at n i
 above_is n from i f l le =
     let mask = ones_shl 64 from (omega arith) in
     let one : bit_at ((2 ^ 64 - 1) * 2 ^ from % 2 ^ 64) i ≡ 1 = rw mask (bit_at_mask_inside from 64 i le l) in
     omega (arith, bit_at_and n ((2 ^ 64 - 1) * 2 ^ from % 2 ^ 64) i, one, bit_at-lt n i)
 
+-- the bits below are 0
 pub above_low : (n from i : ℕ) → from < 64 → i < from → bit_at (above n from) i ≡ 0
 above_low n from i f l =
     let mask = ones_shl 64 from (omega arith) in
     let none : bit_at ((2 ^ 64 - 1) * 2 ^ from % 2 ^ 64) i ≡ 0 = rw mask (bit_at_mask_below from 64 i l) in
     omega (arith, bit_at_and n ((2 ^ 64 - 1) * 2 ^ from % 2 ^ 64) i, none)
 
+-- if no bit is left, the next one is past the word
 next_of_none : (n from : ℕ) → from < 64 → above n from ≡ 0 → NextOne n from 64
 next_of_none n from f e = record {
   after = omega (arith, f);
@@ -32,10 +35,12 @@ next_of_none n from f e = record {
   one = λ l. absurd (omega (arith, l));
 }
 
+-- the least bit that is left is the next one
 next_of_some : (n from r : ℕ) → from < 64 → r < 64 → bit_at (above n from) r ≡ 1
     → ((i : ℕ) → i < r → bit_at (above n from) i ≡ 0) → NextOne n from r
 next_of_some n from r f l here before = grind (arith, nat_tests, above_low, above_is)
 
+-- the count of trailing zeros finds the next bit
 pub next_is : (n from : ℕ) → n < 2 ^ 64 → from < 64 → NextOne n from (trailing_zeros w64 (above n from))
 next_is n from fits f = elim (cases_eq (above n from) 0) [
   | inl none ↦ rw (none, trailing_of_zero) (next_of_none n from f none)
@@ -45,9 +50,11 @@ next_is n from fits f = elim (cases_eq (above n from) 0) [
       next_of_some n from _ f found.0 found.1 found.2
 ]
 
+-- a bit of the complement is the other one
 pub other_bit : (n i : ℕ) → n < 2 ^ 64 → i < 64 → eqb (bit_at (2 ^ 64 - 1 - n) i) 1 ≡ not (eqb (bit_at n i) 1)
 other_bit n i fits l = grind (arith, nat_tests, bit_at_not w64 n i fits l)
 
+-- the mask of a span has exactly the bits of the span
 pub ones_are : (low high i : ℕ) → low < 64 → high ≤ 64 → i < 64
     → eqb (bit_at (bit_and ((2 ^ 64 - 1) * 2 ^ low % 2 ^ 64) ((2 ^ 64 - 1) / 2 ^ (64 - high))) i) 1
     ≡ is_within low high i
@@ -82,9 +89,11 @@ ones_are low high i a b l =
 one_of_two : (a b i : ℕ) → eqb (bit_at (bit_or a b) i) 1 ≡ (eqb (bit_at b i) 1 || eqb (bit_at a i) 1)
 one_of_two a b i = grind (arith, nat_tests, bit_at_or)
 
+-- below a span no address is within it
 pub within_low : (from end k : ℕ) → k < from → is_within from end k ≡ false
 within_low from end k a = let first : nat_le from k ≡ false = grind (arith, nat_tests) in rw first refl
 
+-- nor at its end or above
 pub within_high : (from end k : ℕ) → end ≤ k → is_within from end k ≡ false
 within_high from end k b = grind (arith, nat_tests)
 
@@ -100,6 +109,7 @@ pub spans_join : (from at stop k : ℕ) (b : Bool) → from ≤ at → at ≤ st
     → (is_within at stop k || (is_within from at k || b)) ≡ (is_within from stop k || b)
 spans_join from at stop k b le more = grind (arith, nat_tests)
 
+-- a place found in equal words from and to equal addresses
 pub same_place : (words marks : List ℕ) (wanted : Bool) (from start end stop place at : ℕ) → words ≡ marks
     → from ≡ start → end ≡ stop → place ≡ at → FirstPlace words wanted from end place
     → FirstPlace marks wanted start stop at

@@ -17,28 +17,34 @@ use Rattle.avr_image.specs.Dense.{dense_image, with_span}
 abbrev shown_byte : List ℕ → ℕ → ℕ → Option ℕ
 shown_byte words addr byte = if is_present words addr then Some byte else None
 
+-- the list of stored bytes from the kth on is as long as the bytes
 pub length_shown_from : (k : ℕ) (words bytes : List ℕ) → length (with_gaps (is_present words) k bytes) ≡ length bytes
 length_shown_from k words [] = refl
 length_shown_from k words (b ∷ bs) = ap suc (length_shown_from (suc k) words bs)
 
+-- an image is as long as its stored bytes
 pub length_shown : (words bytes : List ℕ) → length (dense_image words bytes) ≡ length bytes
 length_shown = length_shown_from 0
 
+-- an item of the list from the kth byte on is that byte, if it is present
 pub get_or_shown_from : (k : ℕ) (words bytes : List ℕ) (i : ℕ) → i < length bytes
     → get_or (with_gaps (is_present words) k bytes) i None ≡ shown_byte words (k + i) (get_or bytes i 0)
 get_or_shown_from k words [] i l = absurd (omega (arith, l))
 get_or_shown_from k words (b ∷ bs) zero l = ap (λ (n : ℕ). shown_byte words n b) (omega arith)
 get_or_shown_from k words (b ∷ bs) (suc i) l = search (rules, get_or_shown_from (suc k) words bs i (omega (arith, l)))
 
+-- an address has its stored byte, if that is present
 pub byte_at_shown : (words bytes : List ℕ) (i : ℕ) → i < length bytes
     → byte_at (dense_image words bytes) i ≡ shown_byte words i (get_or bytes i 0)
 byte_at_shown words bytes i l = grind (arith, nat_tests, get_or_shown_from)
 
+-- past the end there is no byte
 pub none_past : (image : List (Option ℕ)) (i : ℕ) → length image ≤ i → byte_at image i ≡ None
 none_past [] i l = refl
 none_past (b ∷ bs) zero l = absurd (omega (arith, l))
 none_past (b ∷ bs) (suc i) l = none_past bs i (omega (arith, l))
 
+-- a byte that is there is below the end
 pub held_within : (image : List (Option ℕ)) (addr : ℕ) → is_some (byte_at image addr) ≡ true → addr < length image
 held_within [] addr held = absurd (cc held)
 held_within (b ∷ bs) zero held = omega arith
@@ -53,6 +59,7 @@ same_by_address (x ∷ xs) (y ∷ ys) len each =
     (same_by_address xs ys (omega (arith, len)) (λ i l. each (suc i) (omega (arith, l))))
 same_by_address z w len each = absurd (omega (arith, len))
 
+-- bytes that are right address by address are the filled bytes
 pub filled_by_each : (image : List (Option ℕ)) (start n : ℕ) (ys : List ℕ) → length ys ≡ n
     → ((i : ℕ) → i < n → get_or ys i 0 ≡ byte_or_ff (byte_at image (start + i))) → ys ≡ filled_bytes image start n
 filled_by_each image start zero [] len each = refl
@@ -64,19 +71,23 @@ filled_by_each image start (suc n) (y ∷ ys) len each =
     search rules
 filled_by_each image start x z len each = absurd (omega (arith, len))
 
+-- each item of zeros is zero
 pub get_or_zeros : (n i : ℕ) → ◌≡◌ {A = ℕ} (get_or {A = ℕ} (replicate {A = ℕ} n 0) i 0) 0
 get_or_zeros (suc n) (suc i) = get_or_zeros n i
 get_or_zeros x y = refl
 
+-- without presence bits no byte is there
 pub shown_from_zeros : (k n m b : ℕ) → with_gaps (is_present (replicate m 0)) k (replicate n b) ≡ replicate n None
 shown_from_zeros k zero m b = refl
 shown_from_zeros k (suc n) m b = search (rules, nat_tests, get_or_zeros, shown_from_zeros (suc k) n m b)
 
+-- a marked address is present
 pub present_same : (words : List ℕ) (a : ℕ) → a / 64 < length words → is_present (with_mark words a) a ≡ true
 present_same words a within =
     let here = get_or-set_same words (a / 64) (bit_or (get_or words (a / 64) 0) (1 * 2 ^ (a % 64) % 2 ^ 64)) 0 within in
     rw here (rw (bit_at_set_same w64 (get_or words (a / 64) 0) (a % 64) (omega arith)) refl)
 
+-- other addresses stay as they were
 pub present_other : (words : List ℕ) (a i : ℕ) → a / 64 < length words → i ≢ a
     → is_present (with_mark words a) i ≡ is_present words i
 present_other words a i within other =
@@ -90,6 +101,7 @@ present_other words a i within other =
           (bit_or (get_or words (a / 64) 0) (1 * 2 ^ (a % 64) % 2 ^ 64)) 0 differ) refl
     ]
 
+-- a byte that is stored and marked is put into the image
 pub shown_marked : (words bytes : List ℕ) (a b : ℕ) → a < length bytes → a / 64 < length words
     → dense_image (with_mark words a) (set bytes a b) ≡ set (dense_image words bytes) a (Some b)
 shown_marked words bytes a b l within =
@@ -100,15 +112,18 @@ shown_marked words bytes a b l within =
     let left = byte_at_shown (with_mark words a) (set bytes a b) i (omega (arith, in-bytes, length-set bytes a b)) in
     search (rules, present_same, length_shown, present_other, get_or-set_other, byte_at_shown))
 
+-- an image that is stored so is as long as its bytes
 pub sized : (words bytes : List ℕ) {image : List (Option ℕ)} → dense_image words bytes ≡ image
     → length image ≡ length bytes
 sized words bytes {image} seen = rw (← seen) (length_shown words bytes)
 
+-- within a list the default doesn't matter
 pub same_default : (xs : List ℕ) (i d e : ℕ) → i < length xs → get_or xs i d ≡ get_or xs i e
 same_default [] i d e l = absurd (omega (arith, l))
 same_default (x ∷ xs) zero d e l = refl
 same_default (x ∷ xs) (suc i) d e l = same_default xs i d e (omega (arith, l))
 
+-- past the stored bytes there is none
 pub past : (words bytes : List ℕ) {image : List (Option ℕ)} (i : ℕ) → dense_image words bytes ≡ image → length bytes ≤ i
     → None ≡ byte_at image i
 past words bytes {image} i seen l = grind (arith, nat_tests, none_past, length_shown)
@@ -141,6 +156,7 @@ position_at p (x ∷ xs) i (suc n) d l before here =
     let first : p x ≡ false = before 0 (omega arith) in
     search (rules, position_at p xs (i + 1) n d (omega (arith, l)) (λ k j. before (suc k) (omega (arith, j))) here)
 
+-- no item passes if none does at any place
 position_none : {X : Type 0} (p : X → Bool) (xs : List X) (i : ℕ) (d : X)
     → ((k : ℕ) → k < length xs → p (get_or xs k d) ≡ false) → position_from p i xs ≡ None
 position_none p [] i d before = refl
@@ -162,6 +178,7 @@ first_is words bytes {image} addr place seen found l =
     (search (rules, get_or-drop, presence))
     ∙ ap (λ (k : ℕ). Some k) rest
 
+-- no address from `addr` on holds a byte
 pub first_none : (words bytes : List ℕ) {image : List (Option ℕ)} (addr from : ℕ) → dense_image words bytes ≡ image
     → from ≤ addr → FirstPlace words true from (length bytes) (length bytes) → first_from image addr ≡ None
 first_none words bytes {image} addr from seen le found =
@@ -172,11 +189,13 @@ first_none words bytes {image} addr from seen le found =
     ∙ presence words bytes (addr + k) seen (omega (arith, j, left, size))
     ∙ found.others (addr + k) (omega (arith, le)) (omega (arith, j, left, size)))
 
+-- if none of the bytes is there, none of them is held
 none_held : (bytes : List (Option ℕ)) → ((k : ℕ) → k < length bytes → is_some (get_or bytes k None) ≡ false)
     → list_any is_some bytes ≡ false
 none_held [] none = refl
 none_held (b ∷ bytes) none = rw (none 0 (omega arith)) (none_held bytes (λ k l. none (suc k) (omega (arith, l))))
 
+-- a byte of a span is held if a place is found before the end of the span
 pub any_is : (words bytes : List ℕ) {image : List (Option ℕ)} (start count from end place : ℕ)
     → dense_image words bytes ≡ image → from ≡ min (length bytes) start → end ≡ from + min (length bytes - from) count
     → FirstPlace words true from end place → nat_lt place end ≡ holds_any image start count
@@ -196,6 +215,7 @@ any_is words bytes {image} start count from end place seen from_is end_is found 
       | inr past ↦ rw (le-ltb place end past) (sym (none_held row (search rules)))
     ]
 
+-- the first place without a byte is the end of the run
 pub run_is : (words bytes : List ℕ) {image : List (Option ℕ)} (addr end place : ℕ) → dense_image words bytes ≡ image
     → FirstPlace words false addr (min (length bytes) end) place → addr < length bytes → place ≡ run_end image addr end
 run_is words bytes {image} addr end place seen found l =
@@ -226,10 +246,12 @@ kept_whole words bytes {image} seen blank =
 
 -- ---- bytes stay bytes
 
+-- FF is a byte
 pub small_blank : (n i : ℕ) → get_or {A = ℕ} (replicate {A = ℕ} n 255) i 0 < 256
 small_blank (suc n) (suc i) = small_blank n i
 small_blank x y = omega arith
 
+-- a byte set among bytes
 pub small_set : (xs : List ℕ) (at byte : ℕ) → byte < 256 → ((i : ℕ) → get_or xs i 0 < 256) → (i : ℕ)
     → get_or (set xs at byte) i 0 < 256
 small_set [] at byte l all i = omega arith
@@ -238,17 +260,20 @@ small_set (x ∷ xs) zero byte l all (suc i) = all (suc i)
 small_set (x ∷ xs) (suc at) byte l all zero = all zero
 small_set (x ∷ xs) (suc at) byte l all (suc i) = small_set xs at byte l (λ k. all (suc k)) i
 
+-- bytes after bytes
 small_append : (xs ys : List ℕ) → ((i : ℕ) → get_or xs i 0 < 256) → ((i : ℕ) → get_or ys i 0 < 256) → (i : ℕ)
     → get_or (xs ++ ys) i 0 < 256
 small_append [] ys prefix back i = back i
 small_append (x ∷ xs) ys prefix back zero = prefix zero
 small_append (x ∷ xs) ys prefix back (suc i) = small_append xs ys (λ k. prefix (suc k)) back i
 
+-- the first of some bytes
 small_take : (n : ℕ) (xs : List ℕ) → ((i : ℕ) → get_or xs i 0 < 256) → (i : ℕ) → get_or (take n xs) i 0 < 256
 small_take (suc n) (x ∷ xs) all zero = all zero
 small_take (suc n) (x ∷ xs) all (suc i) = small_take n xs (λ k. all (suc k)) i
 small_take x y all i = omega arith
 
+-- bytes pasted into bytes
 pub small_pasted : (start : ℕ) (span bytes : List ℕ) → ((i : ℕ) → get_or span i 0 < 256)
     → ((i : ℕ) → get_or bytes i 0 < 256) → (i : ℕ) → get_or (with_span start span bytes) i 0 < 256
 small_pasted start span bytes new old = grind (arith, nat_tests, small_append, small_take, get_or-drop)

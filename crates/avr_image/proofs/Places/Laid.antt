@@ -10,6 +10,7 @@ use Rattle.avr_image.specs.Dense.{dense_image, with_span, IsSoundStorage}
 use Rattle.avr_image.proofs.Fields.Masks.{within_low, within_high}
 use Rattle.avr_image.proofs.Fields.Shown.{same_by_address, byte_at_shown, length_shown, small_pasted}
 
+-- putting bytes keeps the size
 pub laid_size : (image : List (Option ℕ)) (places : List (ℕ × ℕ))
     → length (with_pairs image places) ≡ length image
 laid_size image [] = refl
@@ -18,6 +19,7 @@ laid_size image ((a, b) ∷ places) = laid_size (set image a (Some b)) places �
 
 -- ---- in parts
 
+-- bytes of two lists are put one list after the other
 pub with_pairs_append : (image : List (Option ℕ)) (xs ys : List (ℕ × ℕ))
     → with_pairs image (xs ++ ys) ≡ with_pairs (with_pairs image xs) ys
 with_pairs_append image [] ys = refl
@@ -30,15 +32,18 @@ over_set (x ∷ a) [] i n l = absurd (omega (arith, l))
 over_set (x ∷ a) (y ∷ b) (suc i) n l = grind (arith, nat_tests, over_set a b i n (omega (arith, l)))
 over_set z w v n l = refl
 
+-- an empty image over another changes nothing
 pub over_empty : (a : List (Option ℕ)) → over a (empty (length a)) ≡ a
 over_empty [] = refl
 over_empty (x ∷ a) = ap (λ (zs : List (Option ℕ)). x ∷ zs) (over_empty a)
 
+-- an image over an empty one is that image
 pub empty_over : (a : List (Option ℕ)) → over (empty (length a)) a ≡ a
 empty_over [] = refl
 empty_over (None ∷ a) = ap (λ (zs : List (Option ℕ)). None ∷ zs) (empty_over a)
 empty_over (Some x ∷ a) = ap (λ (zs : List (Option ℕ)). Some x ∷ zs) (empty_over a)
 
+-- several bytes put into the result may as well be put into the upper image
 laid_over_over : (a b : List (Option ℕ)) (ys : List (ℕ × ℕ)) → length a ≤ length b
     → with_pairs (over a b) ys ≡ over a (with_pairs b ys)
 laid_over_over a b [] l = refl
@@ -46,6 +51,7 @@ laid_over_over a b ((i, n) ∷ ys) l =
     ap (λ (image : List (Option ℕ)). with_pairs image ys) (over_set a b i n l)
     ∙ laid_over_over a (set b i (Some n)) ys (omega (arith, l, length-set b i (Some n)))
 
+-- putting bytes into an image lays their own image over it
 pub laid_is_over : (image : List (Option ℕ)) (ys : List (ℕ × ℕ))
     → with_pairs image ys ≡ over image (image_of_pairs (length image) ys)
 laid_is_over image ys =
@@ -53,6 +59,7 @@ laid_is_over image ys =
     ∙ laid_over_over image (empty (length image)) ys
     (omega (arith, length-replicate {A = Option ℕ} (length image) None))
 
+-- the image of two lists is that of the second over that of the first
 pub parts_are_over : (size : ℕ) (xs ys : List (ℕ × ℕ))
     → image_of_pairs size (xs ++ ys) ≡ over (image_of_pairs size xs) (image_of_pairs size ys)
 parts_are_over size xs ys = grind (
@@ -64,6 +71,7 @@ parts_are_over size xs ys = grind (
   laid_is_over,
 )
 
+-- of three images the middle one may be laid first
 pub over_groups : (a b c : List (Option ℕ)) → length b ≡ length c → over (over a b) c ≡ over a (over b c)
 over_groups (x ∷ a) [] (z ∷ c) l = absurd (omega (arith, l))
 over_groups (x ∷ a) (y ∷ b) [] l = absurd (omega (arith, l))
@@ -73,12 +81,14 @@ over_groups y z w l = refl
 
 -- ---- a span, address by address
 
+-- below a span that was put nothing changes
 pub span_below : (image : List (Option ℕ)) (addr : ℕ) (span : List ℕ) (i : ℕ) → i < addr
     → byte_at (with_pairs image (enumerate_from addr span)) i ≡ byte_at image i
 span_below image addr [] i l = refl
 span_below image addr (b ∷ span) i l =
     search (rules, arith, span_below (set image addr (Some b)) (addr + 1) span i (omega (arith, l)))
 
+-- nor behind it
 pub span_above : (image : List (Option ℕ)) (addr : ℕ) (span : List ℕ) (i : ℕ) → addr + length span ≤ i
     → byte_at (with_pairs image (enumerate_from addr span)) i ≡ byte_at image i
 span_above image addr [] i l = refl
@@ -100,28 +110,34 @@ span_inside image addr (b ∷ span) (suc place) room l =
 
 -- ---- a byte, address by address
 
+-- a byte that was put is at its address
 pub byte_here : (image : List (Option ℕ)) (addr byte : ℕ) → addr < length image
     → byte_at (with_byte image addr byte) addr ≡ Some byte
 byte_here image addr byte l = get_or-set_same image addr (Some byte) None l
 
+-- other addresses stay as they were
 pub byte_beside : (image : List (Option ℕ)) (addr byte other : ℕ) → other ≢ addr
     → byte_at (with_byte image addr byte) other ≡ byte_at image other
 byte_beside image addr byte other l = get_or-set_other image addr other (Some byte) None l
 
 -- ---- bytes with a span pasted
 
+-- pasting a span keeps the length
 pub length_pasted : (start : ℕ) (span bytes : List ℕ) → start + length span ≤ length bytes
     → length (with_span start span bytes) ≡ length bytes
 length_pasted start span bytes room = grind (arith, nat_tests, length-take, length-drop, length-append)
 
+-- below the span the bytes stay
 pasted_low : (start : ℕ) (span bytes : List ℕ) (i : ℕ) → start + length span ≤ length bytes → i < start
     → get_or (with_span start span bytes) i 0 ≡ get_or bytes i 0
 pasted_low start span bytes i room l = grind (arith, nat_tests, get_or_append_left, length-take, get_or-take)
 
+-- within it they are those of the span
 pasted_in : (start : ℕ) (span bytes : List ℕ) (i : ℕ) → start + length span ≤ length bytes → start ≤ i
     → i < start + length span → get_or (with_span start span bytes) i 0 ≡ get_or span (i - start) 0
 pasted_in start span bytes i room a b = grind (arith, nat_tests, get_or-append_right, length-take, get_or_append_left)
 
+-- behind it they stay
 pasted_high : (start : ℕ) (span bytes : List ℕ) (i : ℕ) → start + length span ≤ length bytes → start + length span ≤ i
     → get_or (with_span start span bytes) i 0 ≡ get_or bytes i 0
 pasted_high start span bytes i room l = grind (arith, nat_tests, length-take, get_or-append_right, get_or-drop)

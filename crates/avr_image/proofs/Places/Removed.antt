@@ -8,12 +8,14 @@ use Rattle.avr_image.specs.Present.{is_present, without_mark}
 use Rattle.avr_image.specs.Dense.{dense_image}
 use Rattle.avr_image.proofs.Fields.Shown.{same_by_address, length_shown, byte_at_shown}
 
+-- an address whose mark is cleared isn't present
 pub cleared_same : (words : List ℕ) (a : ℕ) → a / 64 < length words → is_present (without_mark words a) a ≡ false
 cleared_same words a within =
     let here = get_or-set_same words (a / 64)
     (bit_and (get_or words (a / 64) 0) (2 ^ 64 - 1 - 1 * 2 ^ (a % 64) % 2 ^ 64)) 0 within in
     rw here (ap (λ (n : ℕ). eqb n 1) (bit_at_clear_same w64 (get_or words (a / 64) 0) (a % 64) (omega arith)))
 
+-- other addresses stay as they were
 pub cleared_other : (words : List ℕ) (a i : ℕ) → a / 64 < length words → i ≢ a
     → is_present (without_mark words a) i ≡ is_present words i
 cleared_other words a i within other =
@@ -28,6 +30,7 @@ cleared_other words a i within other =
           (bit_and (get_or words (a / 64) 0) (2 ^ 64 - 1 - 1 * 2 ^ (a % 64) % 2 ^ 64)) 0 differ) refl
     ]
 
+-- a byte whose mark is cleared is removed from the image
 pub shown_removed : (words bytes : List ℕ) (a : ℕ) → a < length bytes → a / 64 < length words
     → dense_image (without_mark words a) (set bytes a 255) ≡ set (dense_image words bytes) a None
 shown_removed words bytes a l within =

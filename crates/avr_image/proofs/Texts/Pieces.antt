@@ -11,6 +11,7 @@ pub goes_on : (text piece old left whole : List ℕ) → text ++ old ≡ whole �
     → (text ++ piece) ++ left ≡ whole
 goes_on text piece old left whole so_far split = grind (arith, nat_tests, append_assoc)
 
+-- if nothing is left, the text is whole
 pub is_whole : (text left whole : List ℕ) → text ++ left ≡ whole → length left ≡ 0 → text ≡ whole
 is_whole text left whole so_far none = grind (arith, nat_tests, append-nil, nil_from_length)
 
@@ -24,6 +25,7 @@ pub record Written (old now : Option (List ℕ)) (left whole : List ℕ) : Type 
   pub appended : Appends old now prefix
   pub split : prefix ++ left ≡ whole
 
+-- one more piece is written
 pub piece_written : (old now new : Option (List ℕ)) (piece before left whole : List ℕ)
     → Written old now before whole → before ≡ piece ++ left → Appends now new piece → Written old new left whole
 piece_written old now new piece before left whole written split more = record {
@@ -32,6 +34,7 @@ piece_written old now new piece before left whole written split more = record {
   split = goes_on written.prefix piece before left whole written.split split;
 }
 
+-- if nothing is left, the whole text is written
 pub all_written : (old now : Option (List ℕ)) (left whole : List ℕ) → Written old now left whole → length left ≡ 0
     → Appends old now whole
 all_written old now left whole written none = grind (arith, common_steps)

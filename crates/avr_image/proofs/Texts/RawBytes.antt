@@ -8,6 +8,7 @@ use Rattle.avr_image.specs.Raw.{HoldsText}
 use Rattle.avr_image.specs.declared.fault.ImageFault.{ImageFault}
 use Rattle.avr_image.proofs.Places.Laid.{from_zero_laid, laid_size}
 
+-- a reader that held a text holds it with the piece that it was fed
 pub stands_fed : (image after : List (Option ℕ)) (fed end : ℕ) (failed : Bool) (text piece : List ℕ)
     (fault : ImageFault) → HoldsText (record { image = image; fed = fed; failed = failed }) text
     → ◌≡◌ {A = Result ℕ ImageFault} (Ok end)

@@ -12,6 +12,7 @@ use Rattle.avr_image.specs.Values.{is_separator, fitting, byte_of_value, value_o
 use Rattle.avr_image.specs.declared.fault.ImageFault.{ImageFault}
 use Rattle.avr_image.proofs.Places.Laid.{from_zero_next, length_from_zero}
 
+-- after a good value the image goes on, and a fault ends it
 abbrev pub on_ok : Result ℕ ImageFault → (ℕ → Result (List (Option ℕ)) ImageFault) → Result (List (Option ℕ)) ImageFault
 on_ok (Ok byte) more = more byte
 on_ok (Err fault) more = Err fault
@@ -22,13 +23,16 @@ with_pieces image addr [] = Ok image
 with_pieces image addr (piece ∷ more) =
     on_ok (byte_of_value (length image) (addr, piece)) (λ b. with_pieces (with_byte image addr b) (addr + 1) more)
 
+-- these bytes, then those of the result
 abbrev pub before : List ℕ → Result (List ℕ) ImageFault → Result (List ℕ) ImageFault
 before bytes (Ok more) = Ok (bytes ++ more)
 before bytes (Err fault) = Err fault
 
+-- these bytes, without a fault
 abbrev ok_of : List ℕ → Result (List ℕ) ImageFault
 ok_of xs = Ok xs
 
+-- no bytes before change nothing
 pub before_none : (rest : Result (List ℕ) ImageFault) → before [] rest ≡ rest
 before_none x = grind (arith, nat_tests)
 
@@ -36,6 +40,7 @@ before_none x = grind (arith, nat_tests)
 pub fitting_below : (size addr : ℕ) (value : Option ℕ) (byte : ℕ) → fitting size addr value ≡ Ok byte → addr < size
 fitting_below size addr value byte e = search (rules, nat_tests)
 
+-- one more value leads to the same image as all values at once
 with_next : (bytes : List ℕ) (size addr : ℕ) (parts : List (List ℕ)) (rest : Result (List ℕ) ImageFault)
     (r : Result ℕ ImageFault) → ((byte : ℕ) → r ≡ Ok byte → addr < size) → addr ≡ length bytes
     → ((byte : ℕ) → addr < size → with_pieces (from_zero (bytes ++ byte ∷ []) size) (addr + 1) parts
@@ -44,6 +49,7 @@ with_next : (bytes : List ℕ) (size addr : ℕ) (parts : List (List ℕ)) (rest
     ≡ image_of_bytes size (before bytes (onto_ok r rest))
 with_next bytes size addr parts rest r below here more = search (rules, from_zero_next, append_assoc)
 
+-- piece by piece the image becomes that of all values
 pub with_pieces_is : (bytes : List ℕ) (size addr : ℕ) (parts : List (List ℕ)) → addr ≡ length bytes
     → length bytes ≤ size → with_pieces (from_zero bytes size) addr parts
     ≡ image_of_bytes size (before bytes (all_ok (map (byte_of_value size) (enumerate_from addr parts))))
@@ -58,6 +64,7 @@ with_pieces_is bytes size addr (piece ∷ parts) here l =
     (λ byte low. with_pieces_is (bytes ++ byte ∷ []) size (addr + 1) parts
     (omega (arith, here, length-append bytes (byte ∷ []))) (omega (arith, here, low, length-append bytes (byte ∷ []))))
 
+-- with at least one piece the image is that of all pieces
 pub values_of_some : (size : ℕ) (parts : List (List ℕ)) (one : Result (List (Option ℕ)) ImageFault) → 0 < length parts
     → cond (eqb (length parts) 0) one (image_of_bytes size (all_ok (map (byte_of_value size) (enumerate_from 0 parts))))
     ≡ with_pieces (empty size) 0 parts
@@ -74,6 +81,7 @@ abbrev tails : (ℕ → Bool) → List ℕ → List (List ℕ)
 tails p [] = []
 tails p (x ∷ xs) = slice_split p xs
 
+-- the first piece ends at the first separator
 prefix : (p : ℕ → Bool) (xs : List ℕ) → slice_split p xs
     ≡ take (position_or_len p xs) xs ∷ tails p (drop (position_or_len p xs) xs)
 prefix p [] = refl
@@ -84,9 +92,11 @@ prefix p (x ∷ xs) = elim (cases_Bool (p x)) [
       rw (kept, len) (ap (onto_first x) (prefix p xs))
 ]
 
+-- an empty text has no pieces
 pub no_pieces : (xs : List ℕ) → length xs ≡ 0 → pieces xs ≡ []
 no_pieces xs none = grind (arith, common_steps)
 
+-- the pieces after a separator are those of the text after it
 pieces_tails : (xs : List ℕ) (n : ℕ) → n ≡ position_or_len is_separator xs
     → filter (λ piece. nat_lt 0 (length piece)) (tails is_separator (drop n xs)) ≡ pieces (drop n xs)
 pieces_tails [] zero here = refl
@@ -100,6 +110,7 @@ pieces_tails (x ∷ xs) n here = elim (cases_Bool (is_separator x)) [
       rw len (pieces_tails xs (position_or_len is_separator xs) refl)
 ]
 
+-- a text that doesn't begin with a separator has its first bytes as a piece
 pub pieces_prefix : (xs : List ℕ) (n : ℕ) → n ≡ position_or_len is_separator xs → 0 < n
     → pieces xs ≡ take n xs ∷ pieces (drop n xs)
 pieces_prefix xs n here some = grind (arith, nat_tests, prefix_len-le-length, length-take, filter, prefix, pieces_tails)
@@ -109,6 +120,7 @@ pub piece_bad : (image : List (Option ℕ)) (addr : ℕ) (piece : List ℕ) (mor
     → byte_of_value (length image) (addr, piece) ≡ Err fault → with_pieces image addr (piece ∷ more) ≡ Err fault
 piece_bad image addr piece more fault e = grind (arith, nat_tests)
 
+-- a good piece puts its byte
 pub piece_good : (image : List (Option ℕ)) (addr : ℕ) (piece : List ℕ) (more : List (List ℕ)) (byte : ℕ)
     → byte_of_value (length image) (addr, piece) ≡ Ok byte
     → with_pieces image addr (piece ∷ more) ≡ with_pieces (with_byte image addr byte) (addr + 1) more

@@ -9,6 +9,7 @@ use Rattle.avr_image.specs.Image.{byte_at, first_from, run_end, filled_bytes}
 use Rattle.avr_image.specs.Walk.{IsNextHeld, IsByteRun, IsFilled}
 use Rattle.avr_image.proofs.Fields.Shown.{none_past}
 
+-- a byte that isn't there is none
 none_is : (byte : Option ℕ) → is_some byte ≡ false → byte ≡ None
 none_is byte e = search rules
 
@@ -18,10 +19,12 @@ record Found {X : Type 0} (p : X → Bool) (xs : List X) (d : X) (place : ℕ) :
   here : p (get_or xs place d) ≡ true
   before : (k : ℕ) → k < place → p (get_or xs k d) ≡ false
 
+-- an item that doesn't pass moves the place by one
 found_later : {X : Type 0} (p : X → Bool) (x : X) (xs : List X) (d : X) (place : ℕ) → p x ≡ false → Found p xs d place
     → Found p (x ∷ xs) d (suc place)
 found_later p x xs d place first found = search rules
 
+-- the place that a search returns is the first one
 found_at : {X : Type 0} (p : X → Bool) (xs : List X) (d : X) (i n : ℕ) → position_from p i xs ≡ Some n
     → (place : ℕ) × (n ≡ i + place) × Found p xs d place
 found_at p [] d i n e = cc
@@ -35,6 +38,7 @@ found_at p (x ∷ xs) d i n e = elim (cases_Bool (p x)) [
       (suc found.0, omega (arith, found.1), found_later p x xs d found.0 fails found.2)
 ]
 
+-- if a search returns none, no item passes
 none_found : {X : Type 0} (p : X → Bool) (xs : List X) (d : X) (i : ℕ) → position_from p i xs ≡ None → (k : ℕ)
     → k < length xs → p (get_or xs k d) ≡ false
 none_found p [] d i e k l = absurd (omega (arith, l))
@@ -46,6 +50,7 @@ none_found p (x ∷ xs) d i e (suc k) l = elim (cases_Bool (p x)) [
       none_found p xs d (i + 1) rest k (omega (arith, l))
 ]
 
+-- the address found is the next that holds a byte
 pub next_held : (image : List (Option ℕ)) (addr place : ℕ) → first_from image addr ≡ Some place
     → IsNextHeld image addr place
 next_held image addr place e =
@@ -60,6 +65,7 @@ next_held image addr place e =
           none_is (byte_at image k) (search (rules, get_or-drop));
     }
 
+-- if none is found, no byte follows
 pub none_held : (image : List (Option ℕ)) (addr : ℕ) → first_from image addr ≡ None → (k : ℕ) → addr ≤ k
     → byte_at image k ≡ None
 none_held image addr e k a = elim (cases_lt k (length image)) [
@@ -69,6 +75,7 @@ none_held image addr e k a = elim (cases_lt k (length image)) [
   | inr past ↦ none_past image k past
 ]
 
+-- the run found goes as far as bytes do
 pub run_is_longest : (image : List (Option ℕ)) (addr end : ℕ) → addr ≤ end
     → IsByteRun image addr end (run_end image addr end)
 run_is_longest image addr end room =
@@ -86,6 +93,7 @@ run_is_longest image addr end room =
       stop = search (rules, prefix_len_stops, none_past);
     }
 
+-- the filled bytes are right address by address
 pub filled_is : (image : List (Option ℕ)) (start n : ℕ) → IsFilled image start n (filled_bytes image start n)
 filled_is image start zero = record { size = refl; byte = λ i l. absurd (omega (arith, l)) }
 filled_is image start (suc n) = search (rules, filled_is image (start + 1) n)

@@ -12,6 +12,7 @@ use Rattle.avr_records.specs.declared.fault.RecordFault.{RecordFault}
 use Rattle.avr_records.proofs.Readers.Fed.{but_last}
 use Rattle.avr_records.proofs.Readers.LaterLines.{with_lines_before_append, up_to_end_open, up_to_end_done, parts_some}
 
+-- the first fault of a list stays the first, whatever follows
 first_fault_stands : (size : ℕ) (ps qs : List (List LineResult × LineResult)) (notice : RecordFault)
     → first_fault size ps ≡ Some notice → first_fault size (ps ++ qs) ≡ Some notice
 first_fault_stands size [] qs notice is = absurd (cc is)
@@ -23,6 +24,7 @@ pub among_stands : (size : ℕ) (meant more : List LineResult) (notice : RecordF
 among_stands size meant more notice is =
     grind (arith, nat_tests, up_to_end_done, up_to_end_open, with_lines_before_append, first_fault_stands)
 
+-- a fault of the ended lines is the fault of the whole text
 pub ended_fault_stands : (kind : Kind) (size : ℕ) (text : List ℕ) (notice : RecordFault)
     → ended_lines_fault kind text size ≡ Some notice → image_in_text kind text size ≡ Err notice
 ended_fault_stands kind size text notice is =
@@ -37,6 +39,7 @@ ended_fault_stands kind size text notice is =
     ap (first_fault_among size) meant ∙ among_stands size (map (line_result kind) closed) (line_result kind cut.0
     ∷ []) notice is in search rules
 
+-- if an error is returned for a fault, there is that fault
 pub none_or : (fault : Option RecordFault) (notice : RecordFault) → Err notice ≡ ok_unless fault (tt {0}) → fault
     ≡ Some notice
 none_or fault notice is = search rules

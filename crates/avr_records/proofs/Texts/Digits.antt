@@ -14,11 +14,13 @@ use Rattle.avr_records.specs.declared.fault.LineFault.TheVariants.{Digit}
 abbrev pub Decoded : List ℕ → List ℕ → Result Unit FromHexError → Result (List ℕ) FromHexError → Type 0
 Decoded digits out result of = MatchResult of (λ bytes. (result ≡ Ok tt) × (out ≡ bytes)) (λ e. result ≡ Err e)
 
+-- if all are digits, the decoder succeeds, and its bytes are those of the digits
 all_digits : (digits out : List ℕ) (result : Result Unit FromHexError) → length digits % 2 ≡ 0
     → list_all is_hex_digit digits ≡ true
     → Decoded digits out result (decode_of digits) → (result ≡ Ok tt) × (bytes_of_digits digits ≡ Ok out)
 all_digits digits out result even all is = grind (arith, common_steps, decode_of-digits)
 
+-- if one isn't a digit, the decoder fails, and no bytes are of the digits
 no_digit : (digits out : List ℕ) (result : Result Unit FromHexError) (of : Result (List ℕ) FromHexError)
     → decode_of digits ≡ of → list_all is_hex_digit digits ≡ false
     → Decoded digits out result of → (e : FromHexError) × (result ≡ Err e) × (bytes_of_digits digits ≡ Err Digit)
@@ -27,10 +29,12 @@ no_digit digits out result (Ok bytes) is none facts =
     list_all-from_AllPass is_hex_digit digits (decode_of-ok digits bytes is).1 in absurd (grind arith)
 no_digit digits out result (Err e) is none fact = (e, fact, rw none refl)
 
+-- after a success of the decoder its bytes are those of the digits
 pub decoded_ok : (digits out : List ℕ) (n : ℕ) (result : Result Unit FromHexError) → length digits ≡ 2 * n
     → Decoded digits out result (decode_sized digits n) → result ≡ Ok tt → bytes_of_digits digits ≡ Ok out
 decoded_ok digits out n result len facts ok = grind (arith, nat_tests, no_digit)
 
+-- after an error of the decoder the digits are refused
 pub decoded_err : (digits out : List ℕ) (n : ℕ) (result : Result Unit FromHexError) (e : FromHexError)
     → length digits ≡ 2 * n
     → Decoded digits out result (decode_sized digits n) → result ≡ Err e → bytes_of_digits digits ≡ Err Digit

@@ -30,9 +30,11 @@ cut_at n [] len = absurd (omega (arith, len))
 cut_at zero (c ∷ text) len = refl
 cut_at (suc n) (c ∷ text) len = grind (arith, nat_tests, cut_at n text (omega (arith, len)))
 
+-- a text without LF is one line
 pub no_end : (text : List ℕ) → IsFirstByte (is_byte 10) text None → lines text ≡ text ∷ []
 no_end text none = let all = take_all {A = ℕ} (length text) text (omega arith) in search (rules, one_line)
 
+-- a text is the line before its first LF, LF, and the rest
 pub first_end : (text : List ℕ) (at : ℕ) → IsFirstByte (is_byte 10) text (Some at)
     → (lines (take at text) ≡ take at text ∷ []) × (text ≡ take at text ++ 10 ∷ drop (at + 1) text)
 first_end text at first = grind (arith, nat_tests, one_line, cut_at)

@@ -18,11 +18,13 @@ use Rattle.avr_records.specs.declared.kind.AddressBase.TheVariants.{Linear, Segm
 use Rattle.avr_records.specs.declared.kind.Kind.{Kind}
 use Rattle.avr_records.specs.declared.line.Line.TheVariants.{Data}
 
+-- the bytes of a record from the ith on, with their addresses
 abbrev places_from : AddressBase → ℕ → ℕ → List ℕ → List (ℕ × ℕ)
 places_from base offset i bytes = map (λ p. (address base offset p.0, p.1)) (enumerate_from i bytes)
 
 -- ---- the addresses
 
+-- under a linear base the addresses follow each other from any byte on
 pub linear_from : (upper offset i : ℕ) (bytes : List ℕ) (addr : ℕ) → addr ≡ upper * 65536 + offset + i
     → places_from (Linear upper) offset i bytes ≡ enumerate_from addr bytes
 linear_from upper offset i [] addr is = refl
@@ -34,6 +36,7 @@ pub places_linear : (upper offset : ℕ) (bytes : List ℕ)
     → places (Linear upper) offset bytes ≡ enumerate_from (upper * 65536 + offset) bytes
 places_linear upper offset bytes = linear_from upper offset 0 bytes (upper * 65536 + offset) (omega arith)
 
+-- within a segment they do so from any byte on
 segment_from : (paragraph offset i : ℕ) (bytes : List ℕ) (addr : ℕ) → addr ≡ paragraph * 16 + (offset + i) % 65536
     → (offset + i) % 65536 + length bytes ≤ 65536
     → places_from (Segment paragraph) offset i bytes ≡ enumerate_from addr bytes
@@ -48,6 +51,7 @@ pub places_segment : (paragraph offset : ℕ) (bytes : List ℕ) → offset % 65
     → places (Segment paragraph) offset bytes ≡ enumerate_from (paragraph * 16 + offset % 65536) bytes
 places_segment paragraph offset bytes room = grind (arith, nat_tests, segment_from)
 
+-- the addresses of two lists of bytes are those of the first, then those of the second
 places_from_append : (base : AddressBase) (offset i : ℕ) (xs ys : List ℕ)
     → places_from base offset i (xs ++ ys) ≡ places_from base offset i xs ++ places_from base offset (i + length xs) ys
 places_from_append base offset i [] ys = ap (λ (n : ℕ). places_from base offset n ys) (omega arith)
@@ -69,16 +73,19 @@ places_wrapped_at paragraph offset n bytes full inside short =
 
 -- ---- the first address out of range
 
+-- if the first list has no address out of range, the second one decides
 pub first_outside_append : (size : ℕ) (xs ys : List (ℕ × ℕ)) → first_outside size xs ≡ None
     → first_outside size (xs ++ ys) ≡ first_outside size ys
 first_outside_append size [] ys none = refl
 first_outside_append size (x ∷ xs) ys none = grind (arith, nat_tests, first_outside_append size xs ys)
 
+-- an address of the first list that is out of range is the first of both
 pub first_outside_first : (size : ℕ) (xs ys : List (ℕ × ℕ)) (addr : ℕ) → first_outside size xs ≡ Some addr
     → first_outside size (xs ++ ys) ≡ Some addr
 first_outside_first size [] ys addr found = cc found
 first_outside_first size (x ∷ xs) ys addr found = grind (arith, nat_tests, first_outside_first size xs ys addr)
 
+-- if no address of two lists is out of range, none of either list is
 pub first_outside_parts : (size : ℕ) (xs ys : List (ℕ × ℕ)) → first_outside size (xs ++ ys) ≡ None
     → (first_outside size xs ≡ None) × (first_outside size ys ≡ None)
 first_outside_parts size [] ys none = (refl, none)
@@ -100,6 +107,7 @@ first_outside_span_end size addr (b ∷ []) outside = grind (arith, nat_tests)
 first_outside_span_end size addr (b ∷ c ∷ bs) outside =
     grind (arith, nat_tests, first_outside_span_end size (addr + 1) (c ∷ bs))
 
+-- the end of a span is the end after all its addresses
 end_past_span : (end addr : ℕ) (bytes : List ℕ) → 0 < length bytes
     → max end (addr + length bytes) ≡ end_after end (enumerate_from addr bytes)
 end_past_span end addr [] some = absurd (omega (arith, some))
@@ -109,10 +117,12 @@ end_past_span end addr (b ∷ c ∷ bs) some =
 
 -- ---- how far spans reach
 
+-- a span up to the limit gives the larger end
 pub extends_inside : (limit end addr : ℕ) (bytes : List ℕ) → 0 < length bytes → addr + length bytes ≤ limit
     → IsEndOrOutOfRange limit end (enumerate_from addr bytes) (Ok (max end (addr + length bytes)))
 extends_inside limit end addr bytes some l = search (rules, first_outside_span, nat_tests, end_past_span)
 
+-- a span beyond the limit gives its first address at the limit or above
 pub extends_outside : (limit end addr : ℕ) (bytes : List ℕ) → 0 < length bytes → limit < addr + length bytes
     → IsEndOrOutOfRange limit end (enumerate_from addr bytes) (Err (max addr limit))
 extends_outside limit end addr bytes some l = search (rules, first_outside_span_end, nat_tests)
@@ -143,6 +153,8 @@ near kind base offset bytes fits has = search rules
 -- the lemmas for `Spans`
 pub ruleset spans_of_record = (nat_tests, take_rest, places_linear, places_segment, places_wrapped_at)
 
+-- the lemmas for `end` of `Spans`
 pub ruleset spans_end = (nat_tests, extends_both, first_outside_first)
 
+-- the lemmas for `lay` of `Spans`
 pub ruleset spans_laid = (nat_tests, fold-append, first_outside_parts, lays_span)

@@ -19,7 +19,7 @@ use Rattle.avr_records.specs.declared.kind.Kind.TheVariants.{Ihex}
 use Rattle.avr_records.specs.declared.kind.AddressBase.TheVariants.{Linear}
 use Rattle.avr_records.proofs.Rows.Cuts.{IsBytes_nil, IsBytes_cons, IsBytes_append, IsRow, Every}
 use Rattle.avr_records.proofs.Writers.Lines.{is_plain, plain_digits, encode_digits, bytes_of_encode, result_plain, lines_plain, lines_written}
-use Rattle.avr_records.proofs.Writers.Reread.{GoesOn, then_end, threaded, places_linear}
+use Rattle.avr_records.proofs.Writers.Reread.{GoesOn, with_end, threaded, places_linear}
 
 -- the bytes between the colon and the checksum
 abbrev unsummed : ℕ → ℕ → List ℕ → List ℕ
@@ -29,18 +29,22 @@ unsummed type offset bytes = length bytes ∷ two_bytes offset ++ type ∷ bytes
 abbrev line_of : ℕ → ℕ → List ℕ → List ℕ
 line_of type offset bytes = 58 ∷ encode_upper (with_sum_checksum (unsummed type offset bytes))
 
+-- a record with its checksum is bytes
 IsBytes_summed : (type offset : ℕ) (bytes : List ℕ) → type < 256 → length bytes ≤ 32 → IsBytes bytes
     → IsBytes (with_sum_checksum (unsummed type offset bytes))
 IsBytes_summed type offset bytes known short all = grind (arith, nat_tests, IsBytes_append)
 
+-- the line of a record has no line end and no blank
 plain_line : (type offset : ℕ) (bytes : List ℕ) → type < 256 → length bytes ≤ 32 → IsBytes bytes
     → list_all is_plain (line_of type offset bytes) ≡ true
 plain_line type offset bytes known short all = grind (arith, common_steps, plain_digits, encode_digits)
 
+-- the fields of a record with its checksum are those it was made of
 fields_summed : (type offset : ℕ) (bytes : List ℕ) → offset < 65536
     → ihex_from_fields (with_sum_checksum (unsummed type offset bytes)) ≡ typed_ihex type offset bytes
 fields_summed type offset bytes below = grind (arith, common_steps, nat_tests)
 
+-- the line of a record means the record
 emits_line : (type offset : ℕ) (bytes : List ℕ) → type < 256 → offset < 65536 → length bytes ≤ 32 → IsBytes bytes
     → line_result Ihex (line_of type offset bytes) ≡ record_meaning Ihex (typed_ihex type offset bytes)
 emits_line type offset bytes known below short all =
@@ -50,6 +54,7 @@ emits_line type offset bytes known below short all =
     omega (arith, length-encode_with upper_digits (with_sum_checksum prefix), length-append bytes (check ∷ [])) in
     search (rules, result_plain, plain_line, bytes_of_encode, IsBytes_summed, fields_summed)
 
+-- a record of type 4 sets the upper 16 bits
 typed_upper : (upper : ℕ) → upper < 65536
     → record_meaning Ihex (typed_ihex 4 0 (two_bytes upper)) ≡ Ok (Rebase (Linear upper))
 typed_upper upper below = ap (λ (n : ℕ). Ok (Rebase (Linear n))) (omega arith)
@@ -64,6 +69,7 @@ row_results upper [] = []
 row_results upper (row ∷ rows) = upper_emitted upper (row.0 / 65536) ++ Ok (Data (row.0 % 65536) row.1)
     ∷ row_results (row.0 / 65536) rows
 
+-- the lines from a row on: first the record of the upper 16 bits, if they change
 upper_lines : (old new : ℕ) (rest : List ℕ) → new < 65536
     → map (line_result Ihex) (lines (upper_record old new ++ rest))
     ≡ upper_emitted old new ++ map (line_result Ihex) (lines rest)
@@ -96,12 +102,14 @@ lines_results upper end (row ∷ rows) fits all =
       lines_results high end rows fits all.1,
     )
 
+-- no line of rows is a fault, a count or an end record
 pub rows_go_on : (upper : ℕ) (cut : List (ℕ × List ℕ)) → Every GoesOn (row_results upper cut)
 rows_go_on upper [] = tt
 rows_go_on upper (row ∷ more) = let high : ℕ = row.0 / 65536 in search (rules, rows_go_on high more)
 
+-- the lines of rows put each byte at its address
 pub rows_threaded : (upper : ℕ) (rows : List (ℕ × List ℕ))
-    → threaded (Linear upper) (then_end (row_results upper rows)) ≡ flat_map places_of rows
+    → threaded (Linear upper) (with_end (row_results upper rows)) ≡ flat_map places_of rows
 rows_threaded upper [] = refl
 rows_threaded upper (row ∷ rows) =
     let high : ℕ = row.0 / 65536 in search (rules, nat_tests, places_linear, rows_threaded high rows)

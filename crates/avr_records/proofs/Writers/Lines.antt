@@ -21,15 +21,18 @@ use Rattle.avr_records.specs.declared.fault.LineFault.TheVariants.{TooLong}
 abbrev pub is_plain : ℕ → Bool
 is_plain c = not (is_line_end c) && not (is_blank c)
 
+-- a digit is neither a line end nor a blank
 plain_digit : (c : ℕ) → is_hex_digit c ≡ true → is_plain c ≡ true
 plain_digit c digit = grind (arith, nat_tests)
 
+-- nor is one of several digits
 pub plain_digits : (cs : List ℕ) → list_all is_hex_digit cs ≡ true → list_all is_plain cs ≡ true
 plain_digits [] all = refl
 plain_digits (c ∷ cs) all =
     let parts = and_parts (is_hex_digit c) (list_all is_hex_digit cs) all in
     rw (plain_digit c parts.0) (plain_digits cs parts.1)
 
+-- bytes are written as digits
 pub encode_digits : (bytes : List ℕ) → IsBytes bytes → list_all is_hex_digit (encode_upper bytes) ≡ true
 encode_digits bytes all =
     list_all-from_AllPass is_hex_digit (encode_upper bytes)
@@ -44,6 +47,7 @@ trimmed_plain : (line : List ℕ) → list_all is_plain line ≡ true → trimme
 trimmed_plain line plain =
     let all = AllPass-from_list_all is_plain line plain in search (rules, suffix_len_is, take_all)
 
+-- a line means what it means when trimmed, unless it is too long
 emits_bare : (kind : Kind) (line : List ℕ) → line_result kind line ≡ unless_long (trimmed_line_result kind) line
 emits_bare x line = grind (arith, nat_tests)
 
@@ -65,20 +69,24 @@ open_lines (c ∷ cs) rest all =
     let parts = and_parts (not (is_line_end c)) (list_all (λ c. not (is_line_end c)) cs) all in
     search (rules, open_lines cs rest parts.1)
 
+-- such a line has no line end
 open_plain : (cs : List ℕ) → list_all is_plain cs ≡ true → list_all (λ c. not (is_line_end c)) cs ≡ true
 open_plain [] all = refl
 open_plain (c ∷ cs) all =
     let parts = and_parts (is_plain c) (list_all is_plain cs) all in search (rules, open_plain cs parts.1)
 
+-- so it is the first of the lines
 pub lines_plain : (line rest : List ℕ) → list_all is_plain line ≡ true → lines (line ++ 10 ∷ rest) ≡ line ∷ lines rest
 lines_plain line rest plain = open_lines line rest (open_plain line plain)
 
+-- the same, of a text that ends with LF and goes on
 pub lines_written : (line rest : List ℕ) → list_all is_plain line ≡ true
     → lines ((line ++ 10 ∷ []) ++ rest) ≡ line ∷ lines rest
 lines_written line rest plain = ap lines (append_assoc line (10 ∷ []) rest) ∙ lines_plain line rest plain
 
 -- ---- a record is one line
 
+-- marks, digits and LF are one line
 pub is_line : (marks bytes text : List ℕ) → list_all (λ c. not (is_line_end c)) marks ≡ true → IsBytes bytes
     → text ≡ (marks ++ encode_upper bytes) ++ 10 ∷ [] → IsLine text
 is_line marks bytes text plain all is =

@@ -11,6 +11,7 @@ use Rattle.avr_records.specs.Sparse.{file_rows, new_upper, row_size}
 use Rattle.avr_records.specs.declared.address_size.AddressSize.{AddressSize}
 use Rattle.avr_records.specs.declared.kind.Kind.{Kind}
 
+-- a lower-case digit, raised, is the upper-case one
 raised_digit : (d : ℕ) → to_ascii_uppercase (slice_index lower_digits d) ≡ slice_index upper_digits d
 raised_digit d =
     elim (cases_lt d 16) [
@@ -18,6 +19,7 @@ raised_digit d =
       | inr past ↦ rw (get_or_past lower_digits d 0 past, get_or_past upper_digits d 0 past) refl
     ]
 
+-- lower-case digits, raised, are the upper-case ones
 pub raised_encode : (bytes : List ℕ) → map to_ascii_uppercase (encode_lower bytes) ≡ encode_upper bytes
 unfolding encode_with
 raised_encode [] = refl
@@ -47,6 +49,7 @@ rows_behind_drop (suc taken) size addr [] = refl
 rows_behind_drop zero size addr (b ∷ bs) = ap (λ (a : ℕ). rows size a (b ∷ bs)) (sym (add-zero addr))
 rows_behind_drop (suc taken) size addr (b ∷ bs) = grind (arith, nat_tests, rows_behind_drop taken size (addr + 1) bs)
 
+-- one byte less to drop once one is taken away
 pub drop_one_less : (s b : ℕ) (bs : List ℕ) → 0 < s → drop (s - 1) bs ≡ drop s (b ∷ bs)
 drop_one_less s b bs some = search rules
 
@@ -56,13 +59,16 @@ pub rows_next : (size : ℕ → ℕ) (addr n : ℕ) (bytes : List ℕ) → 0 < l
     → rows size addr bytes ≡ (addr, take n bytes) ∷ rows size (addr + n) (drop n bytes)
 rows_next size addr n bytes some wide is = search (rules, nat_tests, take_min, rows_behind_drop, drop_all)
 
+-- the low bytes of a number are as many as asked for
 pub length_low_bytes : (size n : ℕ) → length (low_bytes size n) ≡ size
 length_low_bytes zero n = refl
 length_low_bytes (suc size) n = grind (arith, nat_tests, length_low_bytes size (n / 256), length-append)
 
+-- an address of S-records has 2 to 4 bytes
 pub few_bytes : (size : AddressSize) → (2 ≤ width_of size) × (width_of size ≤ 4)
 few_bytes x = grind (arith, nat_tests)
 
+-- a row has room for a byte
 pub wide_row : (kind : Kind) (addr : ℕ) → 0 < row_size kind addr
 wide_row x addr = grind (arith, nat_tests)
 

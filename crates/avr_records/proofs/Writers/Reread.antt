@@ -20,6 +20,7 @@ abbrev pub threaded : AddressBase → List LineResult → List (ℕ × ℕ)
 threaded base [] = []
 threaded base (meant ∷ more) = bytes_under_base base meant ++ threaded (next_base base meant) more
 
+-- the bytes of lines are at the addresses that the bases before them set
 placed_threaded : (before meant : List LineResult)
     → flat_map bytes_of_line (with_lines_before before meant) ≡ threaded (base_after before) meant
 placed_threaded before [] = refl
@@ -34,40 +35,46 @@ GoesOn (Ok Nothing) = Unit {0}
 GoesOn (Ok (Data offset bytes)) = Unit {0}
 GoesOn (Ok (Rebase base)) = Unit {0}
 
-abbrev pub then_end : List LineResult → List LineResult
-then_end prefix = prefix ++ Ok End ∷ []
+-- these lines, then the end record
+abbrev pub with_end : List LineResult → List LineResult
+with_end prefix = prefix ++ Ok End ∷ []
 
-pub stops : (prefix more : List LineResult) → Every GoesOn prefix → up_to_end (prefix ++ Ok End ∷ more) ≡ then_end prefix
-stops [] more on = refl
-stops (Ok Nothing ∷ prefix) more on = ap (λ (zs : List LineResult). Ok Nothing ∷ zs) (stops prefix more on.1)
-stops (Ok (Data offset bytes) ∷ prefix) more on = grind (arith, nat_tests, stops prefix more on.1)
-stops (Ok (Rebase base) ∷ prefix) more on =
-    ap (λ (zs : List LineResult). Ok (Rebase base) ∷ zs) (stops prefix more on.1)
-stops x more on = absurd on.0
+-- what follows the end record doesn't count
+pub cut_at_end : (prefix more : List LineResult) → Every GoesOn prefix
+    → up_to_end (prefix ++ Ok End ∷ more) ≡ with_end prefix
+cut_at_end [] more on = refl
+cut_at_end (Ok Nothing ∷ prefix) more on = ap (λ (zs : List LineResult). Ok Nothing ∷ zs) (cut_at_end prefix more on.1)
+cut_at_end (Ok (Data offset bytes) ∷ prefix) more on = grind (arith, nat_tests, cut_at_end prefix more on.1)
+cut_at_end (Ok (Rebase base) ∷ prefix) more on =
+    ap (λ (zs : List LineResult). Ok (Rebase base) ∷ zs) (cut_at_end prefix more on.1)
+cut_at_end x more on = absurd on.0
 
+-- these lines have an end record
 has_end : (prefix more : List LineResult) → list_any is_end_record (prefix ++ Ok End ∷ more) ≡ true
 has_end [] more = refl
 has_end (s ∷ prefix) more = grind (arith, nat_tests, has_end prefix more)
 
+-- so the file has ended
 pub ended : (prefix more : List LineResult) → file_ending (prefix ++ Ok End ∷ more) ≡ Ended
 ended prefix more = ap (λ (b : Bool). if b then Ended else NoEnd) (has_end prefix more)
 
+-- such lines have no fault if all bytes are inside
 pub first_fault_none : (size : ℕ) (before prefix : List LineResult) → Every GoesOn prefix
-    → first_outside size (flat_map bytes_of_line (with_lines_before before (then_end prefix))) ≡ None
-    → first_fault size (with_lines_before before (then_end prefix)) ≡ None
+    → first_outside size (flat_map bytes_of_line (with_lines_before before (with_end prefix))) ≡ None
+    → first_fault size (with_lines_before before (with_end prefix)) ≡ None
 first_fault_none size before [] on inside = refl
 first_fault_none size before (s ∷ prefix) on inside =
     let parts = first_outside_parts size (bytes_of_line (before, s))
-    (flat_map bytes_of_line (with_lines_before (before ++ s ∷ []) (then_end prefix))) inside in
+    (flat_map bytes_of_line (with_lines_before (before ++ s ∷ []) (with_end prefix))) inside in
     search (rules, first_fault_none size (before ++ s ∷ []) prefix on.1 parts.1)
 
 -- Lines of data and the end record read as the image of their bytes, if all are inside. What comes after the end record
 -- doesn't matter.
 pub image_of_lines_laid : (size : ℕ) (image : List (Option ℕ)) (places : List (ℕ × ℕ)) (prefix more : List LineResult)
-    → Every GoesOn prefix → threaded (Linear 0) (then_end prefix) ≡ places → first_outside size places ≡ None
+    → Every GoesOn prefix → threaded (Linear 0) (with_end prefix) ≡ places → first_outside size places ≡ None
     → image_of_pairs size places ≡ image → image_of_lines size (prefix ++ Ok End ∷ more) ≡ Ok (image, Ended)
 image_of_lines_laid size image places prefix more on follow inside_is laid_is =
-    grind (arith, nat_tests, placed_threaded, stops, first_fault_none, ended)
+    grind (arith, nat_tests, placed_threaded, cut_at_end, first_fault_none, ended)
 
 -- under a linear base the addresses of a data record's bytes follow each other
 pub places_linear : (upper offset addr : ℕ) (bytes : List ℕ) → upper * 65536 + offset ≡ addr

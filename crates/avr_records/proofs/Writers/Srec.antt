@@ -26,12 +26,14 @@ use Rattle.avr_records.specs.declared.fault.LineFault.TheVariants.{Mark}
 use Rattle.avr_records.proofs.Writers.Pieces.{few_bytes, length_low_bytes}
 use Rattle.avr_records.proofs.Rows.Cuts.{IsBytes_nil, IsBytes_append, IsRow, Every}
 use Rattle.avr_records.proofs.Writers.Lines.{is_plain, plain_digits, encode_digits, bytes_of_encode, result_plain, lines_plain, lines_written}
-use Rattle.avr_records.proofs.Writers.Reread.{GoesOn, then_end, threaded, places_linear}
+use Rattle.avr_records.proofs.Writers.Reread.{GoesOn, with_end, threaded, places_linear}
 
+-- the low bytes of a number are bytes
 IsBytes_low_bytes : (size n : ℕ) → IsBytes (low_bytes size n)
 IsBytes_low_bytes zero n = IsBytes_nil
 IsBytes_low_bytes (suc size) n = grind (arith, common_steps, nat_tests, IsBytes_low_bytes size (n / 256))
 
+-- they are the digits of the number, if it has no more
 number_low_bytes : (size n : ℕ) → n < 256 ^ size → number (low_bytes size n) ≡ n
 number_low_bytes zero n fits = omega arith
 number_low_bytes (suc size) n fits =
@@ -42,17 +44,21 @@ number_low_bytes (suc size) n fits =
 abbrev line_of : ℕ → List ℕ → List ℕ
 line_of type body = 83 ∷ (48 + type) ∷ encode_upper (with_count_and_checksum body)
 
+-- a record with its count and checksum is bytes
 IsBytes_counted : (body : List ℕ) → length body ≤ 36 → IsBytes body → IsBytes (with_count_and_checksum body)
 IsBytes_counted body short all = grind (arith, nat_tests, IsBytes_append)
 
+-- the line of a record has no line end and no blank
 plain_line : (type : ℕ) (body : List ℕ) → type ≤ 9 → length body ≤ 36 → IsBytes body
     → list_all is_plain (line_of type body) ≡ true
 plain_line type body digit short all = grind (arith, common_steps, nat_tests, plain_digits, encode_digits)
 
+-- the fields of a record with its count and checksum are those it was made of
 fields_counted : (type : ℕ) (body : List ℕ)
     → srec_from_fields type (with_count_and_checksum body) ≡ typed_srec type body
 fields_counted type body = grind (arith, common_steps, nat_tests)
 
+-- the line of a record means the record
 emits_line : (type : ℕ) (body : List ℕ) → type ≤ 9 → length body ≤ 36 → IsBytes body
     → line_result Srec (line_of type body) ≡ record_meaning Srec (typed_srec (48 + type) body)
 emits_line type body digit short all =
@@ -68,18 +74,22 @@ emits_line type body digit short all =
     (bytes_of_encode (with_count_and_checksum body) (IsBytes_counted body short all))
     ∙ ap (record_meaning Srec) (fields_counted (48 + type) body)
 
+-- the type of a data record says how many bytes its address has
 typed_data : (size : AddressSize) (body : List ℕ)
     → typed_srec (48 + (width_of size - 1)) body ≡ record_with_address (width_of size - 1) (width_of size) body
 typed_data size body = search rules
 
+-- the record of this type, address and row
 abbrev record_with : ℕ → ℕ → List ℕ → Result RecordFields LineFault
 record_with type addr row = Ok (record { type = type; address = addr; bytes = row })
 
+-- an address written in low bytes reads as the address
 addressed_low : (type size addr : ℕ) (row : List ℕ) → addr < 256 ^ size
     → record_with_address type size (low_bytes size addr ++ row) ≡ record_with type addr row
 addressed_low type size addr row fits =
     grind (arith, nat_tests, length_low_bytes, length-append, take_at, drop_at, number_low_bytes)
 
+-- a data record means its row
 meant_data : (size : AddressSize) (addr : ℕ) (row : List ℕ)
     → record_meaning Srec (record_with (width_of size - 1) addr row) ≡ Ok (Data addr row)
 meant_data x addr row = grind (arith, nat_tests)
@@ -117,12 +127,14 @@ lines_results size end ((addr, row) ∷ rows) fits all =
     ∙ ap (record_meaning Srec) (typed_data size body ∙ addressed_low type (width_of size) addr row low)
     ∙ meant_data size addr row in search (rules, lines_written, lines_results size end rows fits all.1)
 
+-- no line of rows is a fault, a count or an end record
 pub rows_go_on : (rows : List (ℕ × List ℕ)) → Every GoesOn (map emitted_of rows)
 rows_go_on [] = tt
 rows_go_on (row ∷ rows) = (tt, rows_go_on rows)
 
+-- the lines of rows put each byte at its address
 pub rows_threaded : (rows : List (ℕ × List ℕ))
-    → threaded (Linear 0) (then_end (map emitted_of rows)) ≡ flat_map places_of rows
+    → threaded (Linear 0) (with_end (map emitted_of rows)) ≡ flat_map places_of rows
 rows_threaded [] = refl
 rows_threaded (row ∷ rows) = grind (arith, nat_tests, rows_threaded rows, places_linear)
 
