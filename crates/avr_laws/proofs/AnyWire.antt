@@ -27,7 +27,7 @@ use Rattle.stk_host.proofs.Transcripts.InDialogs.{whole_run}
 use Rattle.avr_tool.specs.OverFaultyLink.{EndsOverExchanges, SessionOverWire, events_over, memories}
 use Rattle.avr_tool.specs.Emulated.{RunsOverEmulator, new_wire}
 use Rattle.avr_tool.proofs.Lines.InTurn.{frames_prefix, goes_along, never_idle, sends_whole}
-use Rattle.avr_tool.proofs.WirePlays.{asks_bodies, first, keeps, stands, whole_comes}
+use Rattle.avr_tool.proofs.WirePlays.{asks_bodies, sent_in_turn, follows_fates, programmer_is_there, whole_comes}
 use Rattle.avr_laws.specs.AnyLink.{OverAnyWire, ReportsOverExchanges, ReportsWereTrue}
 use Rattle.avr_tool.specs.Authentic.{RepliesAreAuthentic}
 use Rattle.avr_laws.proofs.Lines.AnyTape.{authentic_prefix}
@@ -40,16 +40,16 @@ pub authentic_received : {E R : Type 0} (d : Dialog E R) (n : ℕ) (p : Programm
     → IsBytePrefixOf (sent w.transcript) (bytes_sent (played d n (heard w.transcript)).events)
     → RepliesAreAuthentic device d n (heard w.transcript) p
     (executions_of_fates (length (frames_in (played d n (heard w.transcript)).events)) fates)
-authentic_received d n p fates w asks lawful keeps exchanges prefix =
+authentic_received d n p fates w asks lawful follows_fates exchanges prefix =
     let events = (played d n (heard w.transcript)).events in
     let executions = executions_of_fates (length (frames_in events)) fates in
     let rest = frames_prefix events (sent w.transcript) prefix.0 (sends_whole d n (heard w.transcript) asks) prefix.1 in
     let within : length (frames (sent w.transcript)) ≤ length (frames_in events) =
     let all = ap length rest.1 in omega (arith, all, length-append (frames (sent w.transcript)) rest.0) in
-    let brings = keeps.brings (never_idle d n p fates w.transcript asks lawful exchanges) in
+    let brings = follows_fates.brings (never_idle d n p fates w.transcript asks lawful exchanges) in
     authentic_prefix device d n (heard w.transcript) w.waits p executions
     (subst (λ (t : Tape). RepliesAreAuthentic device d n t p executions) brings
-    ((goes_along d n p fates w asks lawful keeps exchanges prefix).is_authentic (length (frames_in events)) within))
+    ((goes_along d n p fates w asks lawful follows_fates exchanges prefix).is_authentic (length (frames_in events)) within))
 
 module _ (plan : Plan) (w v : WiredState) (fresh : IsFresh w) (stays : Preserves ComesOf w v)
     (is_sound : IsSoundChip w.wire.programmer.chip)
@@ -68,10 +68,10 @@ module _ (plan : Plan) (w v : WiredState) (fresh : IsFresh w) (stays : Preserves
       let all = length (frames_in (events_over plan v)) in
       let p = fresh_programmer w.wire.programmer.chip in
       let asks = asks_bodies plan w v fresh stays is_sound part_is fitted old now status in
-      let follows = keeps plan w v fresh stays is_sound part_is fitted old now status in
-      let is_first = first plan w v fresh stays is_sound part_is fitted old now status runs in
+      let follows = follows_fates plan w v fresh stays is_sound part_is fitted old now status in
+      let is_first = sent_in_turn plan w v fresh stays is_sound part_is fitted old now status runs in
       reports_over_exchanges plan p is_sound part_is fitted exchanges v.wire.programmer (sent v.transcript)
-      (stands plan w v fresh stays is_sound part_is fitted old now status runs) (heard v.transcript)
+      (programmer_is_there plan w v fresh stays is_sound part_is fitted old now status runs) (heard v.transcript)
       (executions_of_fates all w.wire.fates) is_first.1
       (authentic_received (session plan) 1 p w.wire.fates v asks fresh.lawful follows is_first.0 is_first.1)
       (by_fates all w.wire.fates)
@@ -80,7 +80,7 @@ module _ (plan : Plan) (w v : WiredState) (fresh : IsFresh w) (stays : Preserves
   pub over_any_wire : Runs → OverAnyWire plan w v old now status
   over_any_wire (inl whole) =
       let c = whole_comes plan w v fresh stays is_sound part_is fitted old now status whole in
-      let stood = stands plan w v fresh stays is_sound part_is fitted old now status (inl whole) in
+      let stood = programmer_is_there plan w v fresh stays is_sound part_is fitted old now status (inl whole) in
       search (rules, reports, ends_and_reports_over_exchanges)
   over_any_wire (inr broke) = record { along_exchanges = reports (inr broke); end = inr broke }
 

@@ -9,7 +9,7 @@ use Rattle.avr_records.specs.Sparse.{image_text, rows_of}
 use Rattle.avr_records.specs.Text.{rows_behind, upper_record, ihex_rows, width_of, low_bytes, srec_record, srec_rows}
 use Rattle.avr_records.specs.declared.address_size.AddressSize.{AddressSize}
 use Rattle.avr_records.specs.declared.kind.Kind.{Kind}
-use Rattle.avr_records.proofs.Writers.Pieces.{few_bytes, length_low_bytes}
+use Rattle.avr_records.proofs.Writers.Pieces.{address_has_2_to_4_bytes, length_low_bytes}
 
 -- ---- one line
 
@@ -36,9 +36,9 @@ srec_end size few = grind (arith, nat_tests, length-append, length-encode_with, 
 
 -- the same of S-records, whose end record has 15
 srec_lines : (size : AddressSize) (cut : List (ℕ × List ℕ)) → length (srec_rows size cut) ≤ 28 * weight cut + 15
-srec_lines size [] = srec_end (width_of size) (few_bytes size).1
+srec_lines size [] = srec_end (width_of size) (address_has_2_to_4_bytes size).1
 srec_lines size ((addr, bytes) ∷ more) =
-    search (rules, length-append, few_bytes, nat_tests, length-encode_with, length_low_bytes, srec_lines size more)
+    search (rules, length-append, address_has_2_to_4_bytes, nat_tests, length-encode_with, length_low_bytes, srec_lines size more)
 
 -- ---- the rows of an image
 

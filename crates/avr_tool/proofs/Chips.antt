@@ -14,7 +14,7 @@ use Rattle.avr_part.specs.PartFile.{GivesPartUnlessOutOfMemory}
 use Rattle.avr_part.specs.State.{ChipState, fresh_state}
 use Rattle.avr_part.specs.declared.fault.PartFault.TheVariants.{BadChipFile}
 use Rattle.avr_desk.proofs.Stages.Openings.{runs_open, runs_content}
-use Rattle.avr_desk.proofs.Stages.Played.{went_settled, goes_unsettled}
+use Rattle.avr_desk.proofs.Stages.Played.{completed_good_result, runs_bad_result}
 use Rattle.avr_desk.specs.StageRuns.{OnlyAtStart, RunsStage, StageCompleted}
 use Rattle.avr_desk.specs.Stage.{Produced, result_stage}
 use Rattle.avr_tool.specs.declared.chip_files.TheConstants.{LARGEST_CHIP_FILE}
@@ -27,7 +27,7 @@ use Rattle.avr_tool.specs.Loading.{AtOpened, chip_or_line, checked_chip, chip_gi
 pub fresh_chip_given : (part : Part) (chip : ChipState) (d : DeskState)
     → GivesPartUnlessOutOfMemory (Ok (fresh_state part)) (Ok chip)
     → StageCompleted (result_stage (Ok (fresh_state part))) d d (Produced chip)
-fresh_chip_given part chip d (inl gives) = let same : fresh_state part ≡ chip = cc in search (rules, went_settled)
+fresh_chip_given part chip d (inl gives) = let same : fresh_state part ≡ chip = cc in search (rules, completed_good_result)
 fresh_chip_given part chip d (inr memory) = cc
 
 -- ---- the chip of some bytes
@@ -42,7 +42,7 @@ pub chip_given_by_bytes : (part : Part) (file bytes : Bytes) (chip : ChipState) 
     → GivesPartUnlessOutOfMemory (chip_from_file part bytes) (Ok chip)
     → StageCompleted (result_stage (chip_or_line part file bytes)) d d (Produced chip)
 chip_given_by_bytes part file bytes chip d gives =
-    went_settled (chip_or_line part file bytes) chip d (search (rules, right_length))
+    completed_good_result (chip_or_line part file bytes) chip d (search (rules, right_length))
 
 -- Bytes of another length are refused.
 pub wrong_length_refused : (part : Part) (file bytes : Bytes) (n : ℕ) (old new : DeskState) (status : ℕ)
@@ -50,7 +50,7 @@ pub wrong_length_refused : (part : Part) (file bytes : Bytes) (n : ℕ) (old new
     → ReportsLine old new (error (length_pieces file (length bytes) (chip_file_size part)))
     → RunsStage (OnlyAtStart true) (result_stage (chip_or_line part file bytes)) old new (Err status)
 wrong_length_refused part file bytes n old new status gives one notice =
-    goes_unsettled (OnlyAtStart true) (chip_or_line part file bytes) _ old new status (search rules) one notice
+    runs_bad_result (OnlyAtStart true) (chip_or_line part file bytes) _ old new status (search rules) one notice
 
 -- ---- the chip of a file that was read
 
@@ -93,4 +93,4 @@ long_file_refused part file bytes false old mid new status kept whole is rose on
     let more = whole.0 in
     let long : nat_le (length bytes) LARGEST_CHIP_FILE ≡ false = grind (arith, nat_tests, more) in
     let given : checked_chip part file bytes ≡ Err (too_long_line file LARGEST_CHIP_FILE) = rw long refl in
-    search (rules, whole_file_checked, goes_unsettled)
+    search (rules, whole_file_checked, runs_bad_result)

@@ -55,7 +55,7 @@ sent_first plan old new status silent runs = elim runs [
     -- The link's transcript is then that of the session.
     now : (during : Transcript) → Grows old.link.transcript during new.link.transcript → IsFirst plan during
         → IsFirst plan new.link.transcript
-    now during grows first = search rules
+    now during grows sent_in_turn = search rules
 
 -- a fresh wire follows its fates
 fresh_follows : (w : WiredState) → IsFresh w → FollowsFates (fresh_programmer w.wire.programmer.chip) w.wire.fates w
@@ -78,26 +78,26 @@ module _ (plan : Plan) (w v : WiredState) (fresh : IsFresh w) (stays : Preserves
   asks_bodies = asks plan begun is_sound part_is fitted
 
   -- The wire still follows its fates.
-  pub keeps : FollowsFates begun w.wire.fates v
-  keeps = stays (record { programmer = begun; fates = w.wire.fates }) (fresh_follows w fresh)
+  pub follows_fates : FollowsFates begun w.wire.fates v
+  follows_fates = stays (record { programmer = begun; fates = w.wire.fates }) (fresh_follows w fresh)
 
   -- The session ran over the wire.
   abbrev pub Runs : Type 0
   Runs = RunsSession plan (devices (wired_link w) old) (devices (wired_link v) now) status
 
   -- What it sent and received is in turn.
-  pub first : Runs → IsFirst plan v.transcript
-  first runs = sent_first plan (devices (wired_link w) old) (devices (wired_link v) now) status fresh.silent runs
+  pub sent_in_turn : Runs → IsFirst plan v.transcript
+  sent_in_turn runs = sent_first plan (devices (wired_link w) old) (devices (wired_link v) now) status fresh.silent runs
 
   -- The programmer is where the exchanges lead it.
-  pub stands : Runs → v.wire.programmer
+  pub programmer_is_there : Runs → v.wire.programmer
       ≡ (state_after device (length (frames (sent v.transcript))) (session plan) begun exchanges).programmer
-  stands runs = search (rules, stands_along, asks_bodies, keeps, first)
+  programmer_is_there runs = search (rules, stands_along, asks_bodies, follows_fates, sent_in_turn)
 
   -- So the session went along the exchanges.
   went_along : Runs → OverExchanges plan begun v.wire.programmer exchanges (sent v.transcript)
   went_along runs = over_exchanges plan begun is_sound part_is fitted exchanges v.wire.programmer (sent v.transcript)
-      (stands runs) (heard v.transcript) (first runs).1
+      (programmer_is_there runs) (heard v.transcript) (sent_in_turn runs).1
 
   -- if it ran whole, it has come to its status there, and all its output was done
   pub record ComesWhole : Type 0 where
@@ -113,10 +113,10 @@ module _ (plan : Plan) (w v : WiredState) (fresh : IsFresh w) (stays : Preserves
   whole_comes whole =
       let plays : Plays (session plan) start v.transcript whole.1.events status whole.0 = search rules in
       let same : whole.1.events ≡ events_over plan v = search (rules, append-nil, whole_run plays []) in
-      let prefix = (first (inl whole)).1 in record {
-        done = search (rules, whole_done, asks_bodies, keeps);
+      let prefix = (sent_in_turn (inl whole)).1 in record {
+        done = search (rules, whole_done, asks_bodies, follows_fates);
         emitted = ap outputs (sym same) ∙ whole_emitted (session plan) 1 begun w.wire.fates v asks_bodies fresh.lawful
-            keeps plays.in_turn whole.1.events status whole.0 plays prefix;
+            follows_fates plays.in_turn whole.1.events status whole.0 plays prefix;
         kept = whole.1.kept ∙ ap (λ events. after_events (outputs events) old.kept) same;
       }
 
@@ -127,7 +127,7 @@ module _ (plan : Plan) (w v : WiredState) (fresh : IsFresh w) (stays : Preserves
   ends_whole whole =
       let c = whole_comes whole in (
         ends_over_exchanges plan begun is_sound part_is fitted exchanges v.wire.programmer (sent v.transcript)
-            (stands (inl whole)) (outputs (events_over plan v)) status c.done c.emitted,
+            (programmer_is_there (inl whole)) (outputs (events_over plan v)) status c.done c.emitted,
         c.kept,
       )
 

@@ -21,34 +21,34 @@ never_allocates passed emitted never = let clash : false ≡ true = never.0 in c
 
 module _ {A : Type 0} (taking : AllocationPoints) (name : Bytes) (limit : ℕ) (judge : Bytes → Result A Bytes) where
   -- the check of the file's bytes
-  pub goes_whole : (bytes : Bytes) (ended : Bool) (old mid new : DeskState) (result : Result A ℕ)
+  pub runs_read_file : (bytes : Bytes) (ended : Bool) (old mid new : DeskState) (result : Result A ℕ)
       → ChangesRecord (with_read name bytes ended) old mid
       → EndsOrExceedsLimit limit (record { bytes = bytes; ended = ended }) → HasSameCounts old mid
       → RunsStage (OnlyAtStart false) (result_stage (judge bytes)) mid new result
       → RunsStage taking (file_stage name limit judge) old new result
-  goes_whole bytes ended old mid new result kept whole same goes =
+  runs_read_file bytes ended old mid new result kept whole same goes =
       let reading : Reading = record { name = name; bytes = bytes; ended = ended } in
       runs_open (OnlyAtStart false) taking name (content_stage name limit judge) (Found reading) old mid new result refl
       kept same (λ passed emitted never. absurd (never_allocates passed emitted never))
       (runs_content (OnlyAtStart false) name limit judge reading mid new result whole goes)
 
   -- so a file whose bytes are good is a stage that completed
-  pub went_whole : (bytes : Bytes) (ended : Bool) (old mid : DeskState) (a : A)
+  pub completed_read_file : (bytes : Bytes) (ended : Bool) (old mid : DeskState) (a : A)
       → ChangesRecord (with_read name bytes ended) old mid
       → EndsOrExceedsLimit limit (record { bytes = bytes; ended = ended }) → HasSameCounts old mid
       → StageCompleted (result_stage (judge bytes)) mid mid (Produced a)
       → StageCompleted (file_stage name limit judge) old mid (Produced a)
-  went_whole bytes ended old mid a kept whole same went = goes_whole bytes ended old mid mid (Ok a) kept whole same went
+  completed_read_file bytes ended old mid a kept whole same went = runs_read_file bytes ended old mid mid (Ok a) kept whole same went
 
   -- any fault of the reading
-  pub goes_file_fault : (fault : FileFault) (old mid new : DeskState) (status : ℕ)
+  pub runs_file_fault : (fault : FileFault) (old mid new : DeskState) (status : ℕ)
       → FileBreaks name old mid fault → CountsNeverFall old mid → CountsFileFault old mid fault → status ≡ 1
       → ReportsLine mid new (file_fault_line name fault)
       → RunsStage taking (file_stage name limit judge) old new (Err status)
-  goes_file_fault file_fault.Absent old mid new status breaks rose counted one notice =
+  runs_file_fault file_fault.Absent old mid new status breaks rose counted one notice =
       runs_open (OnlyAtStart false) taking name (content_stage name limit judge) (Absent name) old mid new (Err status)
       refl breaks counted (λ passed emitted never. absurd (never_allocates passed emitted never))
       (runs_to_refusal {A = A} (OnlyAtStart false) mid new (not_opened_line name) status one notice)
-  goes_file_fault fault old mid new status breaks rose counted one notice =
+  runs_file_fault fault old mid new status breaks rose counted one notice =
       runs_until_break taking name (content_stage name limit judge) fault old mid new status (λ e. cc) breaks rose
       counted one notice

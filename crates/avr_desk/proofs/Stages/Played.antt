@@ -97,10 +97,10 @@ runs_first_only taking stage go_on old new status (one, inl went) = grind (arith
 runs_first_only taking stage go_on old new status (one, inr broke) = grind (arith, nat_tests, rest_more)
 
 -- more allocation points
-pub goes_within : {A : Type 0} (inner taking : AllocationPoints) (stage : Stage A) (old new : DeskState)
+pub runs_with_more_allocations : {A : Type 0} (inner taking : AllocationPoints) (stage : Stage A) (old new : DeskState)
     (result : Result A ℕ) → ((passed : List Opening) (emitted : List OutputEvent) → inner passed emitted
     → taking passed emitted) → RunsStage inner stage old new result → RunsStage taking stage old new result
-goes_within inner taking stage old new result within went = search (rules, nat_tests)
+runs_with_more_allocations inner taking stage old new result within went = search (rules, nat_tests)
 
 -- ---- stages that read nothing
 
@@ -154,15 +154,15 @@ runs_without_memory taking stage old new status allocates one notice = (
 -- ---- results and output
 
 -- a good result is a stage that completes without events
-pub went_settled : {A : Type 0} (r : Result A (List ℕ)) (a : A) (d : DeskState) → r ≡ Ok a
+pub completed_good_result : {A : Type 0} (r : Result A (List ℕ)) (a : A) (d : DeskState) → r ≡ Ok a
     → StageCompleted (result_stage r) d d (Produced a)
-went_settled r a d is = rw is (completed_without_events d a)
+completed_good_result r a d is = rw is (completed_without_events d a)
 
 -- a bad result is a stage that is refused by its line
-pub goes_unsettled : {A : Type 0} (taking : AllocationPoints) (r : Result A (List ℕ)) (line : List ℕ)
+pub runs_bad_result : {A : Type 0} (taking : AllocationPoints) (r : Result A (List ℕ)) (line : List ℕ)
     (old new : DeskState) (status : ℕ) → r ≡ Err line → status ≡ 1 → ReportsLine old new line
     → RunsStage taking (result_stage r) old new (Err status)
-goes_unsettled taking r line old new status is one notice =
+runs_bad_result taking r line old new status is one notice =
     rw is (runs_to_refusal taking old new line status one notice)
 
 -- output of nothing is a stage that completes without events
@@ -177,10 +177,10 @@ completed_output old new line kept same =
     record { passed = []; output_events = PrintsLine line ∷ []; comes = λ more. refl; kept = kept; sound = same }
 
 -- output of a line that was printed in part is a stage that broke off
-pub goes_output_part : (taking : AllocationPoints) (old new : DeskState) (line : List ℕ) (fault : DeskFault)
+pub runs_output_in_part : (taking : AllocationPoints) (old new : DeskState) (line : List ℕ) (fault : DeskFault)
     → SendsPart Messages old new line → fault ≡ Failed → CountsFailure {T = Unit {0}} Messages old new (Err fault)
     → RunsStage taking (output_stage (PrintsLine line ∷ [])) old new (Err 1)
-goes_output_part taking old new line fault part is counts = (
+runs_output_in_part taking old new line fault part is counts = (
   refl,
   inr (broke_here taking (output_stage (PrintsLine line ∷ [])) old new (LineNotPrinted line) (take part.0 line) tt
       (λ more. ([], refl))

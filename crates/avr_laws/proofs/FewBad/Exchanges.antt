@@ -16,10 +16,10 @@ use Rattle.stk_emu.specs.DialogOverExchanges.{state_after}
 use Rattle.avr_laws.specs.FewBadFrames.{badness, badness_of_first, AtMostThreeBadOfSeven}
 use Rattle.stk_emu.proofs.Repeatable.{on_data, reply_to, joined_reply, IsRepeatable}
 use Rattle.avr_tool.proofs.Hosts.AnyExchange.{AfterStep, try_goes}
-use Rattle.avr_tool.proofs.Hosts.OneLink.{Spot, this_link, Runs, on_link, both}
+use Rattle.avr_tool.proofs.Hosts.OneLink.{Spot, this_link, Runs, on_link, upholds_both}
 use Rattle.stk_emu.proofs.Replies.Commands.{steady}
 use Rattle.avr_tool.proofs.WriteOperations.OutsideMode.{joined_steady}
-use Rattle.avr_tool.proofs.Sure.Good.{AreSteady, IsSteady, on_steady}
+use Rattle.avr_tool.proofs.Sure.Good.{AreSteady, IsSteady, upholds_if_steady}
 use Rattle.avr_laws.proofs.Lines.Ends.{first_steady}
 use Rattle.avr_tool.proofs.Sure.Exchanges.{IsSure}
 
@@ -203,7 +203,7 @@ module _ (Before After : Programmer → Type 0) (commands : List Command) (got :
       → Runs steady (λ y. ⊤) Whole (step commands) z
   step_steady z before few = attempts (this_link steady) (λ bytes y. ⊤) commands Begins Whole
       (λ more y begins. wider (λ bytes y x. tt) (λ e y x. x) (after_try more y.1 begins.1.1)
-      (both steady (on_link steady (try_goes steady commands Before After fits y.0 begins.0))
+      (upholds_both steady (on_link steady (try_goes steady commands Before After fits y.0 begins.0))
       (attempt_tried commands [] y got begins.1.0 (joined_steady commands [] y.0 ∙ has y.0 begins.0))))
       (λ fault y none. absurd none) 4 NoAnswer z (
         inl before,
@@ -218,6 +218,6 @@ module _ (Before After : Programmer → Type 0) (commands : List Command) (got :
 
 pub few_sure : IsSure AtMostThreeBadOfSeven
 few_sure commands got Before After fits short has z before few = record {
-  holds = on_steady (λ o y. ((o ≡ Ok got) × After y.0) × AtMostThreeBadOfSeven y.1) (step commands) z
+  holds = upholds_if_steady (λ o y. ((o ≡ Ok got) × After y.0) × AtMostThreeBadOfSeven y.1) (step commands) z
       (few_steady z.1 few) (step_steady Before After commands got fits short has z before few).holds;
 }

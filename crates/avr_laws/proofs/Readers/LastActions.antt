@@ -23,7 +23,7 @@ use Rattle.avr_tool.proofs.Hosts.OneLink.{Spot, on_link}
 use Rattle.avr_tool.proofs.Hosts.Operations.{closing_goes}
 use Rattle.avr_tool.proofs.Hosts.Outputs.{Anything, Prints, PrintsFrom, any_outputs, at_moment, prints_reported, prints_then, prints_wider}
 use Rattle.avr_tool.proofs.Memories.ExpectedAgrees.{agrees_for_actions}
-use Rattle.avr_tool.proofs.OverFaultyLink.EachAction.{ActionsTrue, After, fault_output, goes_actions}
+use Rattle.avr_tool.proofs.OverFaultyLink.EachAction.{ActionsTrue, AfterActions, fault_output, actions_print}
 use Rattle.avr_tool.proofs.OverFaultyLink.Sessions.{anyhow}
 use Rattle.avr_tool.proofs.Plans.Calls.{outcome_of, outcome_output}
 use Rattle.avr_tool.proofs.Plans.Fits.{AllFitActions, work}
@@ -88,7 +88,7 @@ module _ {part : Part} (sound : IsPart part) (real : Real part) (IsIn : real.P �
 
   -- what holds at the end of a dialog, whatever it emitted
   abbrev Goes : {R : Type 0} → (R → Spot real.P → Type 0) → Dialog OutputEvent R → Spot real.P → Type 0
-  Goes After d z = Prints m Anything (λ emitted y. ⊤) (λ r emitted y. After r y) d z
+  Goes AfterActions d z = Prints m Anything (λ emitted y. ⊤) (λ r emitted y. AfterActions r y) d z
 
   -- each dialog leaves the programmer in these states
   stays_in : {R : Type 0} (d : Dialog OutputEvent R) (z : Spot real.P) → IsIn z.0
@@ -118,7 +118,7 @@ module _ {part : Part} (sound : IsPart part) (real : Real part) (IsIn : real.P �
 
       -- after actions that only read, without a fault, their comparisons agree
       rest_found : (x : Memories) (at : Standing) (emitted : List OutputEvent) (y : Spot real.P)
-          → After part real s (λ x z. Settled real x z.0) ⊤ rest x at emitted y → Then RestAgrees at y
+          → AfterActions part real s (λ x z. Settled real x z.0) ⊤ rest x at emitted y → Then RestAgrees at y
       rest_found x at emitted y (rests, inl own) = (
         t.is_in _ y.0 rests.stands,
         λ fine.
@@ -133,7 +133,7 @@ module _ {part : Part} (sound : IsPart part) (real : Real part) (IsIn : real.P �
       -- so it is with their dialog
       rest_goes : (y : Spot real.P) → IsIn y.0 → Goes (Then RestAgrees) (actions_dialog part s rest) y
       rest_goes y i = prints_wider m Anything (λ emitted z now. tt) (rest_found (real.memories y.0))
-          (goes_actions part sound real s Anything (λ fault q. any_outputs (fault_output part fault) q)
+          (actions_print part sound real s Anything (λ fault q. any_outputs (fault_output part fault) q)
           (λ x z. Settled real x z.0) ⊤ (anyhow part sound real s) rest (real.memories y.0) y fits (t.sizes y.0 i)
           (t.works rest (real.memories y.0) reads) (anything rest (real.memories y.0)) (t.settled y.0 i))
 

@@ -10,8 +10,8 @@ use Rattle.avr_desk.specs.Record.{DeskState, Bytes}
 use Rattle.avr_desk.specs.OutputEvents.{ReportsLine}
 use Rattle.avr_records.specs.declared.kind.Ending.{Ending}
 use Rattle.avr_desk.proofs.Lines.ReportedAs.{follows_same}
-use Rattle.avr_desk.proofs.Stages.Files.{goes_whole, went_whole, goes_file_fault, never_allocates}
-use Rattle.avr_desk.proofs.Stages.Played.{runs_then, runs_first_only, goes_unsettled, completed_then, went_settled}
+use Rattle.avr_desk.proofs.Stages.Files.{runs_read_file, completed_read_file, runs_file_fault, never_allocates}
+use Rattle.avr_desk.proofs.Stages.Played.{runs_then, runs_first_only, runs_bad_result, completed_then, completed_good_result}
 use Rattle.avr_plan.specs.declared.image_file.TheConstants.{LARGEST_IMAGE_FILE}
 use Rattle.avr_plan.specs.ImageReading.{CountsReadFault, MatchRead, ReadsImage}
 use Rattle.avr_plan.specs.Lines.{bad_file_pieces, image_pieces}
@@ -39,8 +39,8 @@ image_file_read : (file : Bytes) (format : Format) (size : ℕ) (old mid : DeskS
 image_file_read file format size old mid image ending reads same =
     let judge = checked_image file format size in
     let given : judge reads.bytes ≡ Ok (image, ending) = ap (or_line (bad_file_pieces file)) (sym reads.gives) in
-    went_whole (OnlyAtStart false) file LARGEST_IMAGE_FILE judge reads.bytes reads.ended old mid (image, ending)
-    reads.kept reads.whole same (went_settled (judge reads.bytes) (image, ending) mid given)
+    completed_read_file (OnlyAtStart false) file LARGEST_IMAGE_FILE judge reads.bytes reads.ended old mid (image, ending)
+    reads.kept reads.whole same (completed_good_result (judge reads.bytes) (image, ending) mid given)
 
 module _ (switches : Switches) (file : Bytes) (format : Format) (size : ℕ) where
   -- If the file was an image and the warning was printed, the stage of the image completed.
@@ -75,7 +75,7 @@ module _ (switches : Switches) (file : Bytes) (format : Format) (size : ℕ) whe
       let judge = checked_image file format size in
       let given : judge reads.bytes ≡ Err (error (bad_file_pieces file bad)) =
       ap (or_line (bad_file_pieces file)) (sym reads.gives) in
-      search (rules, runs_first_only, goes_whole, goes_unsettled)
+      search (rules, runs_first_only, runs_read_file, runs_bad_result)
 
   -- If the file was not read, the stage broke off.
   file_not_read : (old new : DeskState) (status : ℕ)
@@ -90,7 +90,7 @@ module _ (switches : Switches) (file : Bytes) (format : Format) (size : ℕ) whe
       → RunsStage (OnlyAtStart false) (file_image_stage switches file format size) old new (Err status)
   file_image_lacks_room old mid new image ending status reads same one notice =
       file_not_read old new status
-      (goes_file_fault (OnlyAtStart false) file LARGEST_IMAGE_FILE (checked_image file format size) file_fault.Memory
+      (runs_file_fault (OnlyAtStart false) file LARGEST_IMAGE_FILE (checked_image file format size) file_fault.Memory
       old mid new status (reads.bytes, reads.ended, reads.kept) (follows_same old mid same) same one notice)
 
   -- If the file gave no image, the stage broke off or refused it.
@@ -100,6 +100,6 @@ module _ (switches : Switches) (file : Bytes) (format : Format) (size : ℕ) whe
       → ReportsLine mid new (error (image_pieces file fault))
       → RunsStage (OnlyAtStart false) (file_image_stage switches file format size) old new (Err status)
   file_image_refused old mid new (fault_of.File fault) status reads rose counted one notice =
-      search (rules, file_not_read, goes_file_fault)
+      search (rules, file_not_read, runs_file_fault)
   file_image_refused old mid new (fault_of.Image bad) status reads rose counted one notice =
       search (rules, bad_image_refused)

@@ -10,9 +10,9 @@ use Rattle.avr_desk.specs.OutputEvents.{ReportsLine}
 use Rattle.avr_part.specs.Part.{Part}
 use Rattle.avr_part.specs.PartFile.{NamedFault, ReadsUnlessOutOfMemory, of_file, parts_of}
 use Rattle.avr_part.specs.declared.fault.PartFault.TheVariants.{Memory}
-use Rattle.avr_desk.proofs.Stages.Files.{goes_whole, went_whole, goes_file_fault}
+use Rattle.avr_desk.proofs.Stages.Files.{runs_read_file, completed_read_file, runs_file_fault}
 use Rattle.avr_desk.proofs.Lines.ReportedAs.{follows_same}
-use Rattle.avr_desk.proofs.Stages.Played.{went_settled, goes_unsettled}
+use Rattle.avr_desk.proofs.Stages.Played.{completed_good_result, runs_bad_result}
 use Rattle.avr_plan.specs.declared.part_choice.TheConstants.{LARGEST_PART_FILE}
 use Rattle.avr_plan.specs.Lines.{part_file_pieces}
 use Rattle.avr_plan.specs.Planning.{checked_parts, or_line}
@@ -29,7 +29,7 @@ long_parts_refused file bytes true old mid new status kept whole is same one not
 long_parts_refused file bytes false old mid new status kept whole is same one notice =
     let past : nat_le (length bytes) LARGEST_PART_FILE ≡ false = let more = whole.0 in grind (arith, nat_tests) in
     let given : checked_parts file bytes ≡ Err (too_long_line file LARGEST_PART_FILE) = rw past refl in
-    search (rules, goes_whole, goes_unsettled)
+    search (rules, runs_read_file, runs_bad_result)
 
 -- If a part file was read and checked, its stage completed with its parts.
 pub part_file_read : (file bytes : Bytes) (ended : Bool) (old mid : DeskState) (parts : List Part)
@@ -41,8 +41,8 @@ part_file_read file bytes false old mid parts kept whole is same gives = cc
 part_file_read file bytes true old mid parts kept whole is same (inl gives) =
     let given : checked_parts file bytes ≡ Ok parts =
     (search rules) ∙ ap (or_line (λ (bad : NamedFault). part_file_pieces file bad.fault)) (sym gives) in
-    went_whole (OnlyAtStart false) file LARGEST_PART_FILE (checked_parts file) bytes true old mid parts kept whole same
-    (went_settled (checked_parts file bytes) parts mid given)
+    completed_read_file (OnlyAtStart false) file LARGEST_PART_FILE (checked_parts file) bytes true old mid parts kept whole same
+    (completed_good_result (checked_parts file bytes) parts mid given)
 part_file_read file bytes true old mid parts kept whole is same (inr memory) = cc
 
 -- If a part file was read and has a fault, its stage refused it.
@@ -56,9 +56,9 @@ bad_parts_refused file bytes false old mid new status refused kept whole is same
 bad_parts_refused file bytes true old mid new status refused kept whole is same (inl gives) one notice =
     let given : checked_parts file bytes ≡ Err (error (part_file_pieces file refused.fault)) =
     (search rules) ∙ ap (or_line (λ (bad : NamedFault). part_file_pieces file bad.fault)) (sym gives) in
-    search (rules, goes_whole, goes_unsettled)
+    search (rules, runs_read_file, runs_bad_result)
 bad_parts_refused file bytes true old mid new status refused kept whole is same (inr memory) one notice =
     let memory_is : refused ≡ of_file Memory = cc in
     let reported_so = subst (λ r. ReportsLine mid new (error (part_file_pieces file r.fault))) memory_is notice in
-    goes_file_fault (OnlyAtStart false) file LARGEST_PART_FILE (checked_parts file) file_fault.Memory old mid new status
+    runs_file_fault (OnlyAtStart false) file LARGEST_PART_FILE (checked_parts file) file_fault.Memory old mid new status
     (bytes, true, kept) (follows_same old mid same) same one reported_so

@@ -9,7 +9,7 @@ use Rattle.avr_desk.specs.OutputEvents.{OutputEvent}
 use Rattle.avr_desk.specs.declared.record.Opening.{Opening}
 use Rattle.avr_part.specs.Part.{Part}
 use Rattle.avr_part.specs.declared.part.Mem.{Mem}
-use Rattle.avr_desk.proofs.Stages.Played.{runs_then, runs_first_only, goes_within}
+use Rattle.avr_desk.proofs.Stages.Played.{runs_then, runs_first_only, runs_with_more_allocations}
 use Rattle.avr_plan.specs.Planning.{file_image_stage, image_stage, task_stage, tasks_stage}
 use Rattle.avr_desk.specs.StageRuns.{OnlyAtStart, RunsStage, StageCompleted}
 use Rattle.avr_plan.specs.AllocationPoints.{AtAllocatingTask, has_immediate_values, op_allocates}
@@ -92,7 +92,7 @@ module _ (switches : Switches) (part : Part) (tasks : List Task) (updates : List
   next_task_refused old new status is goes =
       subst (λ (us : List Update). RunsStage (AtAllocatingTask switches part tasks us) (tasks_stage switches part tasks
       us) old new (Err status)) (sym is)
-      (search (rules, goes_within, due_at_once, runs_first_only))
+      (search (rules, runs_with_more_allocations, due_at_once, runs_first_only))
 
 -- What holds of a task holds of the list of it alone.
 pub all_one : (P : Task → Type 0) (task : Task) → P task → All P (task ∷ [])

@@ -9,7 +9,7 @@ use Rattle.avr_image.specs.declared.fault.ImageFault.{ImageFault}
 use Rattle.avr_desk.specs.Lines.{error, memory_line}
 use Rattle.avr_desk.specs.OutputEvents.{ReportsLine}
 use Rattle.avr_part.specs.declared.part.Mem.{Mem}
-use Rattle.avr_desk.proofs.Stages.Played.{went_settled, goes_unsettled, runs_without_memory}
+use Rattle.avr_desk.proofs.Stages.Played.{completed_good_result, runs_bad_result, runs_without_memory}
 use Rattle.avr_plan.specs.Lines.{values_pieces}
 use Rattle.avr_plan.specs.Planning.{image_stage, or_line}
 use Rattle.avr_desk.specs.StageRuns.{OnlyAtStart, RunsStage, StageCompleted}
@@ -29,7 +29,7 @@ pub values_made : (switches : Switches) (memory : Mem) (size : ℕ) (text : Byte
     → OrOutOfMemory (Ok image) (image_of_values text size)
     → StageCompleted (image_stage switches memory size text Immediate) d d (Produced image)
 values_made switches memory size text d image gives =
-    went_settled (or_line (values_pieces memory) (image_of_values text size)) image d
+    completed_good_result (or_line (values_pieces memory) (image_of_values text size)) image d
     (ap (or_line (values_pieces memory)) (sym (given_values text size image gives)))
 
 -- If the values are no image, or allocation failed, the stage refused them or broke off.
@@ -38,7 +38,7 @@ pub bad_values_refused : (switches : Switches) (memory : Mem) (size : ℕ) (text
     → ReportsLine old new (error (values_pieces memory fault))
     → RunsStage (OnlyAtStart true) (image_stage switches memory size text Immediate) old new (Err status)
 bad_values_refused switches memory size text old new status fault (inl is) one notice =
-    goes_unsettled (OnlyAtStart true) (or_line (values_pieces memory) (image_of_values text size))
+    runs_bad_result (OnlyAtStart true) (or_line (values_pieces memory) (image_of_values text size))
     (error (values_pieces memory fault)) old new status (ap (or_line (values_pieces memory)) (sym is)) one notice
 bad_values_refused switches memory size text old new status fault (inr refused) one notice =
     search (rules, runs_without_memory)

@@ -65,8 +65,8 @@ length_low_bytes zero n = refl
 length_low_bytes (suc size) n = grind (arith, nat_tests, length_low_bytes size (n / 256), length-append)
 
 -- an address of S-records has 2 to 4 bytes
-pub few_bytes : (size : AddressSize) → (2 ≤ width_of size) × (width_of size ≤ 4)
-few_bytes x = grind (arith, nat_tests)
+pub address_has_2_to_4_bytes : (size : AddressSize) → (2 ≤ width_of size) × (width_of size ≤ 4)
+address_has_2_to_4_bytes x = grind (arith, nat_tests)
 
 -- a row has room for a byte
 pub wide_row : (kind : Kind) (addr : ℕ) → 0 < row_size kind addr

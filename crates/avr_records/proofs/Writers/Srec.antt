@@ -23,7 +23,7 @@ use Rattle.avr_records.specs.declared.kind.Kind.TheVariants.{Srec}
 use Rattle.avr_records.specs.declared.kind.AddressBase.TheVariants.{Linear}
 use Rattle.avr_records.specs.declared.fault.LineFault.{LineFault}
 use Rattle.avr_records.specs.declared.fault.LineFault.TheVariants.{Mark}
-use Rattle.avr_records.proofs.Writers.Pieces.{few_bytes, length_low_bytes}
+use Rattle.avr_records.proofs.Writers.Pieces.{address_has_2_to_4_bytes, length_low_bytes}
 use Rattle.avr_records.proofs.Rows.Cuts.{IsBytes_nil, IsBytes_append, IsRow, Every}
 use Rattle.avr_records.proofs.Writers.Lines.{is_plain, plain_digits, encode_digits, bytes_of_encode, result_plain, lines_plain, lines_written}
 use Rattle.avr_records.proofs.Writers.Reread.{GoesOn, with_end, threaded, places_linear}
@@ -103,14 +103,14 @@ pub lines_results : (size : AddressSize) (end : ℕ) (rows : List (ℕ × List �
     → Every (IsRow (λ _. 32) end) rows
     → map (line_result Srec) (lines (srec_rows size rows)) ≡ map emitted_of rows ++ Ok End ∷ Ok Nothing ∷ []
 lines_results size end [] fits all =
-    let few = few_bytes size in
+    let few = address_has_2_to_4_bytes size in
     let body : List ℕ = low_bytes (width_of size) 0 in
     let len = length_low_bytes (width_of size) 0 in
     let bytes = IsBytes_low_bytes (width_of size) 0 in
     let plain = plain_line (11 - width_of size) body (omega (arith, few.0)) (omega (arith, len, few.1)) bytes in
     search (rules, lines_plain, emits_line)
 lines_results size end ((addr, row) ∷ rows) fits all =
-    let few = few_bytes size in
+    let few = address_has_2_to_4_bytes size in
     let is = all.0 in
     let type : ℕ = width_of size - 1 in
     let body : List ℕ = low_bytes (width_of size) addr ++ row in

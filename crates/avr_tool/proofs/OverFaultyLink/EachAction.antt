@@ -71,8 +71,8 @@ module _ (part : Part) (real : Real part) (s : Switches) (At : Memories → Spot
   AtCommand actions m emitted z = RestsIn real (actions_items actions) m z × FirstActionsOutput part s actions m emitted
 
   -- As the expected run, or after the line of a failed step.
-  abbrev pub After : List Action → Memories → Standing → List OutputEvent → Spot real.P → Type 0
-  After actions m at emitted z = RestsIn real (actions_items actions) m z
+  abbrev pub AfterActions : List Action → Memories → Standing → List OutputEvent → Spot real.P → Type 0
+  AfterActions actions m at emitted z = RestsIn real (actions_items actions) m z
       × (IsAsExpected (actions_expected part s actions m) at emitted z ⊎ EndsInFault actions m at emitted)
 
   -- after the first of them
@@ -173,7 +173,7 @@ module _ (part : Part) (sound : IsPart part) (real : Real part) (s : Switches) (
   -- These actions go so.
   abbrev pub PrintsActions : List Action → Memories → Spot real.P → Type 0
   PrintsActions actions m z =
-      Prints real.device True (AtCommand part real s At Fails actions m) (After part real s At Fails actions m)
+      Prints real.device True (AtCommand part real s At Fails actions m) (AfterActions part real s At Fails actions m)
       (actions_dialog part s actions) z
 
   module _ (action : Action) (rest : List Action) (m : Memories) (fits : ItemsFit part (action_items action))
@@ -243,8 +243,8 @@ module _ (part : Part) (sound : IsPart part) (real : Real part) (s : Switches) (
 
       -- What holds after the others holds after all.
       after_behind : (at : Standing) (x : List OutputEvent) (y : Spot real.P)
-          → After part real s At Fails rest c.memories at x y
-          → After part real s At Fails (action ∷ rest) m at (emitted ++ x) y
+          → AfterActions part real s At Fails rest c.memories at x y
+          → AfterActions part real s At Fails (action ∷ rest) m at (emitted ++ x) y
       after_behind at x y (rests, inl own) =
           search (rules, rests_later y rests, expected_by_outcome (actions_expected part s rest) 0 fine)
       after_behind at x y (rests, inr broken) =
@@ -272,7 +272,7 @@ module _ (part : Part) (sound : IsPart part) (real : Real part) (s : Switches) (
         on : (at : Standing) (emitted : List OutputEvent) (y : Spot real.P)
             → AfterAction part real s At Fails action rest m at emitted
             y → Prints real.device True (λ x. AtCommand part real s At Fails (action ∷ rest) m (emitted ++ x))
-            (λ b x. After part real s At Fails (action ∷ rest) m b (emitted ++ x))
+            (λ b x. AfterActions part real s At Fails (action ∷ rest) m b (emitted ++ x))
             (unless_fault (actions_dialog part s rest) at) y
         on NoFault emitted y (r, inl own) =
             prints_wider real.device True
@@ -280,18 +280,18 @@ module _ (part : Part) (sound : IsPart part) (real : Real part) (s : Switches) (
             (after_behind emitted own.output_events_are own.status_is) (more y own.left)
         on NoFault emitted y (r, inr broken) = absurd (broken.faulty refl)
         on at emitted y (r, inl own) =
-            stops real.device True (After part real s At Fails (action ∷ rest) m) at emitted y
+            stops real.device True (AfterActions part real s At Fails (action ∷ rest) m) at emitted y
             (before y r, inl (rw (expected_by_outcome (actions_expected part s rest) (status_of at) own.status_is) own))
         on at emitted y (r, inr broken) =
-            stops real.device True (After part real s At Fails (action ∷ rest) m) at emitted y (before y r, inr broken)
+            stops real.device True (AfterActions part real s At Fails (action ∷ rest) m) at emitted y (before y r, inr broken)
 
   -- the actions after the opening
-  pub goes_actions : (actions : List Action) (m : Memories) (z : Spot real.P) → AllFitActions part actions
+  pub actions_print : (actions : List Action) (m : Memories) (z : Spot real.P) → AllFitActions part actions
       → FitsPart part m → ActionsWork real actions m
       → ActionsTrue part real s True actions m → At m z → PrintsActions actions m z
-  goes_actions [] m z fits f w holds at = search rules
-  goes_actions (action ∷ rest) m z fits f w holds at =
+  actions_print [] m z fits f w holds at = search rules
+  actions_print (action ∷ rest) m z fits f w holds at =
       prints_first_action action rest m (action_items_fit part action fits.0) f z holds.0
       (pass.calls action m z fits.0 f w.0 at)
-      (λ y there. goes_actions rest (effects part (action_items action) m) y fits.1
+      (λ y there. actions_print rest (effects part (action_items action) m) y fits.1
       (effects_sizes part sound (action_items action) m f) w.1 holds.1 there)

@@ -18,7 +18,7 @@ use Rattle.stk_emu.specs.Effect.{Memories}
 use Rattle.stk_emu.specs.WriteOperations.{steps_of_items}
 use Rattle.avr_tool.proofs.Leads.{memories_after_steps}
 use Rattle.stk_emu.specs.Settled.{FitsPart}
-use Rattle.avr_tool.proofs.OverFaultyLink.EachAction.{RestsIn, CallHasOutcome, IsAsExpected, After, Passes, ActionTrue, ActionsTrue, fault_output, operation_comes, prints_first_action, goes_actions}
+use Rattle.avr_tool.proofs.OverFaultyLink.EachAction.{RestsIn, CallHasOutcome, IsAsExpected, AfterActions, Passes, ActionTrue, ActionsTrue, fault_output, operation_comes, prints_first_action, actions_print}
 use Rattle.avr_tool.proofs.Hosts.Operations.{closing_goes}
 use Rattle.avr_tool.proofs.Hosts.OneLink.{Spot, on_link}
 use Rattle.avr_tool.proofs.Hosts.Outputs.{AllTrue, Prints, stops, prints_reported, prints_then}
@@ -116,7 +116,7 @@ module _ (plan : Plan) (sound : IsPart plan.part) (real : Real plan.part) (fitte
   -- After a fault no second one is reported.
   with_fault : (at : Standing) (emitted : List OutputEvent) (y z : Spot real.P) → ending_output plan (status_of at) ≡ []
       → status_of at ≡ 1
-      → After part real s At Fails (actions plan) m at emitted y → real.memories z.0 ≡ real.memories y.0
+      → AfterActions part real s At Fails (actions plan) m at emitted y → real.memories z.0 ≡ real.memories y.0
       → AtEnd plan real m Fails 1 emitted z
   with_fault at emitted y z none one (rests, inl own) kept =
       let first = first_done y rests in
@@ -125,7 +125,7 @@ module _ (plan : Plan) (sound : IsPart plan.part) (real : Real plan.part) (fitte
 
   -- The end of a session, by whether there was a fault.
   ending_prints : (at : Standing) (emitted : List OutputEvent) (y : Spot real.P)
-      → After part real s At Fails (actions plan) m at emitted y
+      → AfterActions part real s At Fails (actions plan) m at emitted y
       → Prints real.device True (λ x. AtMoment plan real m (emitted ++ x))
       (λ b x. AtEnd plan real m Fails (status_of b) (emitted ++ x))
       (ending part s at) y
@@ -159,5 +159,5 @@ module _ (plan : Plan) (sound : IsPart plan.part) (real : Real plan.part) (fitte
       prints_then real.device True (λ x y now. now)
       (prints_then real.device True (λ x y now. (first_done y now.0, inr (inl now.1)))
       (prints_first_action part sound real s True fault_true At Fails pass OpenSession (work plan) m tt f z opening_true
-      opened (search (rules, goes_actions, work_fits))) ending_prints)
+      opened (search (rules, actions_print, work_fits))) ending_prints)
       (λ at emitted y a. stops real.device True (AtEnd plan real m Fails) (status_of at) emitted y a)

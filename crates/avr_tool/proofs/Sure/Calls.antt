@@ -25,7 +25,7 @@ use Rattle.avr_tool.proofs.StepData.Comparisons.{signature_taken}
 use Rattle.avr_tool.proofs.Sure.Exchanges.{Brings, IsSure, brings_bind, brings_reported, brings_play}
 use Rattle.avr_tool.proofs.StepData.WholeMemories.{read_gives}
 use Rattle.avr_tool.proofs.Hosts.Operations.{closing_goes}
-use Rattle.avr_tool.proofs.Hosts.OneLink.{Spot, on_link, both}
+use Rattle.avr_tool.proofs.Hosts.OneLink.{Spot, on_link, upholds_both}
 use Rattle.avr_tool.proofs.WriteOperations.Items.{read_are_steps}
 use Rattle.avr_tool.proofs.WriteOperations.Steps.{enter_ready, leave_steady, leave_fits}
 use Rattle.avr_tool.proofs.Plans.Calls.{outcome_of, call_of, is_operation}
@@ -89,13 +89,13 @@ module _ (Such : List Exchange → Type 0) (sure : IsSure Such) where
     idle = λ m z t. ready_idle part m z.0 t.0;
     calls = λ action m z fits f w t.
         wider (λ bytes y r. r) (λ e y x. x) (λ got y x. inl (x.1.0.0, (x.1.0.1, x.1.1)))
-        (both device (on_link device (operation_comes part sound (emulated part sound) s action m fits f w z.0
+        (upholds_both device (on_link device (operation_comes part sound (emulated part sound) s action m fits f w z.0
         (ready_settled part m z.0 t.0)))
         (operation_brings part sound m f s action fits z t.0 t.1));
     closes = λ m z t.
         let i = ready_idle part m z.0 t.0 in
         wider (λ bytes y i. i) (λ e y x. x) (λ r y x. (x.0.0, inl x.1.0.0))
-        (both device (on_link device (closing_goes device (HasMemories part m) (leave_fits part m) z.0 i))
+        (upholds_both device (on_link device (closing_goes device (HasMemories part m) (leave_fits part m) z.0 i))
         (closing_brings part m z i t.1));
   }
 
@@ -105,6 +105,6 @@ module _ (Such : List Exchange → Type 0) (sure : IsSure Such) where
       → HasMemories part m z.0 → Such z.1 → CallHasOutcome part (emulated part sound) s (AtSure part) ⊥ OpenSession m z
   opens_sure part sound s m z f idle few =
       wider (λ bytes y r. r) (λ e y x. x) (λ got y x. inl (x.1.0.0, (x.1.0.1, x.1.1)))
-      (both device (on_link device (opening_comes part sound (emulated part sound) s m f
+      (upholds_both device (on_link device (opening_comes part sound (emulated part sound) s m f
       (all_work part sound signature_steps m) z.0 idle))
       (opening_brings part sound m f s.force z idle few))

@@ -12,7 +12,7 @@ use Rattle.stk_emu.specs.Device.{device}
 use Rattle.stk_emu.proofs.Repeatable.{on_data, joined_reply, IsRepeatable}
 use Rattle.avr_tool.specs.OverFaultyLink.{AllArriveRight}
 use Rattle.avr_tool.proofs.Hosts.AnyExchange.{AfterStep, try_goes}
-use Rattle.avr_tool.proofs.Hosts.OneLink.{Spot, this_link, Runs, on_link, both}
+use Rattle.avr_tool.proofs.Hosts.OneLink.{Spot, this_link, Runs, on_link, upholds_both}
 use Rattle.stk_emu.proofs.Replies.Commands.{steady}
 use Rattle.avr_tool.proofs.WriteOperations.OutsideMode.{joined_steady}
 use Rattle.avr_tool.proofs.Sure.Exchanges.{IsSure}
@@ -45,12 +45,12 @@ others_steady : (exchanges : List Exchange) → AreSteady exchanges → AreStead
 others_steady exchanges s = search rules
 
 -- over such exchanges no device restarts
-pub on_steady : {R : Type 0} (After : R → Spot Programmer → Type 0) (d : Dialog ⊥ R) (z : Spot Programmer)
+pub upholds_if_steady : {R : Type 0} (After : R → Spot Programmer → Type 0) (d : Dialog ⊥ R) (z : Spot Programmer)
     → AreSteady z.1 → HoldsFrom (this_link steady) (λ bytes y. ⊤) NoOutput After d z
     → HoldsFrom (this_link device) (λ bytes y. ⊤) NoOutput After d z
-on_steady After (Done r) z s h = h
-on_steady After (Emit e d) z s h = absurd e
-on_steady After (Ask bytes go_on) z s h = search (rules, on_steady After (go_on _) _ (others_steady z.1 s) (h.1 tt))
+upholds_if_steady After (Done r) z s h = h
+upholds_if_steady After (Emit e d) z s h = absurd e
+upholds_if_steady After (Ask bytes go_on) z s h = search (rules, upholds_if_steady After (go_on _) _ (others_steady z.1 s) (h.1 tt))
 
 -- ---- good exchanges
 
@@ -108,13 +108,13 @@ module _ (Before After : Programmer → Type 0) (commands : List Command) (got :
   step_has z before good =
       attempts (this_link steady) (λ bytes y. ⊤) commands Begins Whole
       (λ more y begins. wider (λ bytes y x. tt) (λ e y x. x) (after_try more)
-      (both steady (on_link steady (try_goes steady commands Before After fits y.0 (inl begins.0)))
+      (upholds_both steady (on_link steady (try_goes steady commands Before After fits y.0 (inl begins.0)))
       (attempt_has commands [] y got begins.1 (joined_steady commands [] y.0 ∙ has y.0 (inl begins.0)))))
       (λ fault y none. absurd none) 4 NoAnswer z (before, good)
 
 -- Over good exchanges each step brings its data.
 pub good_sure : IsSure AllArriveRight
 good_sure commands got Before After fits short has z before good = record {
-  holds = on_steady (λ o y. ((o ≡ Ok got) × After y.0) × AllArriveRight y.1) (step commands) z (good_steady z.1 good)
+  holds = upholds_if_steady (λ o y. ((o ≡ Ok got) × After y.0) × AllArriveRight y.1) (step commands) z (good_steady z.1 good)
       (step_has Before After commands got fits has z before good).holds;
 }

@@ -1,5 +1,5 @@
 use Rattle.std.proofs.Common.{[], ◌∷◌, codes, rules}
-use Rattle.avr_desk.proofs.Stages.Played.{completed_silently, completed_output, goes_output_part}
+use Rattle.avr_desk.proofs.Stages.Played.{completed_silently, completed_output, runs_output_in_part}
 use Rattle.avr_desk.specs.Lines.{warning}
 use Rattle.avr_plan.proofs.image_file.warn_of_ending.Goals as goal
 
@@ -12,4 +12,4 @@ returns-in-Ok-clause-goes g c = rw (← c.if-not-warns.ensures)
     c.in-Ok.ensures.printed c.in-Ok.ensures.call.counts.1)
 
 pub returns-in-Err-clause-goes : goal.returns-in-Err-clause-goes
-returns-in-Err-clause-goes g c = search (rules, goes_output_part)
+returns-in-Err-clause-goes g c = search (rules, runs_output_in_part)

@@ -2,18 +2,18 @@ use Rattle.std.proofs.Common.{refl, Ok, [], false, rules}
 use Rattle.avr_desk.specs.StageRuns.{OnlyAtStart}
 use Rattle.avr_plan.specs.declared.part_choice.TheConstants.{LARGEST_PART_FILE}
 use Rattle.avr_plan.proofs.Stages.Parts.{part_file_read, bad_parts_refused, long_parts_refused}
-use Rattle.avr_desk.proofs.Stages.Files.{goes_file_fault}
+use Rattle.avr_desk.proofs.Stages.Files.{runs_file_fault}
 use Rattle.avr_desk.proofs.Stages.Openings.{breaks_as}
-use Rattle.avr_desk.proofs.Stages.Played.{went_settled}
+use Rattle.avr_desk.proofs.Stages.Played.{completed_good_result}
 use Rattle.avr_plan.specs.Planning.{checked_parts}
 use Rattle.avr_plan.proofs.part_choice.given_parts.Goals as goal
 
 pub returns-in_default-clause-goes : goal.returns-in_default-clause-goes
-returns-in_default-clause-goes g c = rw (c.in_default.is, c.none.ensures) (went_settled (Ok []) [] _ refl)
+returns-in_default-clause-goes g c = rw (c.in_default.is, c.none.ensures) (completed_good_result (Ok []) [] _ refl)
 
 pub returns-in-Err-clause-goes : goal.returns-in-Err-clause-goes
 returns-in-Err-clause-goes g c =
-    rw (c.in-Some.is, ← c.as_str-file.ensures) (goes_file_fault (OnlyAtStart false) _ LARGEST_PART_FILE
+    rw (c.in-Some.is, ← c.as_str-file.ensures) (runs_file_fault (OnlyAtStart false) _ LARGEST_PART_FILE
     (checked_parts _) _ _ _ _ _ (breaks_as _ _ _ _ c.in-Err.ensures.kept) c.in-Err.ensures.counts.0
     c.in-Err.ensures.counts.1 refl (rw c.file_message.ensures at c.refuse.ensures.notice))
 

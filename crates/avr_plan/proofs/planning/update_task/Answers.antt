@@ -1,5 +1,5 @@
 use Rattle.std.proofs.Common.{refl, rules, Ok}
-use Rattle.avr_desk.proofs.Stages.Played.{went_settled, runs_first_only, runs_to_refusal, runs_without_memory}
+use Rattle.avr_desk.proofs.Stages.Played.{completed_good_result, runs_first_only, runs_to_refusal, runs_without_memory}
 use Rattle.avr_desk.specs.Stage.{result_stage}
 use Rattle.avr_plan.specs.Planning.{update_image}
 use Rattle.avr_plan.specs.declared.planned.Task.TheVariants.{Write, Verify}
@@ -27,4 +27,4 @@ returns-in-Err-read_task-clause-goes g c = rw c.in-Read.is (search (rules, runs_
 
 pub returns-in-Ok-read_task-clause-goes : goal.returns-in-Ok-read_task-clause-goes
 returns-in-Ok-read_task-clause-goes g c =
-    rw (c.in-Read.is, c.in-Ok-read_task.ensures.made) (search (rules, went_settled))
+    rw (c.in-Read.is, c.in-Ok-read_task.ensures.made) (search (rules, completed_good_result))
