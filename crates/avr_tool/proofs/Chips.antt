@@ -27,7 +27,8 @@ use Rattle.avr_tool.specs.Loading.{AtOpened, chip_or_line, checked_chip, chip_gi
 pub fresh_chip_given : (part : Part) (chip : ChipState) (d : DeskState)
     → GivesPartUnlessOutOfMemory (Ok (fresh_state part)) (Ok chip)
     → StageCompleted (result_stage (Ok (fresh_state part))) d d (Produced chip)
-fresh_chip_given part chip d (inl gives) = let same : fresh_state part ≡ chip = cc in search (rules, completed_good_result)
+fresh_chip_given part chip d (inl gives) =
+    let same : fresh_state part ≡ chip = cc in search (rules, completed_good_result)
 fresh_chip_given part chip d (inr memory) = cc
 
 -- ---- the chip of some bytes

@@ -41,7 +41,8 @@ module _ {P : Type 0} (m : Device P) where
       on (Ask bytes go_on) z h = (h.0, λ move. on (go_on _) (this_link.after bytes z tt) (h.1 (first_exchange z.1)))
 
   -- a call that upholds two things upholds both at once
-  pub upholds_both : {R : Type 0} {During : Spot P → Type 0} {After Here : R → Spot P → Type 0} {d : Dialog ⊥ R} {z : Spot P}
+  pub upholds_both :
+      {R : Type 0} {During : Spot P → Type 0} {After Here : R → Spot P → Type 0} {d : Dialog ⊥ R} {z : Spot P}
       → Runs During After d z → Runs (λ y. ⊤) Here d z → Runs During (λ r y. After r y × Here r y) d z
   upholds_both {R = R} {During = During} {After = After} {Here = Here} {d = d} {z = z} l g = search (rules, on)
     where

@@ -50,7 +50,8 @@ pub upholds_if_steady : {R : Type 0} (After : R → Spot Programmer → Type 0) 
     → HoldsFrom (this_link device) (λ bytes y. ⊤) NoOutput After d z
 upholds_if_steady After (Done r) z s h = h
 upholds_if_steady After (Emit e d) z s h = absurd e
-upholds_if_steady After (Ask bytes go_on) z s h = search (rules, upholds_if_steady After (go_on _) _ (others_steady z.1 s) (h.1 tt))
+upholds_if_steady After (Ask bytes go_on) z s h =
+    search (rules, upholds_if_steady After (go_on _) _ (others_steady z.1 s) (h.1 tt))
 
 -- ---- good exchanges
 
