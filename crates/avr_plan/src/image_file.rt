@@ -3,7 +3,6 @@ ghost use Rattle.std.specs.Prelude.{◌≡◌, ◌+◌, ◌<◌, ◌^◌, ℕ, I
 ghost use Rattle.avr_desk.specs.Fault.{CountsNeverFall, HasSameCounts};
 ghost use Rattle.avr_desk.specs.Record.{DeskState, Bytes};
 ghost use Rattle.avr_records.specs.declared.kind.Found.{Found as AnyFound};
-ghost use Rattle.avr_plan.specs.Faults.{read_fault_number};
 ghost use Rattle.avr_plan.specs.ImageFile.{kind_of, image_of_file};
 ghost use Rattle.avr_desk.specs.Files.{CountsFileFault, FileBreaks};
 ghost use Rattle.avr_plan.specs.ImageReading.{BreaksReading, CountsReadFault, FirstBytesAreRead, MatchRead, ReadsImage, ReadsRest};
@@ -46,18 +45,6 @@ pub enum ReadFault {
     /// The file was read and is no image.
     #[error("{0}")]
     Image(BadFile),
-}
-
-impl ReadFault {
-    /// Returns the fault's number, which never changes.
-    pub fn number(&self) -> u8
-        ensures { result ≡ read_fault_number self.now }
-    {
-        match self {
-            ReadFault::File(_) => 1,
-            ReadFault::Image(_) => 2,
-        }
-    }
 }
 
 /// The first bytes of a file: the whole file, or enough to show its format.

@@ -1,6 +1,5 @@
 //! Makes an image from the bytes of a file as they come, or returns why they are no image.
 ghost use Rattle.std.specs.Prelude.{◌≡◌, ◌+◌, ◌<◌, ◌≤◌, ◌^◌, ◌++◌, ℕ, [], length, MatchResult};
-ghost use Rattle.avr_plan.specs.Faults.{bad_file_number};
 ghost use Rattle.avr_desk.specs.Record.{Bytes};
 ghost use Rattle.avr_records.specs.declared.kind.Found.{Found as AnyFound};
 ghost use Rattle.avr_plan.specs.ImageFile.{image_of_file, fault_of_long_file};
@@ -27,20 +26,6 @@ pub enum BadFile {
     /// The file has more than 4,194,304 bytes.
     #[error("longer than 4194304 bytes")]
     TooLong,
-}
-
-impl BadFile {
-    /// Returns the fault's number, which never changes.
-    pub fn number(&self) -> u8
-        ensures { result ≡ bad_file_number self.now }
-    {
-        match self {
-            BadFile::Record(_) => 1,
-            BadFile::Raw(_) => 2,
-            BadFile::Elf => 3,
-            BadFile::TooLong => 4,
-        }
-    }
 }
 
 /// The state after the bytes of a file so far: a reader, or the first fault.

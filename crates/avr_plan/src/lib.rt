@@ -26,6 +26,7 @@ mod settings;
 mod text;
 mod update;
 // the plan
+mod fault_numbers;
 mod image_file;
 mod intake;
 mod messages;

@@ -1,5 +1,4 @@
 ghost use Rattle.std.specs.Prelude.{◌≡◌};
-ghost use Rattle.avr_plan.specs.Faults.{parts_fault_number, plan_fault_number, task_fault_number};
 
 use crate::image_file::ReadFault;
 use avr_desk::FileFault;
@@ -19,19 +18,6 @@ pub enum PartsFault {
     /// The file was read and isn't a part file.
     #[error("{0}")]
     Parts(PartFault),
-}
-
-impl PartsFault {
-    /// Returns the fault's number, which never changes.
-    pub fn number(&self) -> u8
-        ensures { result ≡ parts_fault_number self.now }
-    {
-        match self {
-            PartsFault::File(_) => 1,
-            PartsFault::TooLong => 2,
-            PartsFault::Parts(_) => 3,
-        }
-    }
 }
 
 /// Why an update is refused. Its text is the reason alone, without the names of memory and file.
@@ -54,21 +40,6 @@ pub enum TaskFault {
     Unwarned,
 }
 
-impl TaskFault {
-    /// Returns the fault's number, which never changes.
-    pub fn number(&self) -> u8
-        ensures { result ≡ task_fault_number self.now }
-    {
-        match self {
-            TaskFault::ReadOnly => 1,
-            TaskFault::Values(_) => 2,
-            TaskFault::File(_) => 3,
-            TaskFault::Memory => 4,
-            TaskFault::Unwarned => 5,
-        }
-    }
-}
-
 /// Why there is no plan. The fault's line was printed last, as far as the desk took it.
 #[derive(Clone, Copy, Debug, PartialEq, Eq, Error)]
 pub enum PlanFault {
@@ -81,17 +52,4 @@ pub enum PlanFault {
     /// The update with this number, counted from 0, is refused.
     #[error("update {0}: {1}")]
     Update(usize, TaskFault),
-}
-
-impl PlanFault {
-    /// Returns the fault's number, which never changes.
-    pub fn number(&self) -> u8
-        ensures { result ≡ plan_fault_number self.now }
-    {
-        match self {
-            PlanFault::PartFile(_) => 1,
-            PlanFault::NoPart => 2,
-            PlanFault::Update(..) => 3,
-        }
-    }
 }

@@ -1,6 +1,5 @@
 //! The settings of a run, and why a command line has none.
 ghost use Rattle.std.specs.Prelude.{◌≡◌, [], None, IfOk};
-ghost use Rattle.avr_plan.specs.Faults.{settings_fault_number};
 ghost use Rattle.avr_plan.specs.Settings.{switches_of};
 
 use crate::text::Text;
@@ -135,29 +134,6 @@ pub enum SettingsFault {
     /// Allocation failed.
     #[error("out of memory")]
     Memory,
-}
-
-impl SettingsFault {
-    /// Returns the fault's number, which never changes. It is not the order in which faults are reported.
-    ///
-    /// ```text
-    /// assert_eq!(rt; SettingsFault::NoPart.number(), 1);
-    /// assert_eq!(rt; SettingsFault::NoChip.number(), 8);
-    /// ```
-    pub fn number(&self) -> u8
-        ensures { result ≡ settings_fault_number self.now }
-    {
-        match self {
-            SettingsFault::NoPart => 1,
-            SettingsFault::BadProgrammer(_) => 2,
-            SettingsFault::BadPort(_) => 3,
-            SettingsFault::TooMany => 4,
-            SettingsFault::BadUpdate(_, _) => 5,
-            SettingsFault::StandardTaken => 6,
-            SettingsFault::Memory => 7,
-            SettingsFault::NoChip => 8,
-        }
-    }
 }
 
 impl fmt::Debug for SettingsFault {

@@ -1,6 +1,5 @@
 //! Updates: what `-U` asks for, and how its text is read.
 ghost use Rattle.std.specs.Prelude.{◌≡◌, ◌∷◌, ◌++◌, [], Some, None, is_ok, if◌then◌else◌, ◌==◌, find};
-ghost use Rattle.avr_plan.specs.Faults.{update_fault_number};
 ghost use Rattle.avr_plan.specs.Update.{letter_of, formats_of, format_of, op_named, file_and_letter, GivesUpdateUnlessOutOfMemory, update_of, update_after, update_by, update_with_op};
 
 use crate::text::{Text, split_first};
@@ -132,19 +131,6 @@ pub enum UpdateFault {
     /// Allocation failed.
     #[error("out of memory")]
     Memory = 5,
-}
-
-impl UpdateFault {
-    /// Returns the fault's number, which never changes.
-    ///
-    /// ```text
-    /// assert_eq!(rt; UpdateFault::NoFile.number(), 4);
-    /// ```
-    pub fn number(&self) -> u8
-        ensures { result ≡ update_fault_number self.now }
-    {
-        *self as u8
-    }
 }
 
 /// The updates, in the order given. In contracts its value is their list.
