@@ -28,7 +28,7 @@ SENTENCES = {
     ],
     "found before the first frame": ["a_plan_only_reads_and_warns"],
     "an accepted command line, the files read and the replies determine": ["a_run_is_one_function"],
-    "a run does only the first part of this": ["a_stop_is_a_prefix"],
+    "stops does only the first part of this": ["a_stop_is_a_prefix"],
 }
 
 
