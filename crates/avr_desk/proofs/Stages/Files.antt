@@ -39,7 +39,7 @@ module _ {A : Type 0} (taking : AllocationPoints) (name : Bytes) (limit : ℕ) (
       → StageCompleted (result_stage (judge bytes)) mid mid (Produced a)
       → StageCompleted (file_stage name limit judge) old mid (Produced a)
   completed_read_file bytes ended old mid a kept whole same went =
-    runs_read_file bytes ended old mid mid (Ok a) kept whole same went
+      runs_read_file bytes ended old mid mid (Ok a) kept whole same went
 
   -- any fault of the reading
   pub runs_file_fault : (fault : FileFault) (old mid new : DeskState) (status : ℕ)
