@@ -571,7 +571,10 @@ def refused():
         "-P /dev/null --parts tiny.toml --try-rows": "no part given (-p): with --parts, -p takes a part as that file ",
         "-P /dev/null --parts less.toml -p tiny --try-rows": "less.toml: no eesave_bit found in a table [parts.tiny]: ",
     }
-    room.put("less.toml", boards.TINY.replace("eesave_bit", "bit").encode())
+    # (with what an editor or a note may add)
+    less = boards.TINY.replace("flash_size", 'kind = "}"\nnote = "[rev. B]"\nflash_size')
+    less = "\ufeff" + less.replace("2048", "+2048").replace("eesave_bit", "bit")
+    room.put("less.toml", less.encode())
     fields = "signature = '1E950F', flash_size = 0x8000, flash_page = 0x80, eeprom_size = 1_024, eeprom_page = 4"
     room.put("one.toml", f"parts = {{ c-chip = {{ {fields}, eesave_bit = 3 }} }}\n".encode())
     for words, why in cases.items():

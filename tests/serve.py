@@ -892,6 +892,14 @@ def mega():
             received(client, int.from_bytes(head[2:4], "big") + 1)
         wait_until(lambda: room.read("long.bin") is not None)
         check_equal("a read that is too long", (server.end(), room.read("long.bin")[:4]), ((0, ""), b"abcd"))
+    # (the bit that a fault changes)
+    damaged = bytearray(frame(1, 1))
+    damaged[-2] ^= 1
+    with Serving("--mega", "--log", "log", chip=["-p", "m2560", "--chip", "long.bin"]) as server:
+        with server.call() as client:
+            client.sendall(damaged + frame(2, 1))
+            check_equal("a damaged frame of the client gets no reply", received(client, 17)[1], 2)
+        server.end()
 
 
 def report():

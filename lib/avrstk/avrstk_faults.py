@@ -95,8 +95,8 @@ def framed(number: int, body: bytes) -> bytes:
 
 
 def spoiled(frame: bytes) -> bytes:
-    """Returns a frame with a bit of its body changed."""
-    return frame[:-2] + bytes([frame[-2] ^ 1, frame[-1]])
+    """Returns a frame with a bit of its body changed. (A damaged one stays as it is: the same bit may mend it.)"""
+    return frame if xor(frame) else frame[:-2] + bytes([frame[-2] ^ 1, frame[-1]])
 
 
 class Log:

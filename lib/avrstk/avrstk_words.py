@@ -36,6 +36,7 @@ OF_ELF = (".elf", ".axf", ".out")
 MOST, MOST_OF_ELF = 1 << 26, 1 << 20
 
 # a file of records begins so, by avrstk's rule, and a record with data so
+COMMENT_OR_TEXT = re.compile(r"""#.*|(["'])(?P<text>.*?)\1""")
 RECORD = re.compile(rb"(?:[ \t\r]*\n)*(?::[0-9A-Fa-f]{10}|S[0-9][0-9A-Fa-f]{8})")
 BEGIN = re.compile(rb"(?:[ \t\r]*\n)*[:S]")
 DATA = re.compile(rb"^(?::(?!00)..(?:....)00|S1(?!03)|S2(?!04)|S3(?!05))", re.M)
@@ -221,10 +222,10 @@ class Words:
         """Returns a field of the part in the part file of one's own."""
         if self.parts_file is None or not os.path.isfile(self.parts_file):
             return None
-        # (names and values may be in quotes, and a comment may have fields, too)
-        with open(self.parts_file, encoding="utf-8", errors="replace") as file:
-            text = re.sub("#.*|[\"']", "", file.read(65_536))
-        entry = rf"^\s*\[?\s*(?:parts\s*\.\s*)?{re.escape(self.part or '')}\s*[]=.][^\[}}]*?\b{name}\s*=\s*(\w+)"
+        # (names and values may be in quotes; a comment and other texts may have fields and brackets, too)
+        with open(self.parts_file, encoding="utf-8-sig", errors="replace") as file:
+            text = COMMENT_OR_TEXT.sub(lambda found: re.sub(r"[]#={}[]", "", found["text"] or ""), file.read(65_536))
+        entry = rf"^\s*\[?\s*(?:parts\s*\.\s*)?{re.escape(self.part or '')}\s*[]=.][^\[}}]*?\b{name}\s*=\s*\+?(\w+)"
         found = re.search(entry, text, re.M)
         return found[1] if found else None
 
