@@ -878,7 +878,8 @@ def retries_that_are_refused():
 
     def ran(*words):
         status, _, _, own = run(["-p", "m328p", "-P", device, "--retry", "1", *words], env=fails)
-        return status, own[0].partition("--retry: -U ")[2].partition(" may go wrong in a second run")[0]
+        named = own[0].partition("--retry: ")[2].partition(" may go wrong in a second run")[0]
+        return status, named.removeprefix("-U ")
 
     two = ["-U", "flash:w:blink.hex:i", "-U", "flash:w:late.hex:i"]
     check_equal("--retry without avrstk_session", ran(*two), (1, "flash:w:late.hex:i"))
