@@ -857,7 +857,7 @@ def retries():
     *_, own = run([*words, "-P", str(programmer.device)])
     programmer.end()
     state = "; the chip may be erased or partly written, and may be in programming mode"
-    is_right = own[-1].startswith("--counter counter has to ") and own[-1].endswith(state)
+    is_right = own[-1].startswith("--counter counter: not a number of ") and own[-1].endswith(state)
     check("no number for the second attempt", is_right, own)
     room.put("counter", b"7\n")
     programmer = Boards({"vanish": 8})
@@ -1789,6 +1789,7 @@ FOLLOWED = [
     (r"run the same command again(?: with -D, without -e)?(?:,? without its first \d+ -U)?$", repeated),
     (
         r"reads as something else than [^;]*$|differ: check -p$|^try another programmer or chip$"
+        r"|, with another programmer or chip$"
         r"|^the signature is that of no part|is not supported: .* Use avrdude",
         lambda *_: None,
     ),
