@@ -53,6 +53,8 @@ KINDS = {
     "ArduinoISP-fast": (0, 250_000),
 }
 WHATS = ["lost", "twice", *range(8)]
+# how often a run is made whose board may be late
+MOST_LATE = 5
 room = Room()
 
 
@@ -500,15 +502,20 @@ def typed():
 
 def restores_nothing():
     """A restore at an Uno's or an old Nano's own bootloader, with -c for a programmer, is refused before a write."""
-    old = random.Random(9).randbytes(FLASH)
-    room.put("chip.bin", old + b"\xff" * EEPROM + b"\xe2\xd9\xff\xff")
+    room.put("chip.bin", random.Random(8).randbytes(FLASH) + b"\xff" * EEPROM + b"\xe2\xd9\xff\xff")
+    # (a jump to itself: other firmware could reach the code that writes)
+    old = b"\xff\xcf" + random.Random(9).randbytes(FLASH - 2)
     check_equal("a backup", run_script(["-p", "m328p", "-P", "emu:chip.bin", "--backup", "backup"])[0], 0)
     for kind, programmer in [("optiboot", "stk500v1"), ("ATmegaBOOT", "avrisp")]:
-        at = Terminal(kind, old)
-        words = f"-p m328p -c {programmer} -b {KINDS[kind][1]} -P {at.device} --restore backup"
-        status, messages = run_script(words.split())
-        check(f"{kind}: the line", (status, "read as 00, as from a bootloader" in messages) == (1, True), messages)
-        check_equal(f"{kind}: its flash", at.end().flash(), old[: KINDS[kind][0]])
+        # (with a programmer's -c a board is reset only at the start. A late one runs its firmware, and is silent)
+        for _ in range(MOST_LATE):
+            at = Terminal(kind, old)
+            words = f"-p m328p -c {programmer} -b {KINDS[kind][1]} -P {at.device} --restore backup"
+            status, messages = run_script(words.split())
+            check_equal(f"{kind}: the status, and its flash", (status, at.end().flash()), (1, old[: KINDS[kind][0]]))
+            if "no answer" not in messages:
+                break
+        check(f"{kind}: the line", "read as 00, as from a bootloader" in messages, messages)
     shutil.rmtree(room.folder / "backup")
 
 

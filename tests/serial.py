@@ -857,7 +857,7 @@ def retries():
     *_, own = run([*words, "-P", str(programmer.device)])
     programmer.end()
     state = "; the chip may be erased or partly written, and may be in programming mode"
-    is_right = own[-1].startswith("--counter counter has to ") and own[-1].endswith(state)
+    is_right = own[-1].startswith("--counter counter: not a number of ") and own[-1].endswith(state)
     check("no number for the second attempt", is_right, own)
     room.put("counter", b"7\n")
     programmer = Boards({"vanish": 8})
@@ -878,7 +878,8 @@ def retries_that_are_refused():
 
     def ran(*words):
         status, _, _, own = run(["-p", "m328p", "-P", device, "--retry", "1", *words], env=fails)
-        return status, own[0].partition("--retry: -U ")[2].partition(" may go wrong in a second run")[0]
+        named = own[0].partition("--retry: ")[2].partition(" may go wrong in a second run")[0]
+        return status, named.removeprefix("-U ")
 
     two = ["-U", "flash:w:blink.hex:i", "-U", "flash:w:late.hex:i"]
     check_equal("--retry without avrstk_session", ran(*two), (1, "flash:w:late.hex:i"))
@@ -1788,6 +1789,7 @@ FOLLOWED = [
     (r"run the same command again(?: with -D, without -e)?(?:,? without its first \d+ -U)?$", repeated),
     (
         r"reads as something else than [^;]*$|differ: check -p$|^try another programmer or chip$"
+        r"|, with another programmer or chip$"
         r"|^the signature is that of no part|is not supported: .* Use avrdude",
         lambda *_: None,
     ),

@@ -273,6 +273,9 @@ def unlike(run: Outcome, memory: str, wanted: int, held: int) -> str:
     is_open = memory == "lock" and held & 3 == 3 and not wanted & ~held
     is_other = words.is_bootloader or is_open or erases(words) and once
     way, erase = again(run), by_erase(words)
+    if way != erase and is_other and may_lose(run) and memory in FUSES:
+        # (without its erase the command would next advise an erase)
+        return f"{way}, with another programmer or chip"
     return erase if way == erase else f"{way}; {OTHER if is_other else f'if it fails again, {erase}'}"
 
 

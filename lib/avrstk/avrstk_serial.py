@@ -117,10 +117,21 @@ def unrepaired(words: Words) -> Update | None:
         if update.operation == "w" and not is_dry:
             is_twice = update.memory == "flash" and "flash" in written
             pages = words.plan().pages if is_twice else []
-            if "lock" in written or is_twice and (not pages or overlaps(pages)):
+            if "lock" in written or is_twice and (not pages or overlaps(pages)) or is_over_number(words, update):
                 return update
             written.add(update.memory)
     return None if is_dry else unkept(words)
+
+
+def is_over_number(words: Words, update: Update) -> bool:
+    """Whether a second run would write another number over the first one, in flash that isn't erased."""
+    return has_number(words, update) and update.memory == "flash" and not erases(words) and not words.is_bootloader
+
+
+def has_number(words: Words, update: Update) -> bool:
+    """Whether --each made or changed an update."""
+    base = words.each.base if words.each else None
+    return base is not None and update not in base
 
 
 def unkept(words: Words) -> Update | None:
@@ -650,8 +661,7 @@ def judge_bootloader(words: Words) -> None:
 
 def options_of(words: Words, update: Update) -> str:
     """Returns the options of an update: --each makes an image of its own, or changes one."""
-    base = words.each.base if words.each else None
-    changed = " with --each" * (base is not None and update not in base)
+    changed = " with --each" * has_number(words, update)
     return "--each" if update.file == "--each" else f"-U {update.given}{changed}"
 
 
