@@ -392,8 +392,10 @@ def a_command():
     check_equal("a client", ran(["0", *M328P, "--", *client]), (0, "", ""))
     check_equal("its fuse", fuse(), 0x60)
     plain = {"LC_ALL": "C", "PYTHONUTF8": "0", "PYTHONCOERCECLOCALE": "0"}
-    served = ran(["0", "-p", "m328p", "--chip", "\u00e9.bin", "--", "true"], **plain)
+    words = ["--chip", "\u00e9.bin", "--json", "report.json", "--", "true", "\udcff"]
+    served, named_in = ran(["0", "-p", "m328p", *words], **plain), report()
     check_equal("a chip named in UTF-8, where Python takes names as ASCII", served, (0, "", ""))
+    check_equal("names in its report", (named_in["chip"], named_in["command"]), ("\u00e9.bin", ["true", "\ufffd"]))
     rows = [
         (["sh", "-c", "[ {} = $AVRSTK_PORT ] && exit 7"], 7, ""),
         (["sh", "-c", "kill -9 $$"], 137, ""),

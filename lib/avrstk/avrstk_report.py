@@ -177,7 +177,9 @@ def fault_of(place: str) -> str | None:
 def write(place: str, report: dict[str, object]) -> bool:
     """Writes a report into a file, whole or not at all; `-` is standard output. Returns whether it did. (If not, a line
     reports it, so that the error of the run is still reported.)"""
-    text = json.dumps(report, ensure_ascii=True)
+    # (Python may decode names as another character set than UTF-8. Bytes that aren't UTF-8 become U+FFFD)
+    names = json.dumps(report, ensure_ascii=False).encode("utf-8", "surrogateescape")
+    text = json.dumps(json.loads(names.decode("utf-8", "replace")), ensure_ascii=True)
     try:
         if place == "-":
             show(text)
