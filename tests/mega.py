@@ -212,8 +212,8 @@ def refused():
 
 
 def asked_first():
-    """Without -c wiring avrstk-serial asks this bootloader first, and refuses what it would do otherwise. That is flash
-    not written once from 0 on without gaps, and EEPROM above 255. The chip stays. Other runs are made at once."""
+    """Without -c wiring avrstk-serial asks before it writes flash other than once from 0 on without gaps, and before it
+    uses EEPROM above 255. If the device is this bootloader, the run is refused. Other runs are made at once."""
     old, image = drawn("old", 0x2000), drawn("small", 1_024)
     files = {"a.hex": [(0, image)], "late.hex": [(0x1000, image)], "gap.hex": [(0, b"x"), (512, b"x")]}
     for name, runs in files.items():

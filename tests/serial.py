@@ -878,7 +878,7 @@ def retries_that_are_refused():
 
     def ran(*words):
         status, _, _, own = run(["-p", "m328p", "-P", device, "--retry", "1", *words], env=fails)
-        named = own[0].partition("--retry: ")[2].partition(" may go wrong in a second run")[0]
+        named = own[0].partition("--retry takes no ")[2]
         return status, named.removeprefix("-U ")
 
     two = ["-U", "flash:w:blink.hex:i", "-U", "flash:w:late.hex:i"]
@@ -1707,6 +1707,11 @@ def repeated(words, _, found):
     return [*without(kept, "-e"), "-D"] if again and again[1] else kept
 
 
+def repeated_with(words, case, found):
+    """Follows a hint to run the same command again, with another value."""
+    return valued(repeated(words, case, re.search(".*", found[1])), found[2])
+
+
 def mended(words, case, found):
     """Follows a hint to check wires, power, speed or reset: that ends the board's fault."""
     case["board"] = {}
@@ -1761,7 +1766,7 @@ FOLLOWED = [
         changed("^flash:.*", "flash:w:blink.hex:i"),
     ),
     (r"check its name and permissions", changed("^flash:.*", "flash:w:blink.hex:i")),
-    (r"a format is one letter: give -U (\S+);", changed("^flash:.*", r"\1")),
+    (r"a format is one letter, such as (:i);", changed(":hex$", r"\1")),
     (r"a value is written as 0xE2", changed(":E2:", ":0xE2:")),
     (
         r"^no option takes \S+ here \((-U) MEMORY:OP:FILE:FORMAT is one word",
@@ -1776,6 +1781,7 @@ FOLLOWED = [
     (r"^-p takes a chip's name, such as (m328p)", changed("^(uno|nano|m9)$", r"\1")),
     (r"^with --parts, -p takes a part as that file names it, or (m328p)", changed("^(m9|ATmega328P)$", r"\1")),
     (r"^only bits that \S+ can't change differ: give (\S+)", lambda words, _, found: valued(words, found[1])),
+    (r"^only bits that \S+ can't change differ: (since .*), with (\S+)$", repeated_with),
     (r"^give (\S+) if the part lacks the bits that differ; else (.*)", stays),
     (r"give -e and all that is to be written(, with another number)?, each memory once, the lock last", each_once),
     (

@@ -538,8 +538,8 @@ def numbers_without_room():
 
 
 def with_a_restore():
-    """A restore takes a text for EEPROM. It has values for flash that is FF, and takes no text there. A file beside the
-    counter that is the user's stays."""
+    """`--restore` takes `--each` for EEPROM. It has values for flash that is FF, and takes no text there. A file beside
+    the counter that is the user's stays."""
     board = ["-q", "-p", "m328p", "-P", "emu:chip.bin"]
     check_equal("a backup", run([*board, "--backup", "kept"])[0], 0)
     room.put("counter.new", b"mine")

@@ -9,7 +9,6 @@ from avrstk_words import FORMATS, FUSES, MEMORIES, UNOPENED, Update, Words, form
 import itertools
 import os
 import re
-import shlex
 from dataclasses import dataclass, field
 from typing import Callable, Dict, Match, Union
 
@@ -231,10 +230,11 @@ def unopened(run: Outcome, found: Match[str]) -> str:
         update = f"{own.memory}:{own.operation}"
         # (letters alone may be a file's name, but not for a fuse)
         form = r"(0[xb])?[0-9A-Fa-f, \t]+" if own.memory in FUSES else r"(0[xb])?[A-Fa-f, \t]*[0-9][0-9A-Fa-f, \t]*"
-        if own.operation in "wv" and re.fullmatch(form, file) and not os.path.lexists(file):
+        is_bare = own.operation in "wv" and own.given.count(":") == 2
+        if is_bare and re.fullmatch(form, file) and not os.path.lexists(file):
             return f"a value needs :m after it, as {update}:0xNN:m"
         if os.path.isfile(front):
-            return f"a format is one letter: give -U {shlex.quote(f'{update}:{front}')}"
+            return "a format is one letter, such as :i"
     return "check its name and permissions"
 
 
@@ -245,13 +245,21 @@ def another_part(run: Outcome, found: Match[str]) -> str:
     return f"{NO_CHIP if found[1] in NO_SIGNATURES else of}; {state_of(run)}"
 
 
+def with_value(run: Outcome, update: str) -> str:
+    """Advises to give another value. A second run keeps EEPROM that another erase may clear."""
+    way = again(run) if may_lose(run) else ""
+    if way == by_erase(run.words):
+        return way
+    return f"{way}, with {update}" if way else f"give {update}"
+
+
 def differs(run: Outcome, found: Match[str]) -> str:
     """Returns the hint after a failed comparison."""
     words, memory = run.words, found[1]
     wanted, held = (int(number, 16) for number in found.groups()[1:])
     # (the updates before were done)
     update = next(one for one in [*words.updates[len(run.done()) :], *words.updates] if one.memory == memory)
-    give = f"give {memory}:{update.operation}:0x{held:02X}:m"
+    give = with_value(run, f"{memory}:{update.operation}:0x{held:02X}:m")
     bits = words.bits().get(memory) if words.restore is None else None
     # (ISP doesn't write bit 5 of the high fuse, SPIEN)
     if bits is not None and not (wanted ^ held) & bits & ~(0x20 * (memory == "hfuse")):

@@ -166,6 +166,8 @@ def fault_of(place: str) -> str | None:
     """Returns why no report can be written at a place; None if it can, as far as is known before the run."""
     if place == "-":
         return None
+    if not place:
+        return "is no file"
     if os.path.isdir(place):
         return "is a folder"
     is_file = not os.path.exists(place) or os.path.isfile(place)

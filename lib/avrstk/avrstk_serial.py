@@ -550,7 +550,7 @@ def judge(words: Words) -> None:
         need_device(words, "--retry")
         unfit = unrepaired(words)
         if unfit:
-            raise Fault(f"--retry: {options_of(words, unfit)} may go wrong in a second run")
+            raise Fault(f"--retry takes no {options_of(words, unfit)}")
 
 
 def need_device(words: Words, option: str) -> None:
@@ -1031,8 +1031,9 @@ def main(help_text: str) -> int:
             build_unproved()
         # (a refused command has a report, too, but not in place of its own files)
         judge_files(words, "--json ")
-        fault = fault_of(words.last.get("--json", "-"))
+        place = words.last.get("--json", "-")
+        fault = fault_of(place)
         if fault:
-            raise Fault(f"--json {words.last['--json']} {fault}: {UNOPENED}")
+            raise Fault(f"--json {place or repr('')} {fault}: {UNOPENED}")
         return station(words, DEVICES, prepare, live) if words.is_station else reported(words)
     return 0
