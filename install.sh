@@ -164,7 +164,8 @@ remove() {
     mapfile -t names <"$manifest"
     for name in "${names[@]}"; do
         # (only names under the prefix)
-        [[ $name == ./ || /${name%/}/ != */@(|.|..)/* ]] || fail "$manifest: '$name' is no installed file: nothing is removed"
+        [[ $name == ./ || /${name%/}/ != */@(|.|..)/* ]] ||
+            fail "$manifest: '$name' is no installed file: nothing is removed"
     done
     check_links "$manifest" "${names[@]/#/"$prefix/"}" || return 1
     for name in "${names[@]}"; do
@@ -207,7 +208,8 @@ start() {
 session_of() {
     local folder file
     folder=$(dirname "$(readlink -f "$1")")
-    for file in "$folder/avrstk_session" "$folder/../lib/avrstk/avrstk_session" "$folder/../../avrstk_session/out/avrstk_session"; do
+    for file in "$folder/avrstk_session" "$folder/../lib/avrstk/avrstk_session" \
+        "$folder/../../avrstk_session/out/avrstk_session"; do
         [ ! -f "$file" ] || { echo "$file" && break; }
     done
 }

@@ -1,6 +1,6 @@
 #!/usr/bin/env bash
-# Installs the Debian packages of the tools that the scripts compare with, if this is root and apt-get is installed. With
-# --lacking it only prints those that are not installed.
+# Installs the Debian packages of the tools that the scripts compare with, if this is root and apt-get is installed.
+# With --lacking it only prints those that are not installed.
 set -u
 cd "$(dirname "$(readlink -f "$0")")/.." || exit 1
 packages=(

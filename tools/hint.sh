@@ -3,7 +3,8 @@
 # reads this file, and install.sh makes the installed avrstk from it.
 
 # Whether avrstk refuses one of these options but avrstk-serial takes it: a device, a part that isn't built in, another
-# programmer, an option of AVRDUDE that it ignores. Such a run opens no file and sends nothing, so it can run as a child.
+# programmer, an option of AVRDUDE that it ignores. Such a run opens no file and sends nothing, so it can run as a
+# child.
 is_for_serial() {
     local letter part=m328p port= programmer=stk500v2 has_parts= ignored= OPTIND=1
     while getopts ":p:c:P:U:b:C:l:-:eDVnFAqvhsu" letter; do

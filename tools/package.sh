@@ -50,7 +50,8 @@ number=${release%%.*}
 [ "$number" != 0 ] || number=${release%.*}
 [ -z "$with_c" ] || rt=$(rt version)
 proved="Its behaviour is proved, by"
-programs_proved="The behaviour of avrstk and avrstk_session is proved. The scripts avrstk-serial and avrstk-serve are tested. Proved by"
+programs_proved="The behaviour of avrstk and avrstk_session is proved. The scripts avrstk-serial and avrstk-serve are tested."
+programs_proved+=" Proved by"
 arch=$(dpkg --print-architecture)
 
 work=$(mktemp -d)
@@ -192,7 +193,8 @@ END
 Section: libdevel
 Depends: libavr-records$number (= $release)
 $(described "Intel HEX and S-records for C, to develop with" \
-        "The header, the archive and the file for pkg-config of a library that $reads." "$proved $rt." "Commit $commit.")
+        "The header, the archive and the file for pkg-config of a library that $reads." "$proved $rt." \
+        "Commit $commit.")
 END
 fi
 

@@ -1,12 +1,12 @@
 #!/usr/bin/env bash
-# Copies libraries of this repository, with all their dependencies, into another repository. Its crates.txt can then name
-# them.
+# Copies libraries of this repository, with all their dependencies, into another repository. Its crates.txt can then
+# name them.
 #
 #     tools/vendor.sh CRATE.. FOLDER
 #
-# FOLDER is the top of the other repository. For each crate, src, specs, proofs and README.md are copied, and its line is
-# added to crates.txt there; the file is created if needed. Identical crates stay as they are. If an existing crate or its
-# line differs, nothing is changed at all.
+# FOLDER is the top of the other repository. For each crate, src, specs, proofs and README.md are copied, and its line
+# is added to crates.txt there; the file is created if needed. Identical crates stay as they are. If an existing crate
+# or its line differs, nothing is changed at all.
 set -euo pipefail
 export LC_ALL=C
 
