@@ -375,6 +375,8 @@ def ends_early():
     """If the device goes away or no reply comes while something is changed, the last line has a command that restores
     it. After a signal the page is written back."""
     signals = {"Ctrl-C": serial.signal.SIGINT, "Ctrl-C later": serial.signal.SIGINT, "SIGQUIT": serial.signal.SIGQUIT}
+    # (a shell's background job ignores it, and so would the script)
+    serial.signal.signal(serial.signal.SIGQUIT, serial.signal.SIG_DFL)
     for what, row, words in (
         ("gone", b"\x15", SAFE),
         ("silent", b"\x15", SAFE),
@@ -550,6 +552,9 @@ def unreadable_later():
     check_equal("no efuse: no fuse is written", (written, room.read("wrong.bin")), ([], CHIP))
 
 
+NAMED = "-p takes a chip's name, such as m328p: -p '?' lists all: nothing was sent, and the device was not opened"
+
+
 def refused():
     """What --try-rows doesn't take is refused before the device is opened."""
     at = "-P /dev/null -p m328p"
@@ -563,9 +568,8 @@ def refused():
         f"{at} --try-rows -U lfuse:r:-:h": "--try-rows takes no -U",
         f"{at} --try-rows --json report": "--try-rows takes no --json",
         "-P emu:chip.bin -p m328p --try-rows": "--try-rows is for a serial device, not -P emu:chip.bin",
-        "-P /dev/null -p nosuch --try-rows": "no part nosuch: -p '?' lists the parts; others need a part file",
-        "-P /dev/null --try-rows": "no part given (-p): -p '?' lists the parts, and -p auto finds the part by "
-        "the chip's signature",
+        "-P /dev/null -p nosuch --try-rows": f"no part nosuch: {NAMED}",
+        "-P /dev/null --try-rows": f"no part given (-p): {NAMED}",
         "-P /dev/null --parts one.toml -p c-chip --try-rows": f"one.toml: {lacks}[parts.c-chip]: nothing was sent",
         "-P /dev/null --parts nosuch.toml -p m328p --try-rows": f"nosuch.toml: {lacks}[parts.m328p]: nothing was sent",
         "-P /dev/null --parts tiny.toml --try-rows": "no part given (-p): with --parts, -p takes a part as that file ",

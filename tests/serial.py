@@ -2370,7 +2370,7 @@ def cut_lines():
     wait_until((room.folder / "begun").exists)
     started.send_signal(signal.SIGHUP)
     _, printed = started.communicate(timeout=PATIENCE)
-    wanted = ["avrstk: error: ", "avrstk-serial: ended by SIGHUP: nothing was sent: the chip is unchanged"]
+    wanted = ["avrstk: error: ", "avrstk-serial: ended by SIGHUP: the chip is unchanged"]
     check_equal("a line that is cut", (started.returncode, printed.decode().splitlines()), (1, wanted))
     os.close(line)
 
