@@ -230,6 +230,11 @@ def refused():
         check_equal(f"{words}: its status and lines", found, (1, "", 1, False))
         check(f"{words}: the line", own and own[0].startswith(f"avrstk-serial: {wanted}"), own)
     check_equal("no number is taken", room.read("counter"), b"7\n")
+    room.put("names.csv", "\u0142\n1\n".encode())
+    own = ENVIRONMENT | {"LC_ALL": "C", "PYTHONUTF8": "0", "PYTHONCOERCECLOCALE": "0"}
+    words = ["-p", "m328p", "-P", "x", "--counter", "counter", "--rows", "names.csv", "--each", "eeprom@0={x}"]
+    line = "avrstk-serial: --each eeprom@0={x}: give fields, as {n}, {n:06}, {n:04X}, {\u0142}"
+    check_equal("a name in UTF-8, where Python takes names as ASCII", run(words, env=own)[2], [line])
 
 
 def all_devices():

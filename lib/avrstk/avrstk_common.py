@@ -164,7 +164,7 @@ def readable(text: str) -> str:
     """Returns a text that is safe to print: control bytes, and bytes that are not UTF-8, become \\xNN."""
 
     def shown(character: str) -> str:
-        codes = "".join(f"\\x{byte:02x}" for byte in os.fsencode(character))
+        codes = "".join(f"\\x{byte:02x}" for byte in character.encode("utf-8", "surrogateescape"))
         return character if character.isprintable() else codes
 
     return "".join(map(shown, text))
