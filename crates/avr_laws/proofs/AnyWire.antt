@@ -23,7 +23,6 @@ use Rattle.stk_emu.specs.Exchange.{Exchange}
 use Rattle.stk_emu.specs.Wire.{AreLawful, exchanges_of_fates, executions_of_fates}
 use Rattle.stk_emu.specs.Wired.{WiredState, FollowsFates, ComesOf, IsFresh, wired_link}
 use Rattle.stk_emu.specs.declared.fate.Fate.{Fate}
-use Rattle.stk_host.proofs.Transcripts.InDialogs.{whole_run}
 use Rattle.avr_tool.specs.OverFaultyLink.{EndsOverExchanges, SessionOverWire, events_over, memories}
 use Rattle.avr_tool.specs.Emulated.{RunsOverEmulator, new_wire}
 use Rattle.avr_tool.proofs.Lines.InTurn.{frames_prefix, goes_along, never_idle, sends_whole}
@@ -122,7 +121,7 @@ module _ (plan : Plan) (w v : WiredState) (d e : DeskState) (status : ℕ) (sile
   played_truly whole =
       let over_tape = ap (λ t. (played (session plan) 1 t).events)
       (search (rules, append-nil)) in
-      subst AreTrue (over_tape ∙ ap (λ x. x.events) (whole_run whole.1.plays [])) over.along_exchanges.reports_are_true
+      subst AreTrue (over_tape ∙ ap (λ x. x.events) (whole.1.plays.plays [])) over.along_exchanges.reports_are_true
 
   -- and one that broke off
   pub stopped_truly : (stopped : StopsSession plan (devices (wired_link w) d) (devices (wired_link v) e))

@@ -20,7 +20,6 @@ use Rattle.stk_emu.specs.Programmer.{Programmer, fresh_programmer}
 use Rattle.stk_emu.specs.Exchange.{Exchange}
 use Rattle.stk_emu.specs.Wire.{exchanges_of_fates}
 use Rattle.stk_emu.specs.Wired.{WiredState, FollowsFates, ComesOf, IsFresh, wired_link}
-use Rattle.stk_host.proofs.Transcripts.InDialogs.{whole_run}
 use Rattle.avr_tool.specs.OverFaultyLink.{memories, events_over, OverExchanges, EndsOverExchanges, SessionOverWire}
 use Rattle.avr_tool.proofs.Lines.InTurn.{shown_prefix, stands_along, whole_emitted, whole_done}
 use Rattle.avr_tool.proofs.OverExchanges.{asks, over_exchanges, ends_over_exchanges}
@@ -42,7 +41,7 @@ sent_first plan old new status silent runs = elim runs [
           [],
           append-nil (sent ran.during) ∙ (sym ran.plays.all_sent
               ∙ ap (λ x. bytes_sent x.events) (sym (ap (played (session plan) 1) (sym (append-nil (heard ran.during)))
-              ∙ whole_run ran.plays []))),
+              ∙ ran.plays.plays []))),
         ),
       )
   | inr broke ↦
@@ -112,7 +111,7 @@ module _ (plan : Plan) (w v : WiredState) (fresh : IsFresh w) (stays : Preserves
       → ComesWhole
   whole_comes whole =
       let plays : Plays (session plan) start v.transcript whole.1.events status whole.0 = search rules in
-      let same : whole.1.events ≡ events_over plan v = search (rules, append-nil, whole_run plays []) in
+      let same : whole.1.events ≡ events_over plan v = search (rules, append-nil, plays.plays []) in
       let prefix = (sent_in_turn (inl whole)).1 in record {
         done = search (rules, whole_done, asks_bodies, follows_fates);
         emitted = ap outputs (sym same) ∙ whole_emitted (session plan) 1 begun w.wire.fates v asks_bodies fresh.lawful

@@ -10,13 +10,11 @@ use Rattle.stk_emu.specs.Device.{Device}
 use Rattle.stk_emu.specs.Effect.{Memories, memories_of}
 use Rattle.stk_emu.specs.Settled.{NeedsNoExtendedAddress}
 
--- Goes on with a reply's data.
 abbrev pub on_data : Reply → (List ℕ → Reply) → Reply
 on_data (Data bytes) go_on = go_on bytes
 on_data (Again fault) go_on = Again fault
 on_data (Stop fault) go_on = Stop fault
 
--- What follows from the device's own reply to a command.
 abbrev pub reply_to : {P : Type 0} → Device P → Command → P → Reply
 reply_to m command p = reply_from_reading command (Replied (m.reply (body command) p))
 

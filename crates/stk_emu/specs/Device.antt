@@ -1,5 +1,5 @@
 -- A device that executes the commands of frames, and its replies.
-use Rattle.std.specs.Prelude.{ℕ, List, [], ◌∷◌, ◌++◌, fold, if◌then◌else◌}
+use Rattle.std.specs.Prelude.{ℕ, List, [], ◌∷◌, ◌++◌, if◌then◌else◌}
 use Rattle.stk_frame.specs.Frame.{frame}
 use Rattle.stk_frame.specs.Cut.{is_good, seq_of, body_of}
 use Rattle.stk_emu.specs.Programmer.{Programmer, execute, restarted_programmer}
@@ -30,11 +30,11 @@ after_frame m piece p = if is_good piece then m.after (body_of piece) p else p
 abbrev pub reply_frame : {P : Type 0} → Device P → List ℕ → P → List ℕ
 reply_frame m piece p = frame (seq_of piece) (if is_good piece then m.reply (body_of piece) p else refusal)
 
--- The replies to whole frames, joined.
+-- The replies to whole frames, joined; below, the device after them.
 abbrev pub replies : {P : Type 0} → Device P → List (List ℕ) → P → List ℕ
 replies m [] p = []
 replies m (piece ∷ pieces) p = reply_frame m piece p ++ replies m pieces (after_frame m piece p)
 
--- The device after whole frames.
 abbrev pub after_frames : {P : Type 0} → Device P → List (List ℕ) → P → P
-after_frames m pieces p = fold (λ p piece. after_frame m piece p) p pieces
+after_frames m [] p = p
+after_frames m (piece ∷ pieces) p = after_frames m pieces (after_frame m piece p)

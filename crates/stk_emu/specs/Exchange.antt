@@ -1,5 +1,5 @@
 -- The exchange of one command and its reply, whatever the link does to the bytes.
-use Rattle.std.specs.Prelude.{ℕ, List, [], ◌∷◌, ◌≡◌, ◌⊎◌, get_or, drop}
+use Rattle.std.specs.Prelude.{ℕ, List, [], ◌∷◌, ◌≡◌, ◌⊎◌}
 use Rattle.stk_host.specs.Tape.{Reading, Replied, Silent, Ended, Babbled}
 use Rattle.stk_emu.specs.Device.{Device, refusal}
 
@@ -30,14 +30,16 @@ after_execution NotExecuted executed kept reset = kept
 after_execution Executed executed kept reset = executed
 after_execution (ThenRestarted execution) executed kept reset = reset (after_execution execution executed kept reset)
 
--- What became of the command in an exchange; below, the programmer after it.
+-- The programmer after an exchange.
+abbrev pub after_exchange : {P : Type 0} → Exchange → P → P → (P → P) → P
+after_exchange AsIntended executed kept reset = executed
+after_exchange (Disturbed execution instead) executed kept reset = after_execution execution executed kept reset
+after_exchange (ThenRestarts one_exchange) executed kept reset = reset (after_exchange one_exchange executed kept reset)
+
 abbrev pub execution_in : Exchange → Execution
 execution_in AsIntended = Executed
 execution_in (Disturbed execution instead) = execution
 execution_in (ThenRestarts one_exchange) = ThenRestarted (execution_in one_exchange)
-
-abbrev pub after_exchange : {P : Type 0} → Exchange → P → P → (P → P) → P
-after_exchange one_exchange = after_execution (execution_in one_exchange)
 
 -- How listening ends in an exchange, given the body of the programmer's own reply.
 abbrev pub reading_of_exchange : Exchange → List ℕ → Reading
@@ -50,11 +52,12 @@ reading_of_exchange (ThenRestarts one_exchange) reply = reading_of_exchange one_
 
 -- After the list all exchanges go as intended.
 abbrev pub first_exchange : List Exchange → Exchange
-first_exchange exchanges = get_or exchanges 0 AsIntended
+first_exchange [] = AsIntended
+first_exchange (one_exchange ∷ exchanges) = one_exchange
 
--- The exchanges after the first one.
 abbrev pub later_exchanges : List Exchange → List Exchange
-later_exchanges = drop 1
+later_exchanges [] = []
+later_exchanges (one_exchange ∷ exchanges) = exchanges
 
 -- The command was executed.
 abbrev pub WasExecuted : Execution → Type 0

@@ -3,7 +3,6 @@ use Rattle.std.specs.Prelude.{ℕ}
 use Rattle.stk_emu.specs.declared.fates.FatesFault.{FatesFault}
 use Rattle.stk_emu.specs.declared.fates.FatesFault.TheVariants.{UnlawfulNoise, Memory}
 
--- The number of a fault, which never changes.
 abbrev pub fates_fault_number : FatesFault → ℕ
 fates_fault_number UnlawfulNoise = 1
 fates_fault_number Memory = 2

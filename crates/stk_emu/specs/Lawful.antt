@@ -22,7 +22,6 @@ pub record Late : Type 0 where
   pub second : List ℕ
   pub third : List ℕ
 
--- No reply is late.
 abbrev pub no_late_replies : Late
 no_late_replies = record { first = []; second = []; third = [] }
 

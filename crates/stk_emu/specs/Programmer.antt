@@ -42,12 +42,11 @@ if_programming code p fits done =
     let failed : Response = (code ∷ 0xC0 ∷ [], p) in
     if p.mode then (if fits then done else failed) else failed
 
--- The chip after these instructions.
+-- The chip after these instructions; below, the programmer.
 abbrev pub after_instructions : List (List ℕ) → ChipState → ChipState
 after_instructions [] chip = chip
 after_instructions (x ∷ xs) chip = after_instructions xs ((spi_of x chip).1)
 
--- The programmer after these instructions.
 abbrev pub with_instructions : List (List ℕ) → Programmer → Programmer
 with_instructions xs p = record p { chip = after_instructions xs p.chip }
 
@@ -71,7 +70,6 @@ for_half cmd i = if i % 2 == 0 then cmd else bit_or cmd 8
 abbrev pub word_at : ℕ → ℕ → ℕ
 word_at address i = (address + i / 2) % EXTENDED_ADDRESS
 
--- The address of byte `i` in EEPROM.
 abbrev pub byte_address : ℕ → ℕ → ℕ
 byte_address address i = (address + i) % EXTENDED_ADDRESS
 
@@ -115,7 +113,6 @@ page_writes wide cmd address written =
 abbrev pub is_paged : ProgramBlock → Bool
 is_paged f = bit_at f.mode 0 == 1
 
--- Bit 7 of the mode asks for writing the page.
 abbrev pub is_written : ProgramBlock → Bool
 is_written f = bit_at f.mode 7 == 1
 
@@ -148,14 +145,13 @@ program_eeprom f p =
 abbrev pub read_then : List ℕ → ChipState → (ChipState → List ℕ × ChipState) → List ℕ × ChipState
 read_then x chip more = (slice_index (spi_of x chip).0 3 ∷ (more (spi_of x chip).1).0, (more (spi_of x chip).1).1)
 
--- The bytes of flash from byte `i` of a block on.
+-- The bytes of flash from byte `i` of a block on; below, of EEPROM.
 abbrev pub flash_reads : Bool → ℕ → ℕ → ℕ → ℕ → ChipState → List ℕ × ChipState
 flash_reads wide cmd address i zero chip = ([], chip)
 flash_reads wide cmd address i (suc n) chip =
     read_then (at_address (for_half cmd i) (word_at address i) 0)
     (after_instructions (extension wide (word_at address i)) chip) (flash_reads wide cmd address (suc i) n)
 
--- The bytes of EEPROM from byte `i` of a block on.
 abbrev pub eeprom_reads : ℕ → ℕ → ℕ → ℕ → ChipState → List ℕ × ChipState
 eeprom_reads cmd address i zero chip = ([], chip)
 eeprom_reads cmd address i (suc n) chip =

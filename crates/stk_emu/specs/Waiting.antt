@@ -25,3 +25,9 @@ tape_in at bytes (place ∷ places) = on_tape (take (place - at) (drop at bytes)
 abbrev pub AreWithin : ℕ → List ℕ → ℕ → Type 0
 AreWithin at [] count = Unit {0}
 AreWithin at (place ∷ places) count = (at ≤ place) × (place ≤ count) × AreWithin place places count
+
+-- Nothing waits, or a timeout is next.
+abbrev pub HasNoLeadingByte : Tape → Type 0
+HasNoLeadingByte [] = Unit {0}
+HasNoLeadingByte (Silence ∷ tape) = Unit {0}
+HasNoLeadingByte (other ∷ tape) = ⊥

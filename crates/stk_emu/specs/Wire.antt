@@ -1,5 +1,5 @@
 -- A faulty wire to a programmer.
-use Rattle.std.specs.Prelude.{ℕ, zero, suc, Bool, true, false, List, [], ◌∷◌, ◌++◌, if◌then◌else◌, All, map, fold, get_or, drop}
+use Rattle.std.specs.Prelude.{ℕ, zero, suc, Bool, true, false, List, [], ◌∷◌, ◌++◌, if◌then◌else◌, All, map}
 use Rattle.stk_frame.specs.Frame.{frame}
 use Rattle.stk_frame.specs.Cut.{seq_of}
 use Rattle.stk_host.specs.declared.link.Item.TheVariants.{Silence}
@@ -15,17 +15,17 @@ abbrev pub IsLawfulFate : Fate → Type 0
 IsLawfulFate (AnswerSpoiled noise) = IsLawful noise.items
 IsLawfulFate _ = Unit {0}
 
--- All fates are lawful.
 abbrev pub AreLawful : List Fate → Type 0
 AreLawful = All IsLawfulFate
 
 -- After the list all fates are good.
 abbrev pub first_fate : List Fate → Fate
-first_fate fates = get_or fates 0 Good
+first_fate [] = Good
+first_fate (fate ∷ fates) = fate
 
--- The fates after the first one.
 abbrev pub other_fates : List Fate → List Fate
-other_fates = drop 1
+other_fates [] = []
+other_fates (fate ∷ fates) = fates
 
 -- The exchange that a fate makes of a frame.
 abbrev pub exchange_of_fate : Fate → Exchange
@@ -35,7 +35,6 @@ exchange_of_fate Reset = Disturbed (ThenRestarted NotExecuted) NoReply
 exchange_of_fate CommandRefused = Disturbed NotExecuted Refusal
 exchange_of_fate _ = Disturbed Executed NoReply
 
--- The exchanges of these fates, in order.
 abbrev pub exchanges_of_fates : List Fate → List Exchange
 exchanges_of_fates = map exchange_of_fate
 
@@ -94,7 +93,8 @@ tape_of m [] w = []
 tape_of m (piece ∷ pieces) w = arrival m piece w ++ tape_of m pieces (wire_after_frame m piece w)
 
 abbrev pub wire_after_frames : {P : Type 0} → Device P → List (List ℕ) → Wire P → Wire P
-wire_after_frames m pieces w = fold (λ w piece. wire_after_frame m piece w) w pieces
+wire_after_frames m [] w = w
+wire_after_frames m (piece ∷ pieces) w = wire_after_frames m pieces (wire_after_frame m piece w)
 
 -- A wire over which nothing has passed.
 abbrev pub fresh_wire : {P : Type 0} → P → List Fate → Wire P

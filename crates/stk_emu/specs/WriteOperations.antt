@@ -1,6 +1,5 @@
 -- The write operation of each step: an erase, or a write of a page, of a run of EEPROM, of a fuse or of the lock.
-use Rattle.std.specs.Prelude.{ℕ, ◌+◌, ◌*◌, ◌%◌, ◌^◌, ◌<◌, ◌≤◌, ◌≡◌, List, [], ◌∷◌, ◌++◌, length, map, flat_map, replicate, Some, None}
-use Rattle.std.specs.List.{AllByRecursion}
+use Rattle.std.specs.Prelude.{ℕ, ◌+◌, ◌*◌, ◌%◌, ◌^◌, ◌<◌, ◌≤◌, ◌≡◌, List, [], ◌∷◌, ◌++◌, length, map, replicate, Some, None}
 use Rattle.avr_part.specs.declared.part.Mem.{Mem}
 use Rattle.avr_part.specs.declared.part.Mem.TheVariants.{Flash, Eeprom, Lfuse, Hfuse, Efuse, Lock}
 use Rattle.avr_part.specs.declared.instruction.Fuse as instruction_fuse
@@ -45,22 +44,22 @@ write_operation_of (ProgramFuse bytes ∷ []) = written_by (instruction_of bytes
 write_operation_of (ProgramLock bytes ∷ []) = written_by (instruction_of bytes)
 write_operation_of commands = []
 
--- The write operations of steps, in order.
 abbrev pub write_operations_of : List (List Command) → List Item
-write_operations_of = flat_map write_operation_of
+write_operations_of [] = []
+write_operations_of (commands ∷ steps) = write_operation_of commands ++ write_operations_of steps
 
 -- The memories after a step.
 abbrev pub memories_after_step : Part → List Command → Memories → Memories
 memories_after_step part commands m = effects part (write_operation_of commands) m
 
--- The steps by which a host makes a change.
+-- The steps by which a host makes a change; below, changes in order.
 abbrev pub steps_of_item : Part → Item → List (List Command)
 steps_of_item part Erase = (erase ∷ []) ∷ []
 steps_of_item part (Write mem image) = write_steps part mem image
 
--- The steps of changes, in order.
 abbrev pub steps_of_items : Part → List Item → List (List Command)
-steps_of_items part = flat_map (steps_of_item part)
+steps_of_items part [] = []
+steps_of_items part (item ∷ items) = steps_of_item part item ++ steps_of_items part items
 
 -- What steps may carry.
 
@@ -104,6 +103,6 @@ pub data IsStep (part : Part) (commands : List Command) : Type 0 where
   ReadsSignature : (place : ℕ) → place < 3 → commands ≡ read_signature place ∷ [] → IsStep part commands
   ReadsCalibration : commands ≡ read_calibration ∷ [] → IsStep part commands
 
--- Each of these is such a step.
 abbrev pub AreSteps : Part → List (List Command) → Type 0
-AreSteps part = AllByRecursion (IsStep part)
+AreSteps part [] = Unit {0}
+AreSteps part (commands ∷ steps) = IsStep part commands × AreSteps part steps

@@ -3,8 +3,7 @@ ghost use Rattle.std.specs.Prelude.{◌≡◌, ◌+◌, ◌*◌, ◌<◌, ◌≤
 ghost use Rattle.stk_frame.specs.declared.protocol.TheConstants.{LARGEST_FRAME};
 ghost use Rattle.stk_host.specs.declared.link.Item.TheVariants.{Silence};
 ghost use Rattle.stk_host.specs.Tape.{on_tape, leading_bytes};
-ghost use Rattle.stk_emu.specs.Waiting.{HasRoom};
-ghost use Rattle.stk_emu.specs.Wired.{IsReceivedNext};
+ghost use Rattle.stk_emu.specs.Waiting.{HasNoLeadingByte, HasRoom};
 ghost use Rattle.stk_emu.specs.Lawful.{no_late_replies, with_late_reply};
 ghost use Rattle.stk_emu.specs.Wire.{released_replies, holds_replies};
 
@@ -98,7 +97,7 @@ impl Arrivals {
     /// Returns the bytes that wait before the first timeout.
     fn leading(&self) -> &[u8]
         ensures bytes { result.now ≡ leading_bytes self.now.tape }
-        ensures silent { result.now ≡ [] → IsReceivedNext (Silence ∷ []) self.now.tape }
+        ensures silent { result.now ≡ [] → HasNoLeadingByte self.now.tape }
     {
         let bytes = &self.bytes[self.at..];
         match self.timeouts.front() {
@@ -112,7 +111,7 @@ impl Arrivals {
         ensures within { result ≤ length buffer.new }
         ensures taken { on_tape (take result buffer.new) ≡ take result self.now.tape }
         ensures inside { result ≤ length (leading_bytes self.now.tape) }
-        ensures some { 0 < length buffer.old → result ≡ 0 → IsReceivedNext (Silence ∷ []) self.now.tape }
+        ensures some { 0 < length buffer.old → result ≡ 0 → HasNoLeadingByte self.now.tape }
     {
         let leading = self.leading();
         let count = leading.len().min(buffer.len());
@@ -123,7 +122,7 @@ impl Arrivals {
     /// Drops `count` leading bytes, or the leading timeout if `count` is 0.
     pub fn drop_next(&mut self, count: usize)
         requires inside { count ≤ length (leading_bytes self.old.tape) }
-        requires silent { count ≡ 0 → IsReceivedNext (Silence ∷ []) self.old.tape }
+        requires silent { count ≡ 0 → HasNoLeadingByte self.old.tape }
         ensures { self.new.tape ≡ drop (max 1 count) self.old.tape }
     {
         if count == 0 {

@@ -14,15 +14,12 @@ behind_is : (taken : ℕ) (bytes : List ℕ)
 behind_is (suc taken) (b ∷ bs) = behind_is taken bs
 behind_is _ _ = (refl, refl)
 
--- A byte that is no start byte is a piece alone.
 start_only : (a : ℕ) (y : List ℕ) → (a == 27) ≡ false → piece_size (a ∷ y) ≡ 1
 start_only a y e = search rules
 
--- A piece has at least one byte.
 pub size_positive : (bytes : List ℕ) → 1 ≤ piece_size bytes
 size_positive bytes = search (rules, nat_tests)
 
--- Five bytes or more after a start byte show a piece of at least five.
 long_size : (a b c d e : ℕ) (more : List ℕ) → (a == 27) ≡ true → 5 ≤ piece_size (a ∷ b ∷ c ∷ d ∷ e ∷ more)
 long_size a b c d e more start = rw start (grind (arith, nat_tests))
 
@@ -30,7 +27,6 @@ long_size a b c d e more start = rw start (grind (arith, nat_tests))
 pub size_stays : (x y : List ℕ) → piece_size x ≤ length x → piece_size (x ++ y) ≡ piece_size x
 size_stays x y whole = search (rules, start_only)
 
--- Dropping a byte and then n - 1 others drops n.
 drop_one : (n b : ℕ) (bs : List ℕ) → 1 ≤ n → drop (n - 1) bs ≡ drop n (b ∷ bs)
 drop_one n b bs positive = search rules
 
@@ -39,7 +35,6 @@ pub cut_piece : (bytes : List ℕ) → has_piece bytes ≡ true
     → cut bytes ≡ take (piece_size bytes) bytes ∷ cut (drop (piece_size bytes) bytes)
 cut_piece bytes whole = search (rules, false≢true, cond-true, behind_is, drop_one, size_positive)
 
--- What is left behind a whole first piece is what is left of all bytes.
 pub rest_piece : (bytes : List ℕ) → has_piece bytes ≡ true → rest bytes ≡ rest (drop (piece_size bytes) bytes)
 rest_piece [] whole = absurd (false≢true whole)
 rest_piece (b ∷ bs) whole =
@@ -51,18 +46,15 @@ rest_piece (b ∷ bs) whole =
 pub cut_none : (bytes : List ℕ) → has_piece bytes ≡ false → cut bytes ≡ []
 cut_none bytes part = search rules
 
--- If the bytes begin no whole piece, all of them are left.
 pub rest_none : (bytes : List ℕ) → has_piece bytes ≡ false → rest bytes ≡ bytes
 rest_none bytes part = search rules
 
--- A whole first piece stays whole if bytes follow.
 stays_whole : (x y : List ℕ) → has_piece x ≡ true → has_piece (x ++ y) ≡ true
 stays_whole x y whole = search (rules, leb-true, le-leb, size_stays, length-append)
 
 -- induction over the pieces: bytes with no whole piece in front, and the step over one
 module _ (P : List ℕ → Type 0) (none : (x : List ℕ) → has_piece x ≡ false → P x)
     (more : (x : List ℕ) → has_piece x ≡ true → P (drop (piece_size x) x) → P x) where
-  -- The induction for the bytes behind any n of them, since recursion goes byte by byte.
   by_pieces_behind : (n : ℕ) (x : List ℕ) → P (drop n x)
   by_pieces_behind zero [] = none [] refl
   by_pieces_behind (suc n) [] = none [] refl
@@ -73,7 +65,6 @@ module _ (P : List ℕ → Type 0) (none : (x : List ℕ) → has_piece x ≡ fa
     | inr part ↦ none (b ∷ x) part
   ]
 
-  -- So the property holds of all bytes.
   by_pieces : (x : List ℕ) → P x
   by_pieces x = by_pieces_behind 0 x
 
@@ -83,7 +74,6 @@ cut_append x y = by_pieces (λ x. cut (x ++ y) ≡ cut x ++ cut (rest x ++ y))
     (λ x part. rw (cut_none x part, rest_none x part) refl)
     (search (rules, cut_piece, stays_whole, size_stays, leb-true, take-append-le, drop-append-le, rest_piece)) x
 
--- What is left depends on the bytes before only by what was left of them.
 pub rest_append : (x y : List ℕ) → rest (x ++ y) ≡ rest (rest x ++ y)
 rest_append x y = by_pieces (λ x. rest (x ++ y) ≡ rest (rest x ++ y)) (λ x part. rw (rest_none x part) refl)
     (search (rules, rest_piece, stays_whole, size_stays, leb-true, drop-append-le)) x
@@ -93,7 +83,6 @@ pub cut_joined : (x : List ℕ) → concat (cut x) ++ rest x ≡ x
 cut_joined = by_pieces (λ x. concat (cut x) ++ rest x ≡ x) (λ x part. rw (cut_none x part, rest_none x part) refl)
     (λ x whole inner. search (rules, cut_piece, rest_piece, append_assoc, take-append-drop))
 
--- A whole first piece, taken alone, has the same size.
 pub taken_size : (y : List ℕ) → piece_size y ≤ length y → piece_size (take (piece_size y) y) ≡ piece_size y
 taken_size (a ∷ b ∷ c ∷ d ∷ e ∷ more) whole = elim (cases_Bool (a == 27)) [
   | inl start ↦
@@ -110,12 +99,10 @@ pieces_whole : (x : List ℕ) → All IsPiece (cut x)
 pieces_whole = by_pieces (λ x. All IsPiece (cut x)) (λ x part. rw (cut_none x part) (All-nil IsPiece))
     (λ x whole inner. rw (cut_piece x whole) (search (rules, taken_size, leb-true, length-take-le)))
 
--- What is left is shorter than the piece that it begins.
 rest_is_part : (x : List ℕ) → length (rest x) < piece_size (rest x)
 rest_is_part = by_pieces (λ x. length (rest x) < piece_size (rest x))
     (λ x part. rw (rest_none x part) (leb-false (piece_size x) (length x) part))
     (λ x whole inner. rw (rest_piece x whole) inner)
 
--- So `cut` and `rest` cut the bytes.
 pub cut_is : (x : List ℕ) → Cuts x (cut x) (rest x)
 cut_is x = record { joined = cut_joined x; each = pieces_whole x; part = rest_is_part x }

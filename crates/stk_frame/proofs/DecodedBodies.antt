@@ -8,7 +8,6 @@ use Rattle.stk_frame.specs.declared.command.Command.TheVariants.{ProgramFlash, R
 use Rattle.stk_frame.specs.Commands.{body, fields as encoded_fields, program_block_fields}
 use Rattle.stk_frame.specs.Decoding.{FieldsFit, command_of, program_block_of, read_block_of, instruction, read_byte_of}
 
--- The body of a command whose fields fit is read as this command.
 pub read_back : (c : Command) → FieldsFit c → command_of (body c) ≡ Some c
 read_back c fits = search rules
 
@@ -20,17 +19,14 @@ pub record Sound (code : ℕ) (fields : List ℕ) (read : Option Command) : Type
 record Back {F : Type 0} (encoded : F → List ℕ) (Fit : F → Type 0) (fields : List ℕ) (read : Option F) : Type 0 where
   emits : MatchOption read (Unit {0}) (λ f. (encoded f ≡ fields) × Fit f)
 
--- If the fields were read back as some record, the command made of it was read soundly.
-made_soundly : {F : Type 0} {encoded : F → List ℕ} {Fit : F → Type 0} (code : ℕ) (fields : List ℕ) (make : F → Command)
+made : {F : Type 0} {encoded : F → List ℕ} {Fit : F → Type 0} (code : ℕ) (fields : List ℕ) (make : F → Command)
     (read : Option F) → ((f : F) → Fit f → (body (make f) ≡ code ∷ encoded f) × FieldsFit (make f))
     → Back encoded Fit fields read → Sound code fields (option_map make read)
-made_soundly code fields make read each back = search rules
+made code fields make read each back = search rules
 
--- Each number is a byte.
 abbrev pub Below : List ℕ → Type 0
 Below bytes = (i : ℕ) → slice_index bytes i < 256
 
--- Two bytes read as a number and written again are the same bytes; below, four.
 pair_back : (a b : ℕ) → a < 256 → b < 256 → big_bytes 2 (big_number 2 (a ∷ b ∷ [])) ≡ a ∷ b ∷ []
 pair_back a b e f = search rules
 
@@ -38,64 +34,51 @@ four_back : (a b c d : ℕ) → a < 256 → b < 256 → c < 256 → d < 256
     → big_bytes 4 (big_number 4 (a ∷ b ∷ c ∷ d ∷ [])) ≡ a ∷ b ∷ c ∷ d ∷ []
 four_back a b c d e f g h = search rules
 
--- LOAD_ADDRESS is read soundly.
 load_address_sound : (fields : List ℕ) → Below fields → Sound 0x06 fields (command_of (0x06 ∷ fields))
 load_address_sound (a ∷ b ∷ c ∷ d ∷ []) below =
     search (rules, four_back a b c d (below 0) (below 1) (below 2) (below 3))
 load_address_sound _ below = record { emits = tt }
 
--- The fields of a block to program are read back.
 program_block_back : (fields : List ℕ) → Below fields
     → Back program_block_fields (λ f. f.count < 65536) fields (program_block_of fields)
 program_block_back (h ∷ l ∷ m ∷ d ∷ x ∷ y ∷ z ∷ p ∷ q ∷ bytes) below = search (rules, pair_back h l (below 0) (below 1))
 program_block_back _ below = record { emits = tt }
 
--- The fields of a block to read are read back.
 read_block_back : (fields : List ℕ) → Below fields
     → Back (λ f. encoded_fields (ReadFlash f)) (λ f. f.count < 65536) fields (read_block_of fields)
 read_block_back (h ∷ l ∷ x ∷ []) below = search (rules, pair_back h l (below 0) (below 1))
 read_block_back _ below = record { emits = tt }
 
--- An instruction is read back.
 instruction_back : (fields : List ℕ) → Back (λ bytes. bytes) (λ bytes. length bytes ≡ 4) fields (instruction fields)
 instruction_back fields = search rules
 
--- The fields of a command that reads a byte are read back.
 read_byte_back : (fields : List ℕ)
     → Back (λ f. encoded_fields (ReadFuse f)) (λ f. length f.instruction ≡ 4) fields (read_byte_of fields)
 read_byte_back fields = search rules
 
--- SPI_MULTI is read soundly.
 spi_multi_sound : (fields : List ℕ) → Sound 0x1D fields (command_of (0x1D ∷ fields))
 spi_multi_sound fields = search rules
 
 -- one row of the table
-table_row : (own code : ℕ) (fields : List ℕ) (read others : Option Command) → Sound own fields read
-    → Sound code fields others
+row : (own code : ℕ) (fields : List ℕ) (read others : Option Command) → Sound own fields read → Sound code fields others
     → Sound code fields (cond (code == own) read others)
-table_row own code fields read others is other = search (rules, cases_Bool, cond-true, eqb-true, cond-false)
+row own code fields read others is other = search (rules, cases_Bool, cond-true, eqb-true, cond-false)
 
--- Whatever the first byte is, a command is read soundly: row by row of the table.
 with_fields_sound : (code : ℕ) (fields : List ℕ) → Below fields → Sound code fields (command_of (code ∷ fields))
 with_fields_sound code fields below =
-    table_row 0x01 code fields _ _ (search rules)
-    (table_row 0x02 code fields _ _ (search rules)
-    (table_row 0x03 code fields _ _ (search rules)
-    (table_row 0x06 code fields _ _ (load_address_sound fields below)
-    (table_row 0x10 code fields _ _ (search rules)
-    (table_row 0x11 code fields _ _ (search rules)
-    (table_row 0x12 code fields _ _ (search rules)
-    (table_row 0x13 code fields _ _ (made_soundly 0x13 fields ProgramFlash _ (λ f k. (refl, k))
-    (program_block_back fields below))
-    (table_row 0x14 code fields _ _ (made_soundly 0x14 fields ReadFlash _ (λ f k. (refl, k))
-    (read_block_back fields below))
-    (table_row 0x15 code fields _ _ (made_soundly 0x15 fields ProgramEeprom _ (λ f k. (refl, k))
-    (program_block_back fields below))
-    (table_row 0x16 code fields _ _ (made_soundly 0x16 fields ReadEeprom _ (λ f k. (refl, k))
-    (read_block_back fields below))
-    (search (rules, table_row, made_soundly, instruction_back, read_byte_back, spi_multi_sound))))))))))))
+    row 0x01 code fields _ _ (search rules)
+    (row 0x02 code fields _ _ (search rules)
+    (row 0x03 code fields _ _ (search rules)
+    (row 0x06 code fields _ _ (load_address_sound fields below)
+    (row 0x10 code fields _ _ (search rules)
+    (row 0x11 code fields _ _ (search rules)
+    (row 0x12 code fields _ _ (search rules)
+    (row 0x13 code fields _ _ (made 0x13 fields ProgramFlash _ (λ f k. (refl, k)) (program_block_back fields below))
+    (row 0x14 code fields _ _ (made 0x14 fields ReadFlash _ (λ f k. (refl, k)) (read_block_back fields below))
+    (row 0x15 code fields _ _ (made 0x15 fields ProgramEeprom _ (λ f k. (refl, k)) (program_block_back fields below))
+    (row 0x16 code fields _ _ (made 0x16 fields ReadEeprom _ (λ f k. (refl, k)) (read_block_back fields below))
+    (search (rules, row, made, instruction_back, read_byte_back, spi_multi_sound))))))))))))
 
--- A command that is read has exactly the bytes as its body, and its fields fit.
 pub only_body : (bytes : List ℕ) → Below bytes
     → MatchOption (command_of bytes) (Unit {0}) (λ c. (body c ≡ bytes) × FieldsFit c)
 only_body [] below = tt

@@ -16,11 +16,9 @@ limits = (refl, refl, refl)
 pub short_fuse_unread : command_of (0x17 ∷ 0xAC ∷ 0xA0 ∷ 0x00 ∷ []) ≡ None
 short_fuse_unread = refl
 
--- SIGN_ON with a field is no command.
 pub long_sign_on_unread : command_of (0x01 ∷ 0x00 ∷ []) ≡ None
 long_sign_on_unread = refl
 
--- A body with an unknown first byte is no command.
 pub unknown_unread : command_of (0x04 ∷ []) ≡ None
 unknown_unread = refl
 
@@ -28,27 +26,21 @@ unknown_unread = refl
 pub short_name_checked : judge SignOn (0x01 ∷ 0x00 ∷ 0x03 ∷ 0x41 ∷ 0x42 ∷ []) ≡ Err WrongLength
 short_name_checked = refl
 
--- The reply to a bad frame has exactly two bytes.
 pub longer_checksum_checked : judge enter (0xB0 ∷ 0xC1 ∷ 0x00 ∷ []) ≡ Err WrongCommand
 longer_checksum_checked = refl
 
--- The command is checked before the status.
 pub other_command_checked : judge enter (0x11 ∷ 0xC0 ∷ []) ≡ Err WrongCommand
 other_command_checked = refl
 
--- The command without a status is too short.
 pub lone_byte_checked : judge enter (0x10 ∷ []) ≡ Err WrongLength
 lone_byte_checked = refl
 
--- The status is checked before the length.
 pub status_before_length : judge (read_signature 0) (0x1B ∷ 0xC0 ∷ []) ≡ Err (Status 0xC0)
 status_before_length = refl
 
--- A reply with a byte too many is refused.
 pub longer_checked : judge enter (0x10 ∷ 0x00 ∷ 0x00 ∷ []) ≡ Err WrongLength
 longer_checked = refl
 
--- The last status is checked, too.
 pub last_status_checked : judge (read_signature 0) (0x1B ∷ 0x00 ∷ 0x1E ∷ 0x80 ∷ []) ≡ Err (Status 0x80)
 last_status_checked = refl
 
@@ -56,6 +48,5 @@ last_status_checked = refl
 pub no_command_unnamed : name_in command_names 0x04 ≡ None
 no_command_unnamed = refl
 
--- A byte that is no status has no name.
 pub no_status_unnamed : name_in status_names 0xC2 ≡ None
 no_status_unnamed = refl

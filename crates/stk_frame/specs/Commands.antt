@@ -97,13 +97,8 @@ judge command (first ∷ status ∷ more) =
     else if not (status == STATUS_CMD_OK) then Err (Status status)
     else data_in_shape (shape command) more
 
--- The data bytes that a reply of this shape brings, if the shape fixes them.
-abbrev pub data_count : Shape → ℕ
-data_count Name = 0
-data_count (Bytes n) = n
-data_count (Closed n) = n
-
 -- Data have the size that the shape fixes.
 abbrev pub FitsShape : Shape → List ℕ → Type 0
 FitsShape Name bytes = Unit {0}
-FitsShape sized bytes = length bytes ≡ data_count sized
+FitsShape (Bytes n) bytes = length bytes ≡ n
+FitsShape (Closed n) bytes = length bytes ≡ n

@@ -24,7 +24,6 @@ enter_progmode_of (timeout ∷ stab_delay ∷ command_delay ∷ synch_loops ∷ 
     }))
 enter_progmode_of _ = None
 
--- The fields of a block to program.
 abbrev pub program_block_of : List ℕ → Option ProgramBlock
 program_block_of (high ∷ low ∷ mode ∷ delay ∷ cmd1 ∷ cmd2 ∷ cmd3 ∷ poll1 ∷ poll2 ∷ bytes) =
     Some (record {
@@ -40,7 +39,6 @@ program_block_of (high ∷ low ∷ mode ∷ delay ∷ cmd1 ∷ cmd2 ∷ cmd3 ∷
     })
 program_block_of _ = None
 
--- The fields of a block to read.
 abbrev pub read_block_of : List ℕ → Option ReadBlock
 read_block_of (high ∷ low ∷ cmd1 ∷ []) = Some (record { count = big_number 2 (high ∷ low ∷ []); cmd1 = cmd1 })
 read_block_of _ = None
@@ -50,7 +48,6 @@ abbrev pub instruction : List ℕ → Option (List ℕ)
 instruction (a ∷ b ∷ c ∷ d ∷ []) = Some (a ∷ b ∷ c ∷ d ∷ [])
 instruction _ = None
 
--- The fields of a command that reads one byte by an instruction.
 abbrev pub read_byte_of : List ℕ → Option ReadByte
 read_byte_of (return_address ∷ a ∷ b ∷ c ∷ d ∷ []) =
     Some (record { return_address = return_address; instruction = a ∷ b ∷ c ∷ d ∷ [] })

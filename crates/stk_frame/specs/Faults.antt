@@ -3,7 +3,6 @@ use Rattle.std.specs.Prelude.{ℕ}
 use Rattle.stk_frame.specs.declared.answer.FrameFault.{FrameFault}
 use Rattle.stk_frame.specs.declared.answer.FrameFault.TheVariants.{WrongLength, WrongCommand, CheckSum, Status}
 
--- The number of a fault, which never changes.
 abbrev pub frame_fault_number : FrameFault → ℕ
 frame_fault_number WrongLength = 1
 frame_fault_number WrongCommand = 2

@@ -48,7 +48,6 @@ page_mode_block cmd1 cmd2 cmd3 bytes =
 abbrev pub program_page : List ℕ → Command
 program_page bytes = ProgramFlash (page_mode_block 0x40 0x4C 0x20 bytes)
 
--- Reads this many bytes of flash.
 abbrev pub read_flash_block : ℕ → Command
 read_flash_block count = ReadFlash (record { count = count; cmd1 = 0x20 })
 
@@ -56,7 +55,6 @@ read_flash_block count = ReadFlash (record { count = count; cmd1 = 0x20 })
 abbrev pub program_eeprom_block : List ℕ → Command
 program_eeprom_block bytes = ProgramEeprom (page_mode_block 0xC1 0xC2 0xA0 bytes)
 
--- Reads this many bytes of EEPROM.
 abbrev pub read_eeprom_block : ℕ → Command
 read_eeprom_block count = ReadEeprom (record { count = count; cmd1 = 0xA0 })
 
@@ -76,19 +74,15 @@ read_instruction Extended = 0x50 ∷ 0x08 ∷ 0x00 ∷ 0x00 ∷ []
 abbrev pub read_fourth_byte : List ℕ → ReadByte
 read_fourth_byte instruction = record { return_address = 4; instruction = instruction }
 
--- Writes a fuse byte.
 abbrev pub program_fuse : Fuse → ℕ → Command
 program_fuse fuse value = ProgramFuse (0xAC ∷ write_address fuse ∷ 0x00 ∷ value ∷ [])
 
--- Reads a fuse byte.
 abbrev pub read_fuse : Fuse → Command
 read_fuse fuse = ReadFuse (read_fourth_byte (read_instruction fuse))
 
--- Writes the lock byte.
 abbrev pub program_lock : ℕ → Command
 program_lock value = ProgramLock (0xAC ∷ 0xE0 ∷ 0x00 ∷ value ∷ [])
 
--- Reads the lock byte.
 abbrev pub read_lock : Command
 read_lock = ReadLock (read_fourth_byte (0x58 ∷ 0x00 ∷ 0x00 ∷ 0x00 ∷ []))
 
@@ -96,6 +90,5 @@ read_lock = ReadLock (read_fourth_byte (0x58 ∷ 0x00 ∷ 0x00 ∷ 0x00 ∷ []))
 abbrev pub read_signature : ℕ → Command
 read_signature place = ReadSignature (read_fourth_byte (0x30 ∷ 0x00 ∷ place ∷ 0x00 ∷ []))
 
--- Reads the calibration byte.
 abbrev pub read_calibration : Command
 read_calibration = ReadOsccal (read_fourth_byte (0x38 ∷ 0x00 ∷ 0x00 ∷ 0x00 ∷ []))

@@ -1,7 +1,6 @@
 -- AVR068's names of the first byte of a command and the status of a reply.
 use Rattle.std.specs.Prelude.{ℕ, List, [], ◌∷◌, ◌==◌, Option, find, option_map, codes}
 
--- The first byte of each command, with its name.
 abbrev pub command_names : List (ℕ × List ℕ)
 command_names =
     (0x01, codes "CMD_SIGN_ON")

@@ -30,15 +30,13 @@ abbrev pub commands_in : List (List Command) → ℕ
 commands_in [] = 0
 commands_in (commands ∷ steps) = length commands + commands_in steps
 
--- The steps of `Host::open`.
+-- The steps of `Host::open`; below, of `Host::erase` and `Host::close`.
 abbrev pub opening_steps : List (List Command)
 opening_steps = (SignOn ∷ []) ∷ (enter ∷ []) ∷ signature_steps
 
--- The steps of `Host::erase`.
 abbrev pub erasing_steps : List (List Command)
 erasing_steps = (erase ∷ []) ∷ []
 
--- The steps of `Host::close`.
 abbrev pub closing_steps : List (List Command)
 closing_steps = (leave ∷ []) ∷ []
 

@@ -26,7 +26,8 @@ use Rattle.stk_host.specs.Steps.{play}
 use Rattle.stk_host.specs.Operations.{host_fault, signature_checked}
 use Rattle.stk_host.specs.Transcript.{LinkState, Got, Grows}
 use Rattle.stk_host.specs.Dialog.{Dialog}
-use Rattle.stk_host.specs.Play.{Progress, RunsOverLink, BreaksOverLink, Reaches}
+use Rattle.stk_host.specs.Play.{Progress, RunsOverLink, BreaksOverLink}
+use Rattle.stk_host.specs.Reach.{Reaches}
 use Rattle.stk_host.specs.State.{ConversationState, HostState, data_held, lasting_fault}
 
 -- At most 281 bytes are unread: those of one piece.
@@ -66,14 +67,29 @@ abbrev pub EndsSteps : {A : Type 0} → Dialog ⊥ steps.StepOutcome → (A → 
 EndsSteps dialog bytes before old new (Ok a) after = RunsOverLink dialog before old new (Ok (bytes a)) after
 EndsSteps dialog bytes before old new (Err fault) after = StopsSteps dialog before old new fault after
 
--- These steps were run after others that gave the data `given`, and any may follow them, with all data so far. If these
--- stop, all stop.
-abbrev pub CompletesSteps : List (List Command) → List ℕ → List ℕ → Progress → LinkState → LinkState
+-- All of these steps were run and brought these data, or they stopped.
+abbrev pub RunsSteps : List (List Command) → List ℕ → Progress → LinkState → LinkState → Result (Unit {0}) HostFault
+    → Progress → Type 0
+RunsSteps these brought = EndsSteps (play these []) (λ done. brought)
+
+-- These steps were run, and then any others may follow, with all data so far. If these stop, all stop.
+abbrev pub CompletesStepsWithData : List (List Command) → List ℕ → List ℕ → Progress → LinkState → LinkState
     → Result (Unit {0}) HostFault → Progress → Type 0
-CompletesSteps these given brought before old new (Ok done) after =
+CompletesStepsWithData these given brought before old new (Ok done) after =
     (steps : List (List Command)) → Reaches (play (these ++ steps) given) before old (play steps brought) after new
-CompletesSteps these given brought before old new (Err fault) after =
+CompletesStepsWithData these given brought before old new (Err fault) after =
     (steps : List (List Command)) → StopsSteps (play (these ++ steps) given) before old new fault after
+
+-- The same of steps that bring no data.
+abbrev pub CompletesSteps : List (List Command) → Progress → LinkState → LinkState → Result (Unit {0}) HostFault
+    → Progress → Type 0
+CompletesSteps these = CompletesStepsWithData these [] []
+
+-- The data bytes that a reply of this shape brings, if the shape fixes them.
+abbrev pub data_count : Shape → ℕ
+data_count Name = 0
+data_count (Bytes n) = n
+data_count (Closed n) = n
 
 -- The shape fixes how many bytes a reply brings.
 abbrev pub IsSizedShape : Shape → Type 0
@@ -151,13 +167,12 @@ host_fault_number (ReadOnly mem) = 9
 host_fault_number Memory = 10
 host_fault_number RecvFailed = 11
 
--- AVR068's name of the command of a fault.
+-- AVR068's names of the command and the status of a fault.
 abbrev pub command_named : HostFault → Option (List ℕ)
 command_named (Refused command status) = name_in command_names command
 command_named (BadAnswer command) = name_in command_names command
 command_named fault = None
 
--- AVR068's name of the status of a fault.
 abbrev pub status_named : HostFault → Option (List ℕ)
 status_named (Refused command status) = name_in status_names status
 status_named fault = None

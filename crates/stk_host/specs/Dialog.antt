@@ -61,13 +61,12 @@ frames_in [] = []
 frames_in (Frame bytes ∷ events) = bytes ∷ frames_in events
 frames_in (Emitted e ∷ events) = frames_in events
 
--- The bytes of all frames, in order.
+-- The bytes of all frames; below, the output events alone.
 abbrev pub bytes_sent : {E : Type 0} → List (Event E) → List ℕ
 bytes_sent [] = []
 bytes_sent (Frame bytes ∷ events) = bytes ++ bytes_sent events
 bytes_sent (Emitted e ∷ events) = bytes_sent events
 
--- The output events of a run, in order.
 abbrev pub outputs : {E : Type 0} → List (Event E) → List E
 outputs [] = []
 outputs (Frame bytes ∷ events) = outputs events

@@ -45,7 +45,6 @@ next_piece most (Silence ∷ tape) = Silence ∷ []
 next_piece most (Byte byte ∷ tape) = on_tape (take most (byte ∷ leading_bytes tape))
 next_piece most _ = End ∷ []
 
--- The byte of an item, if the item is one.
 abbrev pub byte_of : Option Item → Option ℕ
 byte_of (Some (Byte byte)) = Some byte
 byte_of _ = None

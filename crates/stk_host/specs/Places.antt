@@ -15,10 +15,9 @@ each_from steps_at place (suc count) = steps_at place ++ each_from steps_at (pla
 abbrev pub flash_address : Part → ℕ → ℕ
 flash_address part start = if nat_lt NARROW_FLASH part.flash_size then start / 2 + EXTENDED_ADDRESS else start / 2
 
--- Loads the address of a byte of flash.
+-- Loads the address of a byte of flash; below, of EEPROM.
 abbrev pub load_flash : Part → ℕ → Command
 load_flash part start = LoadAddress (flash_address part start)
 
--- Loads the address of a byte of EEPROM.
 abbrev pub load_eeprom : ℕ → Command
 load_eeprom start = LoadAddress start

@@ -1,17 +1,16 @@
 -- A transcript of a link as the run of a dialog: to its end, or broken off.
-use Rattle.std.specs.Prelude.{ℕ, List, [], ◌∷◌, ◌++◌, ◌≡◌, ◌<◌, length, None}
+use Rattle.std.specs.Prelude.{ℕ, List, [], ◌∷◌, ◌++◌, ◌≡◌, ◌<◌, length, Some, None}
 use Rattle.stk_host.specs.declared.fault.HostFault.{HostFault}
 use Rattle.stk_host.specs.declared.fault.HostFault.TheVariants.{SendFailed, RecvFailed}
 use Rattle.stk_host.specs.Tape.{Tape, on_tape}
 use Rattle.stk_host.specs.Transcript.{Transcript, LinkState, Sent, Taken, Got, NoneTaken, sent, heard, Grows, HasFailed}
-use Rattle.stk_host.specs.Dialog.{Dialog, Done, Event, Frame, Emitted, Played, played, prepend_events, bytes_sent}
+use Rattle.stk_host.specs.Dialog.{Dialog, Event, Frame, Emitted, Played, played, bytes_sent}
 
 -- A conversation's state: the next sequence number, and the bytes received and not yet read.
 pub record Progress : Type 0 where
   pub next : ℕ
   pub unread : List ℕ
 
--- The state with this next number and these unread bytes.
 abbrev pub progress_at : ℕ → List ℕ → Progress
 progress_at next unread = record { next = next; unread = unread }
 
@@ -37,19 +36,15 @@ InTurn dialog before transcript = InTurnFrom dialog before.next (on_tape before.
 abbrev pub played_over : {E R : Type 0} → Dialog E R → Progress → Transcript → Played E R
 played_over dialog before transcript = played dialog before.next (on_tape before.unread ++ heard transcript)
 
--- A transcript leads from a dialog to its rest. The dialog's run over the unread bytes and the items received is
--- exactly these events, and then the run of the rest from the state `after`, whatever follows on the tape.
-pub record TranscriptLeads {E R : Type 0} (dialog : Dialog E R) (before : Progress) (transcript : Transcript)
-    (events : List (Event E)) (rest : Dialog E R) (after : Progress) : Type 0 where
-  pub goes_on : (more : Tape) → played dialog before.next (on_tape before.unread ++ (heard transcript ++ more))
-      ≡ prepend_events events (played rest after.next (on_tape after.unread ++ more))
+-- The transcript is the dialog's run to its end, over the unread bytes and the items received. Exactly these events
+-- happened, with this result and this state after them, whatever follows on the tape.
+pub record Plays {E R : Type 0} (dialog : Dialog E R) (before : Progress) (transcript : Transcript)
+    (events : List (Event E)) (result : R) (after : Progress) : Type 0 where
+  pub plays : (more : Tape) → played dialog before.next (on_tape before.unread ++ (heard transcript ++ more))
+      ≡ record { events = events; outcome = Some (result, after.next, on_tape after.unread ++ more) }
   pub all_sent : bytes_sent events ≡ sent transcript
   pub none_taken : NoneTaken transcript
   pub in_turn : InTurn dialog before transcript
-
--- The transcript is the dialog's run to its end: it leads to this result.
-abbrev pub Plays : {E R : Type 0} → Dialog E R → Progress → Transcript → List (Event E) → R → Progress → Type 0
-Plays dialog before transcript events result after = TranscriptLeads dialog before transcript events (Done result) after
 
 -- These bytes are the first of those.
 abbrev pub IsBytePrefixOf : List ℕ → List ℕ → Type 0
@@ -111,18 +106,14 @@ BreaksBy fault dialog before transcript shown = ⊥
 abbrev pub NoPart : ⊥ → ⊥ → Type 0
 NoPart part whole = ⊥
 
--- A call has come from a dialog to its rest, between these states of the link, which has not failed.
-pub record Reaches {R : Type 0} (dialog : Dialog ⊥ R) (before : Progress) (old : LinkState)
-    (rest : Dialog ⊥ R) (after : Progress) (new : LinkState) : Type 0 where
+-- A call ran a dialog to its end, between these states of the link, which has not failed.
+pub record RunsOverLink {R : Type 0} (dialog : Dialog ⊥ R) (before : Progress) (old new : LinkState) (result : R)
+    (after : Progress) : Type 0 where
   pub during : Transcript
   pub events : List (Event ⊥)
   pub grows : Grows old.transcript during new.transcript
-  pub leads : TranscriptLeads dialog before during events rest after
+  pub plays : Plays dialog before during events result after
   pub sound : new.failures ≡ old.failures
-
--- A call ran a dialog to its end, with this result.
-abbrev pub RunsOverLink : {R : Type 0} → Dialog ⊥ R → Progress → LinkState → LinkState → R → Progress → Type 0
-RunsOverLink dialog before old new result after = Reaches dialog before old (Done result) after new
 
 -- A call broke off because the link failed, with this fault. `shown` is what happened up to then.
 pub record BreaksOverLink {R : Type 0} (fault : HostFault) (dialog : Dialog ⊥ R) (before : Progress)

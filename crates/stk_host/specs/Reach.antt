@@ -1,7 +1,28 @@
--- Sending and listening: for contracts of private functions, and of code without a host.
+-- How far a call has come in a dialog: for contracts of private functions, and of code without a host.
 use Rattle.std.specs.Prelude.{ℕ, List, [], ◌∷◌, ◌++◌, ◌+◌, ◌≡◌, ◌<◌, ◌≤◌, length, Some, None, Result, OnOk, OnErr}
 use Rattle.stk_host.specs.Tape.{Tape, Reading, on_tape, answer, reply_byte_limit}
 use Rattle.stk_host.specs.Transcript.{Transcript, LinkState, Sent, Taken, Got, NoneTaken, sent, heard, Grows, LinkCounts}
+use Rattle.stk_host.specs.Dialog.{Dialog, Event, played, prepend_events, bytes_sent}
+use Rattle.stk_host.specs.Play.{InTurn, Progress}
+
+-- A transcript leads from a dialog to its rest: the dialog's run is these events, then the run of the rest, whatever
+-- follows on the tape.
+pub record TranscriptLeads {E R : Type 0} (dialog : Dialog E R) (before : Progress) (transcript : Transcript)
+    (events : List (Event E)) (rest : Dialog E R) (after : Progress) : Type 0 where
+  pub goes_on : (more : Tape) → played dialog before.next (on_tape before.unread ++ (heard transcript ++ more))
+      ≡ prepend_events events (played rest after.next (on_tape after.unread ++ more))
+  pub all_sent : bytes_sent events ≡ sent transcript
+  pub none_taken : NoneTaken transcript
+  pub in_turn : InTurn dialog before transcript
+
+-- A call has come this far, between these states of the link, which has not failed.
+pub record Reaches {R : Type 0} (dialog : Dialog ⊥ R) (before : Progress) (old : LinkState)
+    (rest : Dialog ⊥ R) (after : Progress) (new : LinkState) : Type 0 where
+  pub during : Transcript
+  pub events : List (Event ⊥)
+  pub grows : Grows old.transcript during new.transcript
+  pub leads : TranscriptLeads dialog before during events rest after
+  pub sound : new.failures ≡ old.failures
 
 -- Nothing was received, and nothing passed after a send that failed.
 abbrev pub NothingReceived : Transcript → Type 0

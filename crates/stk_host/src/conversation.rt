@@ -1,9 +1,9 @@
 //! Commands and their replies, attempts, and steps.
 ghost use Rattle.std.specs.Prelude.{◌≡◌, ◌<◌, ◌≤◌, ◌∷◌, [], length, OnOk, IfSome, ◌+◌, vec_capacity};
-ghost use Rattle.stk_frame.specs.Commands.{shape, data_count, FitsShape};
+ghost use Rattle.stk_frame.specs.Commands.{shape, FitsShape};
 ghost use Rattle.stk_host.specs.Steps.{exchange, attempt, step, commands_by, reply_from_reading};
 ghost use Rattle.stk_host.specs.State.{data_held};
-ghost use Rattle.stk_host.specs.Calls.{reading_of, reply_of, EndsSteps, Converses, ReturnsReply, FitsFrame, BringsNoData, CompletesSteps, IsSizedStep};
+ghost use Rattle.stk_host.specs.Calls.{reading_of, reply_of, EndsSteps, Converses, ReturnsReply, FitsFrame, BringsNoData, CompletesSteps, CompletesStepsWithData, IsSizedStep, data_count};
 
 use crate::fault::{HostFault, StepFault};
 use crate::link::{Link, send_all};
@@ -172,8 +172,8 @@ pub(crate) fn play_step<L: Link>(
 ) -> Result<(), HostFault>
     requires sized { IsSizedStep first.now last.now }
     requires none { data_count (shape last.now) ≡ 0 }
-    ensures { Converses L.Link (CompletesSteps (commands_by first.now last.now ∷ []) [] [])
-        talk.old talk.new link.old link.new result }
+    ensures { Converses L.Link (CompletesSteps (commands_by first.now last.now ∷ [])) talk.old talk.new link.old
+        link.new result }
 {
     talk.step(link, first, last)
 }
@@ -188,7 +188,8 @@ pub(crate) fn read_step<L: Link>(
 ) -> Result<(), HostFault>
     requires sized { IsSizedStep first.now last.now }
     requires room { length out.old.items + data_count (shape last.now) ≤ vec_capacity out.old }
-    ensures asks { Converses L.Link (CompletesSteps (commands_by first.now last.now ∷ []) out.old.items out.new.items)
+    ensures asks { Converses L.Link (CompletesStepsWithData (commands_by first.now last.now ∷ []) out.old.items
+        out.new.items)
         talk.old talk.new link.old link.new result }
     ensures size { OnOk result (length out.new.items ≡ length out.old.items + data_count (shape last.now)) }
     ensures room { vec_capacity out.old ≤ vec_capacity out.new }

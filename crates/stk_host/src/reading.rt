@@ -1,7 +1,6 @@
 ghost use Rattle.std.specs.Prelude.{◌≡◌, ◌<◌, ◌≤◌, [], length, OnOk, vec_capacity};
 ghost use Rattle.stk_host.specs.ReadSteps.{read_count, load_command_at, read_command_at, read_steps};
-ghost use Rattle.stk_host.specs.Steps.{play};
-ghost use Rattle.stk_host.specs.Calls.{Converses, EndsSteps};
+ghost use Rattle.stk_host.specs.Calls.{Converses, RunsSteps};
 ghost use Rattle.avr_part.specs.Part as parts;
 
 use crate::conversation::{Conversation, read_step};
@@ -69,8 +68,8 @@ pub(crate) fn read_memory<L: Link>(
 ) -> Result<(), HostFault>
     requires empty { out.old.items ≡ [] }
     requires room { parts.size_of mem part.now ≤ vec_capacity out.old }
-    ensures is { Converses L.Link (EndsSteps (play (read_steps part.now mem) []) (λ done. out.new.items))
-        talk.old talk.new link.old link.new result }
+    ensures is { Converses L.Link (RunsSteps (read_steps part.now mem) out.new.items) talk.old talk.new link.old
+        link.new result }
     ensures size { OnOk result (length out.new.items ≡ parts.size_of mem part.now) }
 {
     for number in 0..read_count(part, mem) {

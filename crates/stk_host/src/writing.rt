@@ -1,7 +1,6 @@
 ghost use Rattle.std.specs.Prelude.{◌≡◌, ◌≤◌, ◌∷◌, [], ◌<◌, ◌-◌, ◌^◌};
 ghost use Rattle.stk_frame.specs.HostCommands.{program_eeprom_block, program_fuse};
-ghost use Rattle.stk_host.specs.Steps.{play};
-ghost use Rattle.stk_host.specs.Calls.{Converses, CompletesSteps, EndsSteps};
+ghost use Rattle.stk_host.specs.Calls.{Converses, CompletesSteps, RunsSteps};
 ghost use Rattle.avr_image.specs.Image.{filled_bytes};
 ghost use Rattle.stk_host.specs.WriteSteps.{page_step, begins_run, byte_steps, place_steps, place_count, write_steps};
 ghost use Rattle.stk_host.specs.Places.{each_from, load_flash};
@@ -44,7 +43,7 @@ fn program_page<L: Link>(
     start: u32,
 ) -> Result<(), HostFault>
     requires { start < 2 ^ 20 }
-    ensures { Converses L.Link (CompletesSteps (page_step part.now image.now start ∷ []) [] [])
+    ensures { Converses L.Link (CompletesSteps (page_step part.now image.now start ∷ []))
         talk.old talk.new link.old link.new result }
 {
     let size = flash_page(part);
@@ -66,7 +65,7 @@ fn program_run<L: Link>(
     requires order { start ≤ end }
     requires fits { end - start ≤ 256 }
     ensures { Converses L.Link (CompletesSteps ((places.load_eeprom start ∷ program_eeprom_block
-        (filled_bytes image.now start (end - start)) ∷ []) ∷ []) [] []) talk.old talk.new link.old link.new result }
+        (filled_bytes image.now start (end - start)) ∷ []) ∷ [])) talk.old talk.new link.old link.new result }
 {
     let size = (end - start) as usize;
     let mut run = [0; LARGEST_PAGE];
@@ -95,7 +94,7 @@ fn write_place<L: Link>(
     place: u32,
 ) -> Result<(), HostFault>
     requires { place < place_count part.now mem }
-    ensures { Converses L.Link (CompletesSteps (place_steps part.now mem image.now place) [] [])
+    ensures { Converses L.Link (CompletesSteps (place_steps part.now mem image.now place))
         talk.old talk.new link.old link.new result }
 {
     match mem {
@@ -125,8 +124,9 @@ fn write_places<L: Link>(
     mem: Mem,
     image: &Image,
 ) -> Result<(), HostFault>
-    ensures { Converses L.Link (EndsSteps (play (each_from (place_steps part.now mem image.now) 0
-        (place_count part.now mem)) []) (λ done. [])) talk.old talk.new link.old link.new result }
+    ensures { Converses L.Link (RunsSteps (each_from (place_steps part.now mem image.now) 0 (place_count part.now mem))
+        [])
+        talk.old talk.new link.old link.new result }
 {
     for place in 0..place_count(part, mem) {
         write_place(talk, link, part, mem, image, place)?;
@@ -141,8 +141,8 @@ fn write_fuse<L: Link>(
     fuse: Fuse,
     byte: Option<u8>,
 ) -> Result<(), HostFault>
-    ensures { Converses L.Link (EndsSteps (play (byte_steps (program_fuse fuse) byte) []) (λ done. []))
-        talk.old talk.new link.old link.new result }
+    ensures { Converses L.Link (RunsSteps (byte_steps (program_fuse fuse) byte) []) talk.old talk.new link.old link.new
+        result }
 {
     match byte {
         Some(value) => play_step(talk, link, &None, &Command::program_fuse(fuse, value)),
@@ -158,8 +158,8 @@ pub(crate) fn write_memory<L: Link>(
     mem: Mem,
     image: &Image,
 ) -> Result<(), HostFault>
-    ensures { Converses L.Link (EndsSteps (play (write_steps part.now mem image.now) []) (λ done. []))
-        talk.old talk.new link.old link.new result }
+    ensures { Converses L.Link (RunsSteps (write_steps part.now mem image.now) []) talk.old talk.new link.old link.new
+        result }
 {
     match mem {
         Mem::Flash | Mem::Eeprom => write_places(talk, link, part, mem, image),

@@ -5,7 +5,6 @@ use Rattle.stk_host.specs.Dialog.{Dialog, Event, played, bytes_sent}
 use Rattle.std.proofs.lemmas.List.{append-nil}
 use Rattle.stk_host.specs.Transcript.{Transcript, sent, heard}
 use Rattle.stk_host.specs.Play.{Progress, progress_at, Plays, IsBytePrefixOf}
-use Rattle.stk_host.proofs.Transcripts.InDialogs.{whole_run}
 use Rattle.avr_tool.proofs.Sure.Good.{IsSteady, AreSteady}
 
 -- a whole run sends all bytes of what it sends over what was received
@@ -13,7 +12,7 @@ pub plays_prefix : {E R : Type 0} (d : Dialog E R) (n : ℕ) (transcript : Trans
     (after : Progress) → Plays d (progress_at n []) transcript events r after
     → IsBytePrefixOf (sent transcript) (bytes_sent (played d n (heard transcript)).events)
 plays_prefix d n transcript events r after plays =
-    search (rules, append-nil (sent transcript), append-nil (heard transcript), whole_run plays [])
+    search (rules, append-nil (sent transcript), append-nil (heard transcript))
 
 -- the first of steady exchanges is steady
 pub first_steady : (exchanges : List Exchange) → AreSteady exchanges → IsSteady (first_exchange exchanges)

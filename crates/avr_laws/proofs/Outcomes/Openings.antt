@@ -24,7 +24,6 @@ use Rattle.stk_host.specs.Play.{IsPartOfFirst, IsPrefixOfEvents}
 use Rattle.stk_host.specs.Tape.{Reading, Tape, answer, on_tape}
 use Rattle.stk_host.specs.Transcript.{heard}
 use Rattle.stk_host.specs.declared.fault.HostFault.{HostFault}
-use Rattle.stk_host.proofs.Transcripts.InDialogs.{whole_run}
 use Rattle.avr_laws.proofs.Plans.Given.{desk_asked, opened_by_uses, openings_joined, openings_since, went_asked}
 use Rattle.avr_laws.specs.KeptByPort.{KeepsPlan}
 
@@ -154,8 +153,7 @@ session_opened : (plan : Plan) (old new : Devices) (status : ℕ) → RunsSessio
     → all_openings new.desk.kept ≡ all_openings old.desk.kept
 session_opened plan old new status (inl (after, ran)) =
     let none = session_opens_none plan start.next (on_tape start.unread ++ (heard ran.during ++ [])) in
-    let whole = whole_run ran.plays [] in
-    search (rules, openings_since old.desk new.desk (outputs ran.events) ran.kept, whole, none, append-nil)
+    search (rules, openings_since old.desk new.desk (outputs ran.events) ran.kept, ran.plays.plays [], none, append-nil)
 session_opened plan old new status (inr (broke, one)) = search (
   rules,
   prefix_none,

@@ -27,7 +27,6 @@ use Rattle.stk_host.specs.declared.link.Heard.TheVariants as in_code
 use Rattle.stk_host.specs.declared.link.Item.TheVariants.{Silence}
 use Rattle.stk_host.specs.declared.link.LinkFault.{LinkFault}
 use Rattle.stk_host.specs.declared.link.LinkFault.TheVariants.{Failed}
-use Rattle.stk_host.proofs.Transcripts.InDialogs.{whole_run}
 use Rattle.avr_session.specs.Actions.{Action, WriteImage, CompareImage, write_actions}
 use Rattle.avr_session.specs.Lines.{fault_line}
 use Rattle.avr_session.specs.Runs.{Cause, SendingFailed, ReceivingFailed, FileFailed, PrintingFailed, AllocationFailed, Devices, RanWhole, StopsAfterOutput, before_fault, cause_line}
@@ -92,7 +91,7 @@ pub no_end_unheard : (after : Progress) → EndsCall false closing sixth fresh f
 unfolding answer exchange attempt attempts_or_fault closing
 no_end_unheard after ran = cc (
     ap (λ during. (played closing 6 (heard during ++ [])).outcome) ran.grows
-    ∙ ap (λ (run : Played ⊥ (Result ⊤ HostFault)). run.outcome) (whole_run ran.leads [])
+    ∙ ap (λ (run : Played ⊥ (Result ⊤ HostFault)). run.outcome) (ran.plays.plays [])
     )
 
 -- nor a failure without one,

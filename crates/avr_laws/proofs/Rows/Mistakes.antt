@@ -23,8 +23,7 @@ use Rattle.stk_host.specs.Tape.{on_tape}
 use Rattle.stk_emu.specs.Emulator.{emulate}
 use Rattle.stk_emu.specs.Lawful.{IsLawful}
 use Rattle.stk_emu.specs.Programmer.{Programmer, execute, fresh_programmer}
-use Rattle.stk_host.specs.declared.link.Item.TheVariants.{Silence}
-use Rattle.stk_emu.specs.Wired.{IsReceivedNext}
+use Rattle.stk_emu.specs.Waiting.{HasNoLeadingByte}
 
 -- ---- frames
 
@@ -116,8 +115,8 @@ end_record_is_last = refl
 -- ---- the emulator
 
 -- the link isn't silent while a byte waits (`some` of stk_emu's `copy_to`)
-pub waiting_byte_comes : IsReceivedNext (Silence ∷ []) (on_tape (0x1B ∷ [])) → ⊥
-waiting_byte_comes none = cc none.1
+pub waiting_byte_comes : HasNoLeadingByte (on_tape (0x1B ∷ [])) → ⊥
+waiting_byte_comes none = none
 
 abbrev in_mode : Programmer
 in_mode = record (fresh_programmer (fresh_state m328p)) { mode = true }

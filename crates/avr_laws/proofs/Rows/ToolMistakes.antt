@@ -41,7 +41,6 @@ use Rattle.stk_host.specs.Steps.{attempt, attempts_or_fault, exchange, play}
 use Rattle.stk_host.specs.Tape.{Tape, answer}
 use Rattle.stk_host.specs.Transcript.{LinkState, Transcript, Got, Sent, heard, sent}
 use Rattle.stk_host.specs.declared.link.Item.TheVariants.{End}
-use Rattle.stk_host.proofs.Transcripts.InDialogs.{whole_run}
 use Rattle.avr_tool.specs.Emulated.{IsSavedIfSent, RunsEmulator}
 use Rattle.avr_tool.specs.Headline.{IsRun, IsStopped, run}
 use Rattle.avr_tool.specs.Holding.{LoadsLocked, LocksAndLoads}
@@ -198,7 +197,7 @@ sent_some : (plan : Plan) (old new : DeskState) (link : LinkState) (status : ℕ
     → RunsSession plan (devices new_link old) (devices link new) status → status ≡ 0
     → sent link.transcript ≡ [] → ⊥
 sent_some plan old new link status (inl (after, ran)) zero none =
-    let first = signs_on plan (heard ran.during ++ []) in let plays = whole_run ran.plays [] in search rules
+    let first = signs_on plan (heard ran.during ++ []) in let plays = ran.plays.plays [] in search rules
 sent_some plan old new link status (inr (stopped, one)) zero none = omega (arith, one, zero)
 
 -- ---- a run over the network: a connection to `here:1` was made

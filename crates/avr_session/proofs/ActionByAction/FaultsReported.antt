@@ -12,7 +12,6 @@ use Rattle.stk_host.specs.Tape.{Tape, Reading, on_tape, answer}
 use Rattle.stk_host.specs.Play.{Progress}
 use Rattle.stk_host.specs.Transcript.{heard}
 use Rattle.stk_host.specs.Dialog.{Dialog, Done, Emit, Ask, ◌>>=◌, lifted, Event, Emitted, Played, played, continue_with_reading, next, outputs}
-use Rattle.stk_host.proofs.Transcripts.InDialogs.{whole_run}
 use Rattle.avr_desk.specs.OutputEvents.{OutputEvent, PrintsLine}
 use Rattle.avr_session.specs.Standing.{Standing, NoFault}
 use Rattle.avr_session.specs.Actions.{Action, OpenSession}
@@ -86,8 +85,7 @@ pub fault_reported : {dialog : Dialog OutputEvent Standing} {m n : Progress} {o 
     → ReportsFault dialog → (ran : RanWhole dialog m o p standing n) → reports_fault (outputs ran.events)
     ≡ has_fault standing
 fault_reported {dialog = dialog} {m = m} f ran =
-    subst (λ (p : Played OutputEvent Standing). Ends FaultAsInState (outputs p.events) p.outcome)
-    (whole_run ran.plays [])
+    subst (λ (p : Played OutputEvent Standing). Ends FaultAsInState (outputs p.events) p.outcome) (ran.plays.plays [])
     (along_play FaultAsInState dialog m.next (on_tape m.unread ++ (heard ran.during ++ [])) f)
 
 -- It holds of two dialogs in order, the second of which a fault skips, if it holds of each.

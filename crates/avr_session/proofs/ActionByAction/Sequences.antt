@@ -14,7 +14,7 @@ use Rattle.stk_host.specs.State.{HostState}
 use Rattle.stk_host.specs.Play.{Progress}
 use Rattle.stk_host.specs.Transcript.{LinkState, heard}
 use Rattle.stk_host.specs.Tape.{Tape, on_tape}
-use Rattle.stk_host.proofs.Transcripts.InDialogs.{followed, played_bind, whole_run}
+use Rattle.stk_host.proofs.Transcripts.InDialogs.{followed, played_bind}
 use Rattle.stk_host.proofs.Transcripts.Laws.{got_append}
 use Rattle.std.specs.Result.{result_and}
 use Rattle.stk_host.specs.Calls.{Calls}
@@ -199,7 +199,7 @@ taking_then : (part : Part) (s : Switches) (xs ys : List Action) {m n : Progress
 taking_then part s xs ys {m = m} {n = n} ran during shown at =
     let tape : Tape = on_tape m.unread ++ heard (ran.during ++ during) in
     let first = ap (λ (t : Tape). played (actions_dialog part s xs) m.next (on_tape m.unread ++ t))
-    (got_append ran.during during) ∙ whole_run ran.plays (heard during) in
+    (got_append ran.during during) ∙ ran.plays.plays (heard during) in
     record {
       done = xs ++ at.done;
       due = at.due;

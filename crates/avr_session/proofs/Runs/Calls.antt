@@ -9,9 +9,10 @@ use Rattle.stk_host.specs.declared.fault.HostFault.TheVariants.{SendFailed, Recv
 use Rattle.stk_host.specs.Tape.{Tape, on_tape}
 use Rattle.stk_host.specs.Transcript.{Transcript, LinkState, NoneTaken, Grows, heard, sent}
 use Rattle.stk_host.specs.Dialog.{Dialog, Done, ◌>>=◌, lifted, Event, Emitted, Played, played, bytes_sent, outputs}
-use Rattle.stk_host.specs.Play.{Progress, InTurn, played_over, RunsOverLink, BreaksOverLink, TranscriptLeads}
+use Rattle.stk_host.specs.Play.{Progress, InTurn, played_over, RunsOverLink, BreaksOverLink}
+use Rattle.stk_host.specs.Reach.{TranscriptLeads}
 use Rattle.stk_host.proofs.Transcripts.Laws.{grows_none, grows_on}
-use Rattle.stk_host.proofs.Transcripts.InDialogs.{continued, played_bind, leads_here, leads_on, leads_bind, leads_emit, breaks_on, breaks_bind}
+use Rattle.stk_host.proofs.Transcripts.InDialogs.{continued, played_bind, leads_here, leads_on, leads_bind, leads_emit, leads_from, breaks_on, breaks_bind}
 use Rattle.stk_host.proofs.Dialogs.Lifted.{raised, plays_lifted, by_lifted, outputs_raised}
 use Rattle.stk_host.proofs.Transcripts.Laws.{got_append}
 use Rattle.avr_desk.specs.OutputEvents.{OutputEvent, IsPartOfEvent, after_events}
@@ -115,7 +116,7 @@ came_of f leads = came f.during f.events f.grows leads f.few f.kept f.sound
 -- If a call came to a point and ran whole from there, it ran whole.
 pub ran_on : {R : Type 0} {x y : Point R} {q : Devices} {result : R} {n : Progress} → Came x y
     → RanWhole y.left y.progress_at y.devices q result n → RanWhole x.left x.progress_at x.devices q result n
-ran_on f ran = ran_from (came_on f (came_of ran ran.plays))
+ran_on f ran = ran_from (came_on f (came_of ran (leads_from ran.plays)))
 
 -- ---- a dialog that broke off
 
@@ -278,13 +279,13 @@ module _ {A R : Type 0} (go_on : A → Dialog OutputEvent R) where
       → RunsOverLink dialog m o p result n → length n.unread ≤ 281
       → Came (point (lifted dialog >>= go_on) m (devices o d)) (point (go_on result) n (devices p d))
   came_lifted d f few =
-      came f.during (raised f.events) f.grows (leads_bind go_on (plays_lifted f.leads)) (λ _. few)
+      came f.during (raised f.events) f.grows (leads_bind go_on (leads_from (plays_lifted f.plays))) (λ _. few)
       (rw (outputs_raised f.events) (kept_none d.kept)) (f.sound, same_here d)
 
   -- If the first part of a dialog ran whole, the call has come to what follows it.
   unfoldable pub came_part : {a : Dialog OutputEvent A} {m n : Progress} {o p : Devices} {result : A}
       → RanWhole a m o p result n → Came (point (a >>= go_on) m o) (point (go_on result) n p)
-  came_part f = came_of f (leads_bind go_on f.plays)
+  came_part f = came_of f (leads_bind go_on (leads_from f.plays))
 
   -- If the first part of a dialog broke off, the dialog did.
   pub broke_part : {a : Dialog OutputEvent A} {m : Progress} {o p : Devices} {some all : Terms}

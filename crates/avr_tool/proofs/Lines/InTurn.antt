@@ -11,7 +11,7 @@ use Rattle.stk_host.specs.Tape.{Tape, Reading, answer, on_tape}
 use Rattle.stk_host.specs.Transcript.{Transcript, Sent, Taken, Got, sent, heard}
 use Rattle.stk_host.specs.Dialog.{Dialog, Done, Emit, Ask, Event, Frame, Emitted, Played, played, continue_with_reading, next, bytes_sent, outputs, frames_in}
 use Rattle.stk_host.specs.Play.{Progress, progress_at, IsDueToListen, InTurnFrom, InTurn, Plays, IsPrefixOfEvents, IsPartOfFirst, IsBytePrefixOf}
-use Rattle.stk_host.proofs.Transcripts.InDialogs.{bytes_append, whole_run}
+use Rattle.stk_host.proofs.Transcripts.InDialogs.{bytes_append}
 use Rattle.stk_host.proofs.Transcripts.Laws.{not_behind}
 use Rattle.stk_emu.specs.declared.fate.Fate.{Fate}
 use Rattle.stk_emu.specs.Programmer.{Programmer}
@@ -186,7 +186,7 @@ module _ {E R : Type 0} (d : Dialog E R) (n : ℕ) (p : Programmer) (fates : Lis
     -- The run over the tape is the run along the exchanges.
     over : played_along device count d n p (exchanges_of_fates fates) []
         ≡ record { events = events; outcome = Some (r, after.next, on_tape after.unread ++ w.waits) }
-    over = search (rules, goes_along, never_idle, whole_run plays w.waits)
+    over = search (rules, goes_along, never_idle)
 
     -- Its output is the same.
     pub whole_emitted : outputs events ≡ outputs_after device count d p (exchanges_of_fates fates)

@@ -17,7 +17,6 @@ use Rattle.stk_host.specs.Dialog.{Event, Played, Emitted, played, prepend_events
 use Rattle.stk_host.specs.Transcript.{LinkState, Transcript, heard, Grows}
 use Rattle.stk_host.specs.Tape.{Tape}
 use Rattle.stk_host.proofs.Transcripts.Laws.{grows_none}
-use Rattle.stk_host.proofs.Transcripts.InDialogs.{whole_run}
 use Rattle.avr_session.specs.Run.{RunsSession, RunsSettings, StopsSession, WithPlan}
 use Rattle.avr_session.specs.Runs.{Devices, devices, Cause, StopsAt, NotWritten, FileFailed, ReportsCause, cause_line}
 use Rattle.avr_session.specs.Session.{session}
@@ -61,7 +60,7 @@ ran_whole settings plan x y between status went whole =
       events = map Emitted went.output_events ++ ran.events;
       next = whole.0.next;
       left = whole.0.unread;
-      is = search (rules, whole_run ran.plays);
+      is = search rules;
       in_turn = search rules;
       all_sent = emitted_bytes went.output_events ran.events ∙ ran.plays.all_sent;
       grows = ran.grows;

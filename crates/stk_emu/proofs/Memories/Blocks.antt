@@ -3,14 +3,12 @@ use Rattle.std.proofs.Common.{true, ◌≡◌, ℕ, suc, ◌+◌, ◌<◌, Bool,
 use Rattle.avr_part.specs.State.{ChipState, spi_of}
 use Rattle.stk_emu.specs.Programmer.{Programmer, if_programming, with_address_moved, with_instructions, after_instructions, flash_loads, flash_reads, eeprom_reads, extension, at_address, for_half, word_at, byte_address}
 
--- The chip after joined instructions is that after the second ones, from the first ones on.
 pub sent-append : (xs ys : List (List ℕ)) (chip : ChipState) → after_instructions (xs ++ ys) chip
     ≡ after_instructions ys (after_instructions xs chip)
 sent-append [] ys chip = refl
 sent-append (x ∷ xs) ys chip = sent-append xs ys ((spi_of x chip).1)
 
 module _ (wide : Bool) (cmd address i : ℕ) where
-  -- After one more byte was loaded, the loads that are left lead to the same chip.
   pub flash_load : (bytes out : List ℕ) (chip after whole : ChipState) → i < length bytes
       → after_instructions (flash_loads wide cmd address i (drop i bytes)) chip ≡ whole
       → (out, after) ≡ spi_of (at_address (for_half cmd i) (word_at address i) (get_or bytes i 0))
@@ -18,7 +16,6 @@ module _ (wide : Bool) (cmd address i : ℕ) where
       → after_instructions (flash_loads wide cmd address (i + 1) (drop (i + 1) bytes)) after ≡ whole
   flash_load bytes out chip after whole h so_far spi = search (rules, drop-cons, sent-append)
 
--- What was read so far and what is left to read are all that is to be read.
 pub record LooksOn (before : List ℕ) (whole : List ℕ × ChipState) (out : List ℕ) (more : List ℕ × ChipState) : Type
     0 where
   pub bytes : out ++ more.0 ≡ before ++ whole.0
@@ -31,7 +28,6 @@ pub record PutsLook (x : List ℕ) (chip after : ChipState) (out new : List ℕ)
   pub put : new ≡ out ++ get_or spi_out 3 0 ∷ []
 
 module _ (before : List ℕ) (whole : List ℕ × ChipState) (cmd address i : ℕ) where
-  -- After one more byte of flash was read, the rest is left; below, of EEPROM.
   pub flash_look : (wide : Bool) (n m : ℕ) (chip after : ChipState) (out new : List ℕ) → n ≡ suc m
       → LooksOn before whole out (flash_reads wide cmd address i n chip)
       → PutsLook (at_address (for_half cmd i) (word_at address i) 0)

@@ -6,7 +6,7 @@ use Rattle.avr_part.specs.declared.instruction.Instruction.TheVariants.{LoadFlas
 use Rattle.avr_part.specs.Block.{half_at, loaded_one_by_one, read_one_by_one, load_block, flash_block, is_in_flash}
 use Rattle.avr_part.proofs.Blocks.{offset_at}
 use Rattle.stk_emu.specs.Programmer.{after_instructions, extension, flash_loads, flash_reads, word_at}
-use Rattle.stk_emu.proofs.Memories.BlocksRead.{bytes_read_by, look_byte}
+use Rattle.stk_emu.proofs.Memories.BlocksRead.{look_by, look_byte}
 
 -- a load and an extended address don't affect each other
 loads_apart : (word i x y : ℕ) (bytes : List ℕ) (s : chip.ChipState)
@@ -15,13 +15,11 @@ loads_apart : (word i x y : ℕ) (bytes : List ℕ) (s : chip.ChipState)
 loads_apart word i x y [] s = refl
 loads_apart word i x y (d ∷ ds) s = search (rules, loads_apart word (suc i) x y ds)
 
--- Loads without an extended address keep it.
 keeps_extended : (word i : ℕ) (bytes : List ℕ) (s : chip.ChipState)
     → (loaded_one_by_one word i bytes s).extended ≡ s.extended
 keeps_extended word i [] s = refl
 keeps_extended word i (d ∷ ds) s = search (rules, keeps_extended word (suc i) ds)
 
--- One load by its instructions loads one byte, and sets the extended address if it is used.
 one_load : (wide : Bool) (a i d : ℕ) (ds : List ℕ) (s : chip.ChipState)
     → after_instructions (flash_loads wide 0x40 a i (d ∷ ds)) s
     ≡ after_instructions (flash_loads wide 0x40 a (suc i) ds)
@@ -29,7 +27,6 @@ one_load : (wide : Bool) (a i d : ℕ) (ds : List ℕ) (s : chip.ChipState)
     { extended = cond wide (word_at a i / 65536 % 256) s.extended })
 one_load wide a i d ds s = search rules
 
--- So do all loads of a block.
 all_loads : (wide : Bool) (a i d : ℕ) (ds : List ℕ) (s : chip.ChipState)
     → after_instructions (flash_loads wide 0x40 a i (d ∷ ds)) s
     ≡ record (loaded_one_by_one (a % 256) i (d ∷ ds) s)
@@ -62,14 +59,12 @@ all_looks wide a i (suc n) s right few inside =
     let w = word_at a i in
     let page : w / 65536 % 256 ≡ a / 65536 % 256 = omega arith in
     let inner : w / 256 % 256 * 256 + w % 256 ≡ a % 65536 + i / 2 = search rules in
-    search (rules, look_byte, offset_at, bytes_read_by, all_looks wide a (suc i) n s right few (omega arith))
+    search (rules, look_byte, offset_at, look_by, all_looks wide a (suc i) n s right few (omega arith))
 
--- Reading sends the extended address itself, so sending it before changes nothing.
 looks_again : (wide : Bool) (cmd a n : ℕ) (s new : chip.ChipState) → a < 2147483648 → 0 < n
     → new ≡ after_instructions (extension wide a) s → flash_reads wide cmd a 0 n new ≡ flash_reads wide cmd a 0 n s
 looks_again wide cmd a n s new few some ext = search rules
 
--- A block that was read at once has the bytes that its instructions read.
 pub block_is_looks : (wide : Bool) (cmd a word n : ℕ) (bytes : List ℕ) (s new : chip.ChipState) → cmd ≡ 0x20
     → a < 2147483648 → 0 < n → word ≡ a % 65536 → new ≡ after_instructions (extension wide a) s
     → Some bytes ≡ flash_block word n new → flash_reads wide cmd a 0 n s ≡ (bytes, new)
@@ -78,12 +73,10 @@ block_is_looks wide cmd a word n bytes s new c few some w ext given =
     let right : cond wide (a / 65536 % 256) new.extended ≡ new.extended = search rules in
     search (rules, ← looks_again wide 0x20 a n s new few some ext, all_looks)
 
--- As many bytes are read as were asked for.
 reads_length : (word i n : ℕ) (s : chip.ChipState) → length (read_one_by_one word i n s) ≡ n
 reads_length word i zero s = refl
 reads_length word i (suc n) s = ap suc (reads_length word (suc i) n s)
 
--- The same of a block that was read at once.
 pub block_length : (word n : ℕ) (bytes : List ℕ) (s : chip.ChipState) → Some bytes ≡ flash_block word n s
     → length bytes ≡ n
 block_length word n bytes s given = search (rules, reads_length)

@@ -9,12 +9,11 @@ use Rattle.stk_emu.specs.Programmer.{after_instructions, extension, flash_reads,
 use Rattle.stk_emu.proofs.Memories.Pages.{extended_is}
 
 -- the bytes read after an instruction whose output is known
-pub bytes_read_by : (x : List ℕ) (s : chip.ChipState) {got : List ℕ × chip.ChipState}
+pub look_by : (x : List ℕ) (s : chip.ChipState) {got : List ℕ × chip.ChipState}
     (more : chip.ChipState → List ℕ × chip.ChipState) → chip.spi_of x s ≡ got
     → read_then x s more ≡ (slice_index got.0 3 ∷ (more got.1).0, (more got.1).1)
-bytes_read_by x s more e = ap (λ (z : List ℕ × chip.ChipState). (slice_index z.0 3 ∷ (more z.1).0, (more z.1).1)) e
+look_by x s more e = ap (λ (z : List ℕ × chip.ChipState). (slice_index z.0 3 ∷ (more z.1).0, (more z.1).1)) e
 
--- The fourth output byte of a reading instruction is the byte of flash at its address.
 pub look_byte : (i h lo : ℕ) (s : chip.ChipState) → chip.spi_of (for_half 0x20 i ∷ h ∷ lo ∷ 0 ∷ []) s ≡ (
   0 ∷ for_half 0x20 i ∷ h ∷ get_or s.flash
       ((s.extended * 65536 + (h * 256 + lo)) % (s.part.flash_size / 2) * 2 + i % 2) 0 ∷ [],
@@ -36,7 +35,6 @@ flash_place : (wide : Bool) (a i size : ℕ) (s : chip.ChipState) → s.part.fla
     (s.part.flash_size / 2) * 2 + i % 2 ≡ a * 2 + i
 flash_place wide a i size s is few low_enough inside narrow = search (rules, mod-eq_of_lt)
 
--- A block of flash is read, if it lies inside the memory.
 pub flash_looked : (wide : Bool) (a i n size : ℕ) (s : chip.ChipState) → s.part.flash_size ≡ size
     → length s.flash ≡ size → size ≤ 262144 → size % 2 ≡ 0 → a * 2 + i + n ≤ size
     → (wide ≡ false → (s.extended ≡ 0) × (size ≤ 131072))
@@ -55,12 +53,10 @@ flash_looked wide a i (suc n) size s is long most even fits narrow =
     ≡ (byte ∷ (flash_reads wide 0x20 a (suc i) n s₁).0, (flash_reads wide 0x20 a (suc i) n s₁).1) =
     search (rules, extended_is, look_byte, place) in grind (arith, common_steps)
 
--- The place of an address's byte in EEPROM.
 eeprom_place : (a i size : ℕ) (s : chip.ChipState) → s.part.eeprom_size ≡ size → a + i < size → size ≤ 4096
     → (byte_address a i / 256 % 256 * 256 + byte_address a i % 256) % s.part.eeprom_size ≡ a + i
 eeprom_place a i size s is inside most = search rules
 
--- A block of EEPROM is read, if it lies inside the memory. The chip stays the same.
 pub eeprom_looked : (a i n size : ℕ) (s : chip.ChipState) → s.part.eeprom_size ≡ size → length s.eeprom ≡ size
     → size ≤ 4096 → a + i + n ≤ size → eeprom_reads 0xA0 a i n s ≡ (take n (drop (a + i) s.eeprom), s)
 eeprom_looked a i zero size s is long most fits = refl
@@ -75,7 +71,6 @@ pub record Left (wide : Bool) (s t : chip.ChipState) : Type 0 where
   pub kept : wide ≡ false → value ≡ s.extended
   pub is : t ≡ record s { extended = value }
 
--- A block of flash at any address leaves the chip with some extended address.
 pub flash_left : (wide : Bool) (a i n : ℕ) (s : chip.ChipState) → Left wide s (flash_reads wide 0x20 a i n s).1
 flash_left wide a i zero s = record { value = s.extended; kept = λ e. refl; is = refl }
 flash_left wide a i (suc n) s =
@@ -83,7 +78,6 @@ flash_left wide a i (suc n) s =
     let more : Left wide s₁ (flash_reads wide 0x20 a (suc i) n s₁).1 = flash_left wide a (suc i) n s₁ in
     search (rules, extended_is, look_byte)
 
--- A block of EEPROM at any address leaves the chip as it was.
 pub eeprom_left : (a i n : ℕ) (s : chip.ChipState) → (eeprom_reads 0xA0 a i n s).1 ≡ s
 eeprom_left a i zero s = refl
 eeprom_left a i (suc n) s = eeprom_left a (suc i) n s

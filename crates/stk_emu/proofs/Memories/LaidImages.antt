@@ -8,7 +8,6 @@ use Rattle.avr_part.proofs.Changes.{changed_is}
 use Rattle.stk_emu.specs.Effect.{Image, with_image, and_in, and_with}
 use Rattle.stk_emu.specs.WriteOperations.{image_at}
 
--- A memory keeps its size if an image is laid over it; below, if it is ANDed with one.
 pub length-laid : (image : Image) (xs : List ℕ) → length (with_image image xs) ≡ length xs
 length-laid image [] = refl
 length-laid [] (x ∷ xs) = refl
@@ -19,7 +18,6 @@ length-and_in image [] = refl
 length-and_in [] (x ∷ xs) = refl
 length-and_in (b ∷ image) (x ∷ xs) = ap suc (length-and_in image xs)
 
--- At each address the byte is the image's, or the memory's in a gap.
 pub get_laid : (image : Image) (xs : List ℕ) (i : ℕ) → i < length xs
     → get_or (with_image image xs) i 0 ≡ unwrap_or (get_or image i None) (get_or xs i 0)
 get_laid image [] i l = absurd (omega arith)
@@ -27,7 +25,6 @@ get_laid [] (x ∷ xs) i l = refl
 get_laid (b ∷ image) (x ∷ xs) zero l = refl
 get_laid (b ∷ image) (x ∷ xs) (suc i) l = get_laid image xs i (omega arith)
 
--- At each address the byte is ANDed with the image's.
 pub get_and_in : (image : Image) (xs : List ℕ) (i : ℕ) → i < length xs
     → get_or (and_in image xs) i 0 ≡ and_with (get_or image i None) (get_or xs i 0)
 get_and_in image [] i l = absurd (omega arith)
@@ -35,13 +32,11 @@ get_and_in [] (x ∷ xs) i l = refl
 get_and_in (b ∷ image) (x ∷ xs) zero l = refl
 get_and_in (b ∷ image) (x ∷ xs) (suc i) l = get_and_in image xs i (omega arith)
 
--- An image that is laid over a memory twice is laid over it once.
 pub laid_twice : (image : Image) (xs : List ℕ) → with_image image (with_image image xs) ≡ with_image image xs
 laid_twice image [] = refl
 laid_twice [] (x ∷ xs) = refl
 laid_twice (b ∷ image) (x ∷ xs) = ap₂ (λ y ys. y ∷ ys) (search rules) (laid_twice image xs)
 
--- ANDing with a byte twice is ANDing with it once; below, with an image.
 pub and_byte : (b : Option ℕ) (x : ℕ) → and_with b (and_with b x) ≡ and_with b x
 and_byte b x = grind (arith, common_steps, and_assoc)
 
@@ -56,23 +51,19 @@ nothing_laid k [] = refl
 nothing_laid zero (x ∷ xs) = refl
 nothing_laid (suc k) (x ∷ xs) = ap (λ ys. x ∷ ys) (nothing_laid k xs)
 
--- So an image with gaps after it does what it does without them.
 laid_nothing : (image : Image) (k : ℕ) (xs : List ℕ) → with_image (image ++ replicate k None) xs ≡ with_image image xs
 laid_nothing image k [] = refl
 laid_nothing [] k (x ∷ xs) = nothing_laid k (x ∷ xs)
 laid_nothing (b ∷ image) k (x ∷ xs) = ap (λ ys. unwrap_or b x ∷ ys) (laid_nothing image k xs)
 
 -- the bytes loaded for a page, laid over a memory
--- Before the place at which bytes are loaded there is a gap.
 pub before_part : (start : ℕ) (loads : Image) (i : ℕ) → i < start → get_or (replicate start None ++ loads) i None ≡ None
 before_part start loads i l = search (rules, get_or_append_left, length-replicate, get_or-replicate)
 
--- From that place on the image has the loaded bytes.
 pub in_part : (start : ℕ) (loads : Image) (i : ℕ) → start ≤ i
     → get_or (replicate start None ++ loads) i None ≡ get_or loads (i - start) None
 in_part start loads i l = search (rules, get_or-append_right, length-replicate)
 
--- Overlaying loaded bytes is laying their image over the memory.
 pub overlaid_laid : (start : ℕ) (loads : Image) (xs : List ℕ)
     → map_indexed_from 0 (overlaid_byte start loads) xs ≡ with_image (replicate start None ++ loads) xs
 overlaid_laid start loads xs =
@@ -80,11 +71,9 @@ overlaid_laid start loads xs =
     (length-laid (replicate start None ++ loads) xs)
     (λ i l. search (rules, get_laid, before_part, in_part, get_or_past)))
 
--- A page as an image holds each byte of the page.
 pub some_at : (page : List ℕ) (j : ℕ) → j < length page → get_or (map Some page) j None ≡ Some (get_or page j 0)
 some_at page j l = get_or-map Some page j 0 None l
 
--- ANDing a page into flash is ANDing its image.
 pub anded_in : (start : ℕ) (page xs : List ℕ)
     → map_indexed_from 0 (byte_and_page start page) xs ≡ and_in (image_at start page) xs
 anded_in start page xs =
@@ -93,13 +82,12 @@ anded_in start page xs =
     (λ i l. search (rules, get_and_in, before_part, in_part, some_at, get_or_past, length-map)))
 
 -- a buffer into which bytes are loaded from one place on
-abbrev pub put_bytes : {A : Type 0} → (ℕ → A) → ℕ → List ℕ → List A → List A
-put_bytes f place [] buffer = buffer
-put_bytes f place (d ∷ ds) buffer = put_bytes f (suc place) ds (set buffer place (f d))
+abbrev pub put : {A : Type 0} → (ℕ → A) → ℕ → List ℕ → List A → List A
+put f place [] buffer = buffer
+put f place (d ∷ ds) buffer = put f (suc place) ds (set buffer place (f d))
 
--- Bytes put into an empty buffer are there, between what was before and the rest of the buffer.
 pub put_is : {A : Type 0} (f : ℕ → A) (e : A) (ds : List ℕ) (prefix : List A) (place k : ℕ) → length prefix ≡ place
-    → put_bytes f place ds (prefix ++ replicate (length ds + k) e) ≡ prefix ++ (map f ds ++ replicate k e)
+    → put f place ds (prefix ++ replicate (length ds + k) e) ≡ prefix ++ (map f ds ++ replicate k e)
 put_is f e [] prefix place k at = ap (λ n. prefix ++ replicate n e) (omega arith)
 put_is f e (d ∷ ds) prefix place k at =
     let count : suc (length ds) + k ≡ suc (length ds + k) = omega arith in
@@ -107,19 +95,18 @@ put_is f e (d ∷ ds) prefix place k at =
 
 -- the bytes loaded for a run within a page, laid over a memory
 pub run_laid : (start off : ℕ) (run : List ℕ) (page : ℕ) (xs : List ℕ) → off + length run ≤ page
-    → map_indexed_from 0 (overlaid_byte start (put_bytes Some off run (replicate page None))) xs
+    → map_indexed_from 0 (overlaid_byte start (put Some off run (replicate page None))) xs
     ≡ with_image (image_at (start + off) run) xs
 run_laid start off run page xs fits =
-    let buffer : put_bytes Some off run (replicate page None)
+    let buffer : put Some off run (replicate page None)
     ≡ replicate off None ++ (map Some run ++ replicate (page - (off + length run)) None) =
-    ap (put_bytes Some off run) (search (rules, replicate-append-replicate))
+    ap (put Some off run) (search (rules, replicate-append-replicate))
     ∙ put_is Some None run (replicate off None) off (page - (off + length run))
     (length-replicate {A = Option ℕ} off None) in
     rw (buffer, overlaid_laid, ← append_assoc, ← append_assoc, replicate-append-replicate {A = Option ℕ} start off None)
     (laid_nothing (image_at (start + off) run) (page - (off + length run)) xs)
 
--- The buffer keeps its size.
 pub length_put : {A : Type 0} (f : ℕ → A) (place : ℕ) (ds : List ℕ) (buffer : List A)
-    → length (put_bytes f place ds buffer) ≡ length buffer
+    → length (put f place ds buffer) ≡ length buffer
 length_put f place [] buffer = refl
 length_put f place (d ∷ ds) buffer = search (rules, length_put f (suc place) ds (set buffer place (f d)))

@@ -17,10 +17,10 @@ use Rattle.stk_emu.specs.Programmer.{Programmer, after_instructions, extension, 
 use Rattle.stk_emu.specs.Device.{device}
 use Rattle.avr_part.specs.declared.part.Mem.TheVariants.{Flash}
 use Rattle.stk_emu.specs.Effect.{Memories, Write, and_in, effects}
-use Rattle.stk_emu.specs.Settled.{Ready}
+use Rattle.stk_emu.specs.Settled.{Ready, NeedsNoExtendedAddress}
 use Rattle.stk_emu.specs.WriteOperations.{image_at, memories_after_step, IsPage}
 use Rattle.stk_emu.proofs.Memories.Blocks.{sent-append}
-use Rattle.stk_emu.proofs.Memories.LaidImages.{put_bytes, put_is, anded_in}
+use Rattle.stk_emu.proofs.Memories.LaidImages.{put, put_is, anded_in}
 
 -- whether the part needs the extended address
 abbrev pub is_wide : Part → Bool
@@ -44,12 +44,10 @@ pub flash_address_back : (part : Part) (start : ℕ) → start < 4294967296 → 
     → flash_address part start % 2147483648 * 2 ≡ start
 flash_address_back part start few even = search rules
 
--- Sending the extended address sets it, if it is used.
 pub extended_is : (wide : Bool) (a : ℕ) (s : chip.ChipState)
     → after_instructions (extension wide a) s ≡ record s { extended = cond wide (a / 65536 % 256) s.extended }
 extended_is wide a s = search rules
 
--- A loading instruction puts one byte into the page buffer.
 pub load_byte : (i h lo d : ℕ) (s : chip.ChipState) → (chip.spi_of (for_half 0x40 i ∷ h ∷ lo ∷ d ∷ []) s).1
     ≡ record s { flash_buffer = set s.flash_buffer (lo % (s.part.flash_page / 2) * 2 + i % 2) d }
 load_byte i h lo d s = search rules
@@ -58,9 +56,8 @@ load_byte i h lo d s = search rules
 record Loaded (wide : Bool) (i : ℕ) (ds : List ℕ) (s t : chip.ChipState) : Type 0 where
   value : ℕ
   kept : wide ≡ false → value ≡ s.extended
-  is : t ≡ record s { flash_buffer = put_bytes (λ d. d) i ds s.flash_buffer; extended = value }
+  is : t ≡ record s { flash_buffer = put (λ d. d) i ds s.flash_buffer; extended = value }
 
--- All bytes of a block are loaded, if their places in the buffer are theirs in the block.
 flash_loaded : (wide : Bool) (a i half : ℕ) (ds : List ℕ) (s : chip.ChipState) → s.part.flash_page / 2 ≡ half
     → ((k : ℕ) → k < length ds → word_at a (i + k) % 256 % half * 2 + (i + k) % 2 ≡ i + k)
     → Loaded wide i ds s (after_instructions (flash_loads wide 0x40 a i ds) s)
@@ -100,7 +97,6 @@ flash_written : (wide : Bool) (s : chip.ChipState) (a start size page : ℕ) →
 flash_written wide s a start size page pe se few inside narrow at = search (rules, word_whole, mod-eq_of_lt)
 
 module _ (part : Part) (sound : IsPart part) where
-  -- The page was ANDed into flash, the buffer is empty, and some extended address is set.
   record Paged (n : ℕ) (page : List ℕ) (s t : chip.ChipState) : Type 0 where
     value : ℕ
     kept : is_wide part ≡ false → value ≡ s.extended
@@ -110,7 +106,6 @@ module _ (part : Part) (sound : IsPart part) where
       extended = value;
     }
 
-  -- The instructions of a page's block load the page and write it.
   page_chip : (s : chip.ChipState) (n : ℕ) (page : List ℕ) → s.part ≡ part
       → s.flash_buffer ≡ replicate part.flash_page 255 → (is_wide part ≡ false → s.extended ≡ 0) → IsPage part n page
       → Paged n page s (after_instructions (flash_loads (is_wide part) 0x40 (n * (part.flash_page / 2)) 0 page
@@ -123,17 +118,12 @@ module _ (part : Part) (sound : IsPart part) where
       let few : a < 16777216 = omega arith in
       let loads : Loaded wide 0 page s (after_instructions (flash_loads wide 0x40 a 0 page) s) =
       search (rules, flash_loaded, word_place) in
-      let t : chip.ChipState = record s {
-        flash_buffer = put_bytes
-            (λ d. d) 0 page s.flash_buffer;
-        extended = loads.value;
-      } in
-      let buffer : put_bytes (λ d. d) 0 page s.flash_buffer ≡ page =
-      ap (put_bytes (λ d. d) 0 page) (search rules)
+      let t : chip.ChipState = record s { flash_buffer = put (λ d. d) 0 page s.flash_buffer; extended = loads.value } in
+      let buffer : put (λ d. d) 0 page s.flash_buffer ≡ page =
+      ap (put (λ d. d) 0 page) (search rules)
       ∙ (put_is (λ d. d) 255 page [] 0 0 refl ∙ (append-nil (map (λ d. d) page) ∙ map-id page)) in
       search (rules, mul-div_cancel, flash_written, sent-append, anded_in)
     where
-      -- A part that needs no extended address has few words.
       small : is_wide part ≡ false → n * (part.flash_page / 2) < 65536
       small w = search (rules, ltb-false, words_twice)
 
@@ -143,7 +133,6 @@ module _ (part : Part) (sound : IsPart part) where
       ≡ effects part (Write Flash (image_at (n * part.flash_page) page) ∷ []) m
   page_changed n page m is_page = search (rules, page_even)
 
-  -- The step of a page does what writing the page's image does to the memories.
   pub page_does : (n : ℕ) (page : List ℕ) (m : Memories) (p : Programmer) → IsPage part n page → Ready part m p
       → Ready part (memories_after_step part (load_flash part (n * part.flash_page) ∷ program_page page ∷ []) m)
       (device.after (body (program_page page)) (device.after (body (load_flash part (n * part.flash_page))) p))

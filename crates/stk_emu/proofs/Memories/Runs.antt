@@ -16,7 +16,7 @@ use Rattle.stk_emu.specs.Effect.{Memories, with_image}
 use Rattle.stk_emu.specs.Settled.{Ready}
 use Rattle.stk_emu.specs.WriteOperations.{image_at, memories_after_step, FitsEepromPage}
 use Rattle.stk_emu.proofs.Memories.Blocks.{sent-append}
-use Rattle.stk_emu.proofs.Memories.LaidImages.{put_bytes, run_laid, length_put}
+use Rattle.stk_emu.proofs.Memories.LaidImages.{put, run_laid, length_put}
 use Rattle.stk_emu.proofs.Replies.Commands.{in_mode_is}
 
 -- a loaded address that needs no extended address
@@ -25,17 +25,15 @@ pub narrow_loaded : (address : ℕ) (p : Programmer) → address < 2147483648
 narrow_loaded address p few = search rules
 
 -- the place of byte k within a page that holds it
-place_in_page : (address page k : ℕ) → 256 % page ≡ 0 → 0 < page → address % page + k < page → address + k < 2147483648
+place_in : (address page k : ℕ) → 256 % page ≡ 0 → 0 < page → address % page + k < page → address + k < 2147483648
     → (address + k) % 2147483648 % 256 % page ≡ address % page + k
-place_in_page address page k whole some within few =
+place_in address page k whole some within few =
     let split : address + k ≡ address / page * page + (address % page + k) = search rules in
     search (rules, mod-eq_of_lt, mod-mod_of_dvd, dvd_of_mod-eq-zero, mod-mul-add)
 
--- All bytes of a run are loaded, one after the other.
 eeprom_loaded : (a i off page : ℕ) (ds : List ℕ) (s : chip.ChipState) → s.part.eeprom_page ≡ page
     → ((k : ℕ) → k < length ds → byte_address a (i + k) % 256 % page ≡ off + k)
-    → after_instructions (eeprom_loads 0xC1 a i ds) s ≡ record s
-    { eeprom_buffer = put_bytes Some off ds s.eeprom_buffer }
+    → after_instructions (eeprom_loads 0xC1 a i ds) s ≡ record s { eeprom_buffer = put Some off ds s.eeprom_buffer }
 eeprom_loaded a i off page [] s e each = refl
 eeprom_loaded a i off page (d ∷ ds) s e each =
     let here : byte_address a i % 256 % s.part.eeprom_page ≡ off = grind (arith, each 0) in
@@ -56,12 +54,11 @@ module _ (part : Part) (sound : IsPart part) where
   run_chip s a run e empty is_run =
       let size_is : s.part.eeprom_size ≡ part.eeprom_size = ap (λ (x : Part). x.eeprom_size) e in
       let off = a % part.eeprom_page in
-      let loaded = put_bytes Some off run s.eeprom_buffer in
+      let loaded = put Some off run s.eeprom_buffer in
       let loads : after_instructions (eeprom_loads 0xC1 a 0 run) s ≡ record s { eeprom_buffer = loaded } =
-      search (rules, eeprom_loaded, place_in_page) in
+      search (rules, eeprom_loaded, place_in) in
       search (rules, mod-eq_of_lt, run_laid, length_put, length-replicate, sent-append)
 
-  -- The step of a run does what writing the run's image does to the memories.
   pub run_does : (a : ℕ) (run : List ℕ) (m : Memories) (p : Programmer) → FitsEepromPage part a run → Ready part m p
       → Ready part (memories_after_step part (LoadAddress a ∷ program_eeprom_block run ∷ []) m)
       (device.after (body (program_eeprom_block run)) (device.after (body (LoadAddress a)) p))

@@ -9,20 +9,15 @@ use Rattle.stk_emu.specs.Programmer.{Programmer, Response, execute, execute_comm
 use Rattle.stk_emu.specs.Device.{Device, device}
 use Rattle.stk_emu.specs.Lawful.{IsFrameBody}
 
--- The reply to a body that fits a frame fits a frame.
 abbrev pub RepliesFitFrames : {P : Type 0} → Device P → Type 0
 RepliesFitFrames {P} m = (bytes : List ℕ) (p : P) → IsFrameBody bytes → IsFrameBody (m.reply bytes p)
 
--- A body of two bytes fits a frame.
-two_bytes_fit : (x y : ℕ) → IsFrameBody (x ∷ y ∷ [])
-two_bytes_fit x y = record { some = omega arith; few = omega arith }
+two : (x y : ℕ) → IsFrameBody (x ∷ y ∷ [])
+two x y = record { some = omega arith; few = omega arith }
 
--- If both of two replies fit a frame, so does the one that is chosen.
-chosen_fits : (b : Bool) (x y : Response) → (b ≡ true → IsFrameBody x.0) → IsFrameBody y.0 → IsFrameBody
-    (if b then x else y).0
-chosen_fits b x y f g = search rules
+when : (b : Bool) (x y : Response) → (b ≡ true → IsFrameBody x.0) → IsFrameBody y.0 → IsFrameBody (if b then x else y).0
+when b x y f g = search rules
 
--- As many bytes of flash are read as were asked for; below, of EEPROM.
 pub flash_length : (wide : Bool) (cmd address i n : ℕ) (chip : ChipState)
     → length (flash_reads wide cmd address i n chip).0 ≡ n
 flash_length wide cmd address i zero chip = refl
@@ -34,26 +29,21 @@ eeprom_length cmd address i zero chip = refl
 eeprom_length cmd address i (suc n) chip =
     search (rules, eeprom_length cmd address (suc i) n)
 
--- The reply with bytes of flash fits a frame; below, with bytes of EEPROM.
 flash_body : (f : ReadBlock) (p : Programmer) → IsFrameBody (read_flash f p).0
-flash_body f p = grind (arith, common_steps, and_parts, length-append, flash_length, two_bytes_fit)
+flash_body f p = grind (arith, common_steps, and_parts, length-append, flash_length, two)
 
 eeprom_body : (f : ReadBlock) (p : Programmer) → IsFrameBody (read_eeprom f p).0
-eeprom_body f p = grind (arith, common_steps, and_parts, length-append, eeprom_length, two_bytes_fit)
+eeprom_body f p = grind (arith, common_steps, and_parts, length-append, eeprom_length, two)
 
--- The reply to SPI_MULTI fits a frame.
 multi_body : (send receive start : ℕ) (bytes : List ℕ) (p : Programmer)
     → IsFrameBody (spi_multi send receive start bytes p).0
-multi_body send receive start bytes p = grind (arith, common_steps, chosen_fits, leb-true)
+multi_body send receive start bytes p = grind (arith, common_steps, when, leb-true)
 
--- The reply to each command fits a frame.
 command_body : (c : Command) (p : Programmer) → IsFrameBody (execute_command c p).0
 command_body c p = search (rules, flash_body, eeprom_body, multi_body)
 
--- So all replies of the emulated programmer fit frames.
 pub replies_fit_frames : RepliesFitFrames device
 replies_fit_frames bytes p b = search (rules, command_body)
 
--- The same of one reply.
 pub reply_fits_frame : (bytes : List ℕ) (p : Programmer) → IsFrameBody (execute bytes p).0
 reply_fits_frame bytes p = search (rules, command_body)

@@ -22,7 +22,6 @@ pub executes_command : (c : Command) (p : Programmer) → decoding.FieldsFit c �
 executes_command c p fits = rw (execute, read_back c fits) refl
 
 module _ {P : Type 0} (m : Device P) where
-  -- After no command the device is the same.
   pub executed_none : (i : ℕ) (p : P) → after_commands m i [] p ≡ p
   executed_none i p = search rules
 
@@ -41,27 +40,23 @@ module _ {P : Type 0} (m : Device P) where
       → ((p : P) → Before p ⊎ After p → (m.reset p ≡ p) ⊎ FailsAt m (λ q. Before q ⊎ After q) d (m.reset p))
       → IsRepeatable m (c ∷ d ∷ []) Before After
   two_fits c d Before After first first_again does again restart_keeps restart_keeps_after ends =
-      search (rules, prefixes, prefixes_again)
+      search (rules, prefixes, agains)
     where
-      -- Some of the two commands lead to either condition.
       prefixes : (p : P) (i : ℕ) → Before p → Before (after_commands m i (c ∷ d ∷ []) p)
           ⊎ After (after_commands m i (c ∷ d ∷ []) p)
       prefixes p zero b = inl b
       prefixes p (suc zero) b = inl (first p b)
       prefixes p (suc (suc i)) b = search (rules, executed_none)
 
-      -- Some of the two commands keep the second condition.
-      prefixes_again : (p : P) (i : ℕ) → After p → After (after_commands m i (c ∷ d ∷ []) p)
-      prefixes_again p zero a = a
-      prefixes_again p (suc zero) a = first_again p a
-      prefixes_again p (suc (suc i)) a = subst After (sym (executed_none i (m.after (body d) (m.after (body c) p))))
-          (again p a)
+      agains : (p : P) (i : ℕ) → After p → After (after_commands m i (c ∷ d ∷ []) p)
+      agains p zero a = a
+      agains p (suc zero) a = first_again p a
+      agains p (suc (suc i)) a = subst After (sym (executed_none i (m.after (body d) (m.after (body c) p)))) (again p a)
 
 -- the device, if it never restarts
 abbrev pub steady : Device Programmer
 steady = record { reply = device.reply; after = device.after; reset = λ p. p }
 
--- A step of one command on a programmer that doesn't restart; below, of two.
 pub one_steady : (c : Command) (Before After : Programmer → Type 0)
     → ((p : Programmer) → Before p → After (device.after (body c) p))
     → ((p : Programmer) → After p → After (device.after (body c) p)) → IsRepeatable steady (c ∷ []) Before After
@@ -81,7 +76,6 @@ pub in_mode_is : (p : Programmer) (x y : Response) → p.mode ≡ true → (cond
 in_mode_is p x y e = ap (λ z. z.1) (cond-true p.mode x y e)
 
 module _ (part : Part) where
-  -- A settled programmer has the memories.
   pub settled_idle : (m : Memories) (p : Programmer) → Settled part m p → HasMemories part m p
   settled_idle m p s = search (rules, length-replicate)
 
@@ -89,11 +83,9 @@ module _ (part : Part) where
   pub ready_settled : (m : Memories) (p : Programmer) → Ready part m p → Settled part m p
   ready_settled m p s = search rules
 
-  -- A settled programmer in programming mode is ready.
   pub settled_ready : (m : Memories) (p : Programmer) → p.mode ≡ true → Settled part m p → Ready part m p
   settled_ready m p mode s = search rules
 
-  -- A ready programmer has the memories.
   pub ready_idle : (m : Memories) (p : Programmer) → Ready part m p → HasMemories part m p
   ready_idle m p s = settled_idle m p (ready_settled m p s)
 
@@ -102,7 +94,6 @@ module _ (part : Part) where
       → HasMemories part m (device.reset p)
   restart_keeps_memories m p s = search (rules, length-replicate)
 
-  -- A settled programmer is settled after a restart.
   pub restart_is_settled : (m : Memories) (p : Programmer) → Settled part m p → Settled part m (device.reset p)
   restart_is_settled m p s = search (rules, settled_idle)
 
@@ -110,17 +101,14 @@ module _ (part : Part) where
   pub enter_does : (m : Memories) (p : Programmer) → HasMemories part m p → Ready part m (device.after (body enter) p)
   enter_does m p s = search rules
 
-  -- LEAVE_PROGMODE keeps the memories.
   pub leave_keeps : (m : Memories) (p : Programmer) → HasMemories part m p
       → HasMemories part m (device.after (body leave) p)
   leave_keeps m p s = search rules
 
-  -- LOAD_ADDRESS keeps a programmer ready, with the same memories.
   pub load_keeps : (address : ℕ) (m : Memories) (p : Programmer) → address < 2 ^ 32 → Ready part m p
       → Ready part m (device.after (body (LoadAddress address)) p)
   load_keeps address m p fits s = search rules
 
-  -- PROGRAM_FUSE does what the step of a fuse does to the memories; below, PROGRAM_LOCK with the lock.
   pub fuse_does : (f : Fuse) (v : ℕ) (m : Memories) (p : Programmer) → Ready part m p
       → Ready part (memories_after_step part (program_fuse f v ∷ []) m) (device.after (body (program_fuse f v)) p)
   fuse_does f v m p s = search rules
@@ -138,7 +126,6 @@ module _ (part : Part) where
 pub fuse_read_after : (f : Fuse) (p : Programmer) → p.mode ≡ true → device.after (body (read_fuse f)) p ≡ p
 fuse_read_after f p e = search rules
 
--- Nor does reading the lock change anything; below, the calibration.
 pub lock_read_after : (p : Programmer) → p.mode ≡ true → device.after (body read_lock) p ≡ p
 lock_read_after p e = in_mode_is p _ _ e
 

@@ -13,13 +13,11 @@ use Rattle.stk_emu.specs.Programmer.{Programmer}
 use Rattle.stk_emu.specs.Device.{Device, device, replies, after_frames, after_frame}
 use Rattle.stk_emu.specs.Emulator.{EmulatorState, WasFedText, RepliesToFrame, AppendsReplies, emulate}
 
--- The replies to joined frames are joined.
 pub replies_append : {P : Type 0} (m : Device P) (xs ys : List (List ℕ)) (p : P)
     → replies m (xs ++ ys) p ≡ replies m xs p ++ replies m ys (after_frames m xs p)
 replies_append m [] ys p = refl
 replies_append m (x ∷ xs) ys p = search (rules, append_assoc, replies_append m xs ys (after_frame m x p))
 
--- The device after joined frames is that after the second ones, from the first ones on.
 pub after_more : {P : Type 0} (m : Device P) (xs ys : List (List ℕ)) (p : P)
     → after_frames m (xs ++ ys) p ≡ after_frames m ys (after_frames m xs p)
 after_more m [] ys p = refl
@@ -30,7 +28,6 @@ pub found_frames : (event : Event) (held : List ℕ) → EventMatchesHeld event 
     → filter is_frame (frames_of_event event held) ≡ frames_of_event event held
 found_frames event held is_reported = search rules
 
--- An event reports at most one frame.
 pub found_few : (event : Event) (held : List ℕ) → length (frames_of_event event held) ≤ 1
 found_few event held = search rules
 
@@ -49,7 +46,6 @@ pub none_found : (event : Event) (held : List ℕ) (p : Programmer) → replies 
     → event ≡ More
 none_found event held p e = search rules
 
--- No bytes bring no reply.
 pub appends_none : (machine : EmulatorState) (before : List ℕ) → AppendsReplies machine [] machine before before
 appends_none machine before = search rules
 
@@ -64,7 +60,6 @@ pub appends_on : (bytes : List ℕ) (n used : ℕ) (old mid new : EmulatorState)
     → AppendsReplies old (take (n + used) bytes) new a c
 appends_on bytes n used old mid new a b c f then = search (rules, take-add, append_assoc, replies_append, after_more)
 
--- After more bytes the emulator was fed the longer text.
 pub appends_fed : (old new : EmulatorState) (bytes a b : List ℕ) (p : Programmer) (text : List ℕ)
     → AppendsReplies old bytes new a b → WasFedText p text old → WasFedText p (text ++ bytes) new
 appends_fed old new bytes a b p text appends f = search (rules, after_more)
@@ -75,13 +70,11 @@ pub appends_all : (old new : EmulatorState) (bytes a b : List ℕ) (p : Programm
     → given ++ b ≡ emulate p (text ++ bytes)
 appends_all old new bytes a b p text given appends f all = search (rules, append_assoc, replies_append)
 
--- The same after one call.
 pub is_fed : (old new : EmulatorState) (used out : List ℕ) (p : Programmer) (text : List ℕ)
     → RepliesToFrame old used new out → WasFedText p text old → WasFedText p (text ++ used) new
 is_fed old new used out p text a f =
     appends_fed old new used [] out p text (appends_one old new used out [] out a refl) f
 
--- The replies to the longer text are those before and the reply of this call.
 pub emulated : (old new : EmulatorState) (used out : List ℕ) (p : Programmer) (text : List ℕ)
     → RepliesToFrame old used new out → WasFedText p text old → emulate p (text ++ used) ≡ emulate p text ++ out
 emulated old new used out p text a f =

@@ -14,7 +14,6 @@ erases_all : effect m328p Erase (small 0xD9 0xFC)
     ≡ record (small 0xD9 0xFF) { flash = 0xFF ∷ 0xFF ∷ []; eeprom = 0xFF ∷ 0xFF ∷ [] }
 erases_all = refl
 
--- With EESAVE at 0 an erase keeps the EEPROM.
 keeps_eeprom : effect m328p Erase (small 0xD1 0xFC) ≡ record (small 0xD1 0xFF) { flash = 0xFF ∷ 0xFF ∷ [] }
 keeps_eeprom = refl
 
@@ -23,12 +22,10 @@ ands_flash : effect m328p (Write Flash (Some 0xF0 ∷ None ∷ [])) (small 0xD9 
     ≡ record (small 0xD9 0xFF) { flash = 0xF0 ∷ 0x0F ∷ [] }
 ands_flash = refl
 
--- A bit of flash that is 0 stays 0.
 ands_again : effect m328p (Write Flash (None ∷ Some 0xF1 ∷ [])) (small 0xD9 0xFF)
     ≡ record (small 0xD9 0xFF) { flash = 0xFF ∷ 0x01 ∷ [] }
 ands_again = refl
 
--- EEPROM takes the image's byte as it is.
 lays_eeprom : effect m328p (Write Eeprom (None ∷ Some 0xAA ∷ [])) (small 0xD9 0xFF)
     ≡ record (small 0xD9 0xFF) { eeprom = 0x12 ∷ 0xAA ∷ [] }
 lays_eeprom = refl
@@ -37,6 +34,5 @@ lays_eeprom = refl
 locked_stays : effect m328p (Write Eeprom (None ∷ Some 0xAA ∷ [])) (small 0xD9 0xFE) ≡ small 0xD9 0xFE
 locked_stays = refl
 
--- A locked chip takes zeros of the lock.
 lock_takes_zeros : effect m328p (Write Lock (Some 0xFD ∷ [])) (small 0xD9 0xFE) ≡ small 0xD9 0xFC
 lock_takes_zeros = refl

@@ -16,36 +16,28 @@ use Rattle.stk_emu.specs.declared.arrival.TheConstants.{ROOM}
 pub limits : (LARGEST_READ ≡ 272) × (LARGEST_NOISE ≡ 2048) × (ROOM ≡ 2891)
 limits = (refl, refl, refl)
 
--- A part with small memories.
 abbrev pub small : Part
 small = record m328p { id = []; flash_size = 16; flash_page = 8; eeprom_size = 8 }
 
--- A programmer with a blank chip of this part.
 abbrev pub start : Programmer
 start = fresh_programmer (fresh_state small)
 
--- The programmer after this body.
 abbrev behind : List ℕ → Programmer → Programmer
 behind bytes p = (execute bytes p).1
 
--- The programmer in programming mode.
 abbrev entered : Programmer
 entered = behind (body enter) start
 
--- SPI_MULTI fails outside programming mode.
 pub multi_outside : (execute (0x1D ∷ 0x04 ∷ 0x04 ∷ 0x00 ∷ 0x30 ∷ 0x00 ∷ 0x01 ∷ 0x00 ∷ []) start).0 ≡ 0x1D ∷ 0xC0 ∷ []
 multi_outside = refl
 
--- PROGRAM_FUSE fails if its instruction has three bytes.
 pub short_fuse : (execute (0x17 ∷ 0xAC ∷ 0xA0 ∷ 0x00 ∷ []) entered).0 ≡ 0x17 ∷ 0xC0 ∷ []
 short_fuse = refl
 
--- ENTER_PROGMODE fails if byte 5 is to be polled, because an instruction shifts out four.
 pub poll_above_four : (execute (0x10 ∷ 0xC8 ∷ 0x64 ∷ 0x19 ∷ 0x20 ∷ 0x00 ∷ 0x53 ∷ 0x05 ∷ 0xAC ∷ 0x53 ∷ 0x00 ∷ 0x00 ∷ [])
     start).0 ≡ 0x10 ∷ 0xC0 ∷ []
 poll_above_four = refl
 
--- Address 0 is loaded.
 abbrev loaded : Programmer
 loaded = behind (0x06 ∷ 0x00 ∷ 0x00 ∷ 0x00 ∷ 0x00 ∷ []) entered
 

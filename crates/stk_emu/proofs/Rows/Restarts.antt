@@ -11,12 +11,12 @@ use Rattle.stk_emu.specs.Device.{device}
 use Rattle.stk_emu.proofs.Repeatable.{Unbroken}
 
 -- after a restart a read fails, so the attempt ends
-attempt_ends : Unbroken device (λ p. ⊤) (LoadAddress 0 ∷ read_lock ∷ [])
-attempt_ends = (λ p t. inr (record { none = λ bytes e. cc; stands = tt }), tt)
+ends : Unbroken device (λ p. ⊤) (LoadAddress 0 ∷ read_lock ∷ [])
+ends = (λ p t. inr (record { none = λ bytes e. cc; stands = tt }), tt)
 
 -- LOAD_ADDRESS succeeds, so an attempt with two of them would go on
-attempt_goes_on : Unbroken device (λ p. ⊤) (LoadAddress 0 ∷ LoadAddress 0 ∷ []) → ⊥
-attempt_goes_on unbroken =
+goes_on : Unbroken device (λ p. ⊤) (LoadAddress 0 ∷ LoadAddress 0 ∷ []) → ⊥
+goes_on unbroken =
     elim (unbroken.0 (record (fresh_programmer (fresh_state m328p)) { mode = true }) tt) [
       | inl same ↦ false≢true (ap (λ (p : Programmer). p.mode) same)
       | inr fails ↦ fails.none [] refl

@@ -16,7 +16,6 @@ use Rattle.stk_emu.specs.Wire.{IsLawfulFate, first_fate, exchange_of_fate, broug
 use Rattle.stk_emu.specs.Lawful.{IsLawful, IsFrameBody, Late, no_late_replies, waiting, later, IsEmptyOrEarlier, NoneHasNumber}
 use Rattle.stk_emu.specs.Exchange.{after_exchange, reading_of_exchange}
 
--- A frame at the front is the first piece that is cut.
 frame_cut : (n : ℕ) (bytes more : List ℕ) → IsFrameBody bytes → cut (frame n bytes ++ more) ≡ frame n bytes ∷ cut more
 frame_cut n bytes more b = cut_first (frame n bytes) more (frame_is_piece n bytes b.some b.few)
 
@@ -25,15 +24,12 @@ pub record Skipped (n : ℕ) (prefix : List ℕ) : Type 0 where
   pub first : (more : List ℕ) → first_reply n (cut (prefix ++ more))
       ≡ past_skipped (length prefix) (first_reply n (cut more))
 
--- No bytes can be skipped.
 pub none_skipped : (n : ℕ) → Skipped n []
 none_skipped n = record { first = λ more. further_zero (first_reply n (cut more)) }
 
--- A frame with another number can be skipped.
 pub frame_skipped : (n seq : ℕ) (bytes : List ℕ) → seq ≢ n → IsFrameBody bytes → Skipped n (frame seq bytes)
 frame_skipped n seq bytes other carried = search (rules, frame_cut)
 
--- If two lists of bytes can be skipped, so can both joined.
 pub both_skipped : (n : ℕ) (x y : List ℕ) → Skipped n x → Skipped n y → Skipped n (x ++ y)
 both_skipped n x y f g = search (rules, append_assoc, length-append)
 
@@ -43,7 +39,6 @@ late_skipped : (k n : ℕ) (late : List ℕ) → ((seq : ℕ) → later k seq �
 late_skipped k n late other (inl e) = rw e (none_skipped n)
 late_skipped k n late other (inr l) = rw l.is (frame_skipped n l.seq l.bytes (other l.seq l.before) l.carried)
 
--- All late replies can be skipped.
 clear_skipped : (n : ℕ) (late : Late) → NoneHasNumber n late → Skipped n (waiting late)
 clear_skipped n late c =
     both_skipped n late.first (late.second ++ late.third)
@@ -51,16 +46,13 @@ clear_skipped n late c =
     (both_skipped n late.second late.third (late_skipped 2 n late.second (λ seq e. omega (arith, e)) c.second)
     (late_skipped 1 n late.third (λ seq e. omega (arith, e)) c.third))
 
--- The late replies have at most the bytes of three frames.
 clear_length : (n : ℕ) (late : Late) → NoneHasNumber n late → length (waiting late) ≤ 3 * LARGEST_FRAME
 clear_length n late c = search (rules, length-append)
 
--- The frame itself is the first reply.
 pub found_frame : (n : ℕ) (bytes : List ℕ) → IsFrameBody bytes
     → first_reply n (cut (frame n bytes)) ≡ Some (bytes, length (frame n bytes))
 found_frame n bytes b = grind (arith, common_steps)
 
--- After skipped bytes the frame is read as the reply.
 reads_frame : (n : ℕ) (prefix bytes : List ℕ) (more : Tape) → Skipped n prefix → length prefix ≤ 3 * LARGEST_FRAME
     → IsFrameBody bytes → answer n ((on_tape prefix ++ on_tape (frame n bytes)) ++ more) ≡ Some (Replied bytes, more)
 reads_frame n prefix bytes more skipped short b =
@@ -69,7 +61,6 @@ reads_frame n prefix bytes more skipped short b =
     let few : length (prefix ++ frame n bytes) ≤ reply_byte_limit = search (rules, length-append) in
     rw (← on_tape_append) (reading_found n (prefix ++ frame n bytes) more bytes found few)
 
--- After skipped bytes and noise a timeout is read.
 reads_silence : (n : ℕ) (prefix noise : List ℕ) (more : Tape) → Skipped n prefix → length prefix ≤ 3 * LARGEST_FRAME
     → IsLawful noise → answer n ((on_tape prefix ++ (on_tape noise ++ Silence ∷ [])) ++ more) ≡ Some (Silent, more)
 reads_silence n prefix noise more skipped short lawful =
@@ -79,11 +70,9 @@ reads_silence n prefix noise more skipped short lawful =
     let silent = reading_silent n (prefix ++ noise) more none few in
     simp append_assoc (simp (on_tape_append, append_assoc) at silent)
 
--- No noise is lawful noise.
 no_noise : IsLawful []
 no_noise = record { few = omega arith; no_frame = refl }
 
--- What each fate brings is read as its exchange says.
 reads_back : (n : ℕ) (fate : Fate) (late : Late) (bytes : List ℕ) (more : Tape) → NoneHasNumber n late
     → IsLawfulFate fate → IsFrameBody bytes
     → answer n ((on_tape (released_replies fate late) ++ brought_by_fate fate (frame n bytes) (frame n refusal))
@@ -110,7 +99,6 @@ pub arrival_leaves : {P : Type 0} (m : Device P) (n : ℕ) (bytes : List ℕ) (w
     ≡ after_exchange (exchange_of_fate (first_fate w.fates)) (m.after bytes w.programmer) w.programmer m.reset
 arrival_leaves m n bytes w b = search (rules, frame_is_good, body_of_frame)
 
--- If no reply is late, none has the number of frame n.
 pub none_clear : (n : ℕ) → NoneHasNumber n no_late_replies
 none_clear n = record { first = inl refl; second = inl refl; third = inl refl }
 
@@ -119,7 +107,6 @@ late_is : (n : ℕ) (fate : Fate) (bytes : List ℕ) (late : Late) → IsFrameBo
     → NoneHasNumber (next n) (late_after fate (frame n bytes) late)
 late_is n fate bytes late b c = search rules
 
--- So after a frame none has the number of the next one.
 pub arrival_late : {P : Type 0} (m : Device P) (n : ℕ) (bytes : List ℕ) (w : Wire P) → IsFrameBody bytes
     → IsFrameBody (m.reply bytes w.programmer) → NoneHasNumber n w.late
     → NoneHasNumber (next n) (wire_after_frame m (frame n bytes) w).late

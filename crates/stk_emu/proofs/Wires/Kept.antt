@@ -12,19 +12,16 @@ use Rattle.stk_emu.specs.Wire.{Wire, wire_after_frame, tape_of, wire_after_frame
 use Rattle.stk_emu.specs.Wired.{WiredState, FollowsFates, PassesBytes, IsReceivedNext, after_receiving}
 use Rattle.stk_emu.proofs.Replies.Texts.{frames_fed}
 
--- What joined frames bring is joined.
 pub tape_more : {P : Type 0} (m : Device P) (xs ys : List (List ℕ)) (w : Wire P)
     → tape_of m (xs ++ ys) w ≡ tape_of m xs w ++ tape_of m ys (wire_after_frames m xs w)
 tape_more m [] ys w = refl
 tape_more m (x ∷ xs) ys w = search (rules, append_assoc, tape_more m xs ys (wire_after_frame m x w))
 
--- The wire after joined frames is that after the second ones, from the first ones on.
 pub wire_more : {P : Type 0} (m : Device P) (xs ys : List (List ℕ)) (w : Wire P)
     → wire_after_frames m (xs ++ ys) w ≡ wire_after_frames m ys (wire_after_frames m xs w)
 wire_more m [] ys w = refl
 wire_more m (x ∷ xs) ys w = wire_more m xs ys (wire_after_frame m x w)
 
--- Sending bytes keeps a wire one that follows its fates; below, receiving items.
 pub keeps_sending : (old new : WiredState) (used : List ℕ) (p : Programmer) (fates : List Fate)
     → PassesBytes old new used → FollowsFates p fates old → FollowsFates p fates new
 keeps_sending old new used p fates passes keeps =
@@ -38,7 +35,6 @@ pub keeps_receiving : (old : WiredState) (items : Tape) (p : Programmer) (fates 
     → IsReceivedNext items old.waits → FollowsFates p fates old → FollowsFates p fates (after_receiving items old)
 keeps_receiving old items p fates next keeps = search (rules, sent_append, got_append, append_assoc, take-append-drop)
 
--- A wire with the new transcript and fewer items waiting is the one after receiving them.
 pub got_state : (w : WiredState) (transcript : Transcript) (waits items : Tape)
     → transcript ≡ w.transcript ++ Got items ∷ [] → waits ≡ drop (length items) w.waits
     → record w { transcript = transcript; waits = waits } ≡ after_receiving items w

@@ -12,7 +12,6 @@ use Rattle.stk_frame.specs.Reader.{MayHaveBeenFed, Fed, EventMatchesHeld, frames
 use Rattle.stk_frame.proofs.Cuts.{cut_append}
 use Rattle.stk_host.proofs.Tapes.Readings.{no_good}
 
--- The good frames of a longer text are those found in the added bytes, if there were none before.
 good_fed : (old used new : List ℕ) (fs : List (List ℕ)) (text : List ℕ) → Fed old used new fs → MayHaveBeenFed old text
     → filter is_good (cut text) ≡ [] → filter is_good (cut (text ++ used)) ≡ filter is_good fs
 good_fed old used new fs text fed stands none = search (rules, filter-append, no_good)
@@ -22,7 +21,6 @@ fed_rest : (old new noise : List ℕ) (at used : ℕ) (fs : List (List ℕ))
     → Fed old (take used (take (length noise - at) (drop at noise))) new fs → Fed old (take used (drop at noise)) new fs
 fed_rest old new noise at used fs fed = search (rules, take_all, length-drop)
 
--- If the next bytes of noise end in no good frame, none was found so far.
 pub noise_next : (old new noise : List ℕ) (at used : ℕ) (event : Event)
     → Fed old (take used (take (length noise - at) (drop at noise))) new (frames_of_event event new)
     → EventMatchesHeld event new → event ≢ Frame
@@ -34,7 +32,6 @@ noise_next old new noise at used event part is_reported bad stands none =
     let good_is = good_fed old (take used (drop at noise)) new fs (take at noise) fed stands none in
     rw (take-add at used noise) (fed.stands (take at noise) stands, good_is ∙ (search rules))
 
--- If the next bytes of noise end in a good frame, the noise has one.
 pub good_next : (old new noise : List ℕ) (at used : ℕ)
     → Fed old (take used (take (length noise - at) (drop at noise))) new (new ∷ []) → is_good new ≡ true
     → MayHaveBeenFed old (take at noise) → filter is_good (cut (take at noise)) ≡ [] → filter is_good (cut noise) ≢ []

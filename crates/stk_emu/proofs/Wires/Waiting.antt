@@ -4,47 +4,41 @@ use Rattle.std.proofs.lemmas.List.{length-take, map-append, drop-map, drop-appen
 use Rattle.stk_host.specs.declared.link.Item.TheVariants.{Byte, Silence}
 use Rattle.stk_host.specs.Tape.{Tape, on_tape, leading_bytes}
 use Rattle.stk_host.proofs.Tapes.Readings.{on_tape_append}
-use Rattle.stk_emu.specs.Waiting.{tape_in, AreWithin}
+use Rattle.stk_emu.specs.Waiting.{tape_in, AreWithin, HasNoLeadingByte}
 use Rattle.stk_emu.specs.Wired.{IsReceivedNext}
 
--- The bytes before a timeout are the leading ones.
+-- the bytes at the front of a tape
 bytes_before : (xs : List ℕ) (tape : Tape) → leading_bytes (on_tape xs ++ Silence ∷ tape) ≡ xs
 bytes_before [] tape = refl
 bytes_before (x ∷ xs) tape = ap (λ ys. x ∷ ys) (bytes_before xs tape)
 
--- If there is no timeout, all bytes are leading ones.
 bytes_all : (xs : List ℕ) → leading_bytes (on_tape xs) ≡ xs
 bytes_all [] = refl
 bytes_all (x ∷ xs) = ap (λ ys. x ∷ ys) (bytes_all xs)
 
--- Leading bytes that are taken are the first items.
 pub bytes_taken : (tape : Tape) (n : ℕ) → n ≤ length (leading_bytes tape) → on_tape (take n (leading_bytes tape))
     ≡ take n tape
 bytes_taken tape zero le = refl
 bytes_taken (Byte b ∷ tape) (suc n) le = ap (λ ys. Byte b ∷ ys) (bytes_taken tape n (omega (arith, le)))
 bytes_taken tape (suc n) le = absurd (omega (arith, le))
 
--- Places within bytes are within more bytes.
+-- the places of the timeouts
 pub within_more : (at n m : ℕ) (places : List ℕ) → AreWithin at places n → n ≤ m → AreWithin at places m
 within_more at n m [] w le = w
 within_more at n m (place ∷ places) w le = (w.0, omega (arith, w.1, le), within_more place n m places w.2 le)
 
--- A timeout after all bytes is within them.
 pub within_last : (at n : ℕ) (places : List ℕ) → at ≤ n → AreWithin at places n → AreWithin at (places ++ n ∷ []) n
 within_last at n [] le w = (le, omega arith, w)
 within_last at n (place ∷ places) le w = (w.0, w.1, within_last place n places w.1 w.2)
 
--- Places from a later byte on are places from an earlier one on.
 within_from : (at place n : ℕ) (places : List ℕ) → at ≤ place → AreWithin place places n → AreWithin at places n
 within_from at place n [] le w = w
 within_from at place n (next ∷ places) le w = (omega (arith, le, w.0), w.1, w.2)
 
--- Without the first place the others are within the bytes.
 pub within_next : (at n : ℕ) (places : List ℕ) → AreWithin at places n → AreWithin at (drop 1 places) n
 within_next at n [] w = w
 within_next at n (place ∷ places) w = within_from at place n places w.0 w.2
 
--- Bytes put at the end wait after all other items.
 pub bytes_put : (at : ℕ) (bytes more places : List ℕ) → at ≤ length bytes → AreWithin at places (length bytes)
     → tape_in at (bytes ++ more) places ≡ tape_in at bytes places ++ on_tape more
 bytes_put at bytes more [] le w = search (rules, drop-append-le, map-append)
@@ -58,7 +52,6 @@ timeout_put at bytes [] w = rw (take_rest bytes at, drop_all (length bytes) byte
 timeout_put at bytes (place ∷ places) w =
     search (rules, append_assoc, timeout_put place bytes places)
 
--- If leading bytes are dropped, as many items are dropped.
 pub bytes_dropped : (at count : ℕ) (bytes places : List ℕ) → count ≤ length (leading_bytes (tape_in at bytes places))
     → tape_in (at + count) bytes places ≡ drop count (tape_in at bytes places)
 bytes_dropped at count bytes [] le = sym (drop-map Byte count (drop at bytes) ∙ ap on_tape (drop-drop count at bytes))
@@ -71,7 +64,6 @@ bytes_dropped at count bytes (place ∷ places) le =
     rw (is, drop-take count (place - (at + count)) (drop at bytes), drop-drop count at bytes) refl in
     search (rules, drop-append-le, length-map, drop-map, left)
 
--- Leading bytes that are dropped lie within all bytes.
 pub at_dropped : (at count : ℕ) (bytes places : List ℕ) → at ≤ length bytes → AreWithin at places (length bytes)
     → count ≤ length (leading_bytes (tape_in at bytes places)) → at + count ≤ length bytes
 at_dropped at count bytes [] from w le =
@@ -79,53 +71,45 @@ at_dropped at count bytes [] from w le =
 at_dropped at count bytes (place ∷ places) from w le =
     grind (arith, bytes_before, length-take)
 
--- After leading bytes were dropped, the places are still within the bytes.
 pub within_dropped : (at count : ℕ) (bytes places : List ℕ) → AreWithin at places (length bytes)
     → count ≤ length (leading_bytes (tape_in at bytes places)) → AreWithin (at + count) places (length bytes)
 within_dropped at count bytes [] w le = w
 within_dropped at count bytes (place ∷ places) w le =
     grind (arith, bytes_before, length-take)
 
--- If a timeout is received next, no byte is before it.
-silent_before : (xs : List ℕ) (tape : Tape) → IsReceivedNext (Silence ∷ []) (on_tape xs ++ Silence ∷ tape) → xs ≡ []
+-- a timeout is received, or nothing waits
+silent_before : (xs : List ℕ) (tape : Tape) → HasNoLeadingByte (on_tape xs ++ Silence ∷ tape) → xs ≡ []
 silent_before [] tape s = refl
-silent_before (x ∷ xs) tape s = absurd (cc s.1)
+silent_before (x ∷ xs) tape s = absurd s
 
--- If a timeout is received next and none waits, no byte waits.
-silent_all : (xs : List ℕ) → IsReceivedNext (Silence ∷ []) (on_tape xs) → xs ≡ []
+silent_all : (xs : List ℕ) → HasNoLeadingByte (on_tape xs) → xs ≡ []
 silent_all [] s = refl
-silent_all (x ∷ xs) s = absurd (cc s.1)
+silent_all (x ∷ xs) s = absurd s
 
--- If the first place is dropped, so is the timeout that is received next.
 pub timeout_dropped : (at : ℕ) (bytes places : List ℕ) → AreWithin at places (length bytes)
-    → IsReceivedNext (Silence ∷ []) (tape_in at bytes places)
-    → tape_in at bytes (drop 1 places) ≡ drop 1 (tape_in at bytes places)
+    → HasNoLeadingByte (tape_in at bytes places) → tape_in at bytes (drop 1 places) ≡ drop 1 (tape_in at bytes places)
 timeout_dropped at bytes [] w silent = rw (silent_all (drop at bytes) silent) refl
 timeout_dropped at bytes (place ∷ places) w silent =
     let none = silent_before (take (place - at) (drop at bytes)) (tape_in place bytes places) silent in
     let is : place ≡ at = grind (arith, ap length none, length-take, length-drop) in
     rw (none, is) refl
 
--- The leading bytes are those before the first place.
 pub next_place : (at place : ℕ) (bytes places : List ℕ) → 0 < length places → place ≡ slice_index_or places 0 place
     → leading_bytes (tape_in at bytes places) ≡ take (place - at) (drop at bytes)
 next_place at place bytes [] some is = absurd (omega (arith, some))
 next_place at place bytes (first ∷ places) some is =
     rw is (bytes_before (take (first - at) (drop at bytes)) (tape_in first bytes places))
 
--- The first place lies within the bytes.
 pub place_within : (at place n : ℕ) (places : List ℕ) → 0 < length places → place ≡ slice_index_or places 0 place
     → AreWithin at places n → (at ≤ place) × (place ≤ n)
 place_within at place n [] some is w = absurd (omega (arith, some))
 place_within at place n (first ∷ places) some is w = rw is (w.0, w.1)
 
--- Without a place all bytes are leading ones.
 pub no_place : (at : ℕ) (bytes places : List ℕ) → length places ≡ 0
     → leading_bytes (tape_in at bytes places) ≡ drop at bytes
 no_place at bytes [] none = bytes_all (drop at bytes)
 no_place at bytes (first ∷ places) none = absurd (omega (arith, none))
 
--- If nothing waits, the memory of all bytes may be used again.
 pub none_wait : (at : ℕ) (bytes cleared places : List ℕ) → length places ≡ 0 → at ≡ length bytes → cleared ≡ []
     → tape_in 0 cleared places ≡ tape_in at bytes places
 none_wait at bytes cleared [] none is empty = rw (empty, drop_all at bytes (omega (arith, is))) refl
@@ -136,7 +120,12 @@ pub three_put : (t x y z : Tape) (a b c : List ℕ) → x ≡ t ++ on_tape a →
     → z ≡ t ++ on_tape (a ++ (b ++ c))
 three_put t x y z a b c f g h = search (rules, on_tape_append, append_assoc)
 
--- Leading bytes that are taken are what is received next.
+-- a timeout is next, or nothing waits
+pub silence_next : (waits : Tape) → HasNoLeadingByte waits → IsReceivedNext (Silence ∷ []) waits
+silence_next [] silent = refl
+silence_next (Silence ∷ waits) silent = (omega arith, refl)
+silence_next (other ∷ waits) silent = absurd silent
+
 pub bytes_next : (waits items : Tape) (n : ℕ) → 0 < n → n ≤ length (leading_bytes waits) → length items ≡ n
     → items ≡ take n waits → IsReceivedNext items waits
 bytes_next [] items n some le size is = absurd (omega (arith, some, le))

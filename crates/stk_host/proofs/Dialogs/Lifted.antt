@@ -9,17 +9,15 @@ use Rattle.stk_host.specs.Dialog.{Dialog, Done, Emit, Ask, lifted, Event, Frame,
 use Rattle.stk_host.specs.Play.{Progress, InTurn, Plays, BreaksBy}
 use Rattle.stk_host.proofs.Transcripts.InDialogs.{in_turn_after}
 
--- Events without output, as events of a dialog with output.
+-- events without output
 abbrev pub raised : {E : Type 0} → List (Event ⊥) → List (Event E)
 raised [] = []
 raised (Frame bytes ∷ events) = Frame bytes ∷ raised events
 raised (Emitted e ∷ events) = absurd e
 
--- A run without output, as a run with output.
 abbrev pub raised_play : {E R : Type 0} → Played ⊥ R → Played E R
 raised_play p = record { events = raised p.events; outcome = p.outcome }
 
--- The lifted dialog has the same run.
 pub played_lifted : {E R : Type 0} (dialog : Dialog ⊥ R) (seq : ℕ) (tape : Tape)
     → played {E = E} (lifted dialog) seq tape ≡ raised_play (played dialog seq tape)
 played_lifted (Done r) seq tape = refl
@@ -32,37 +30,31 @@ played_lifted {E = E} (Ask body resume) seq tape =
       | Some got ↦ played_lifted (resume got.0) (next seq) got.1
     ])
 
--- Raised events send the same bytes.
 pub bytes_raised : (E : Type 0) (events : List (Event ⊥)) → bytes_sent (raised {E = E} events) ≡ bytes_sent events
 bytes_raised E [] = refl
 bytes_raised E (Frame bytes ∷ events) = ap (λ bs. bytes ++ bs) (bytes_raised E events)
 bytes_raised E (Emitted e ∷ events) = absurd e
 
--- Raised events output nothing.
 pub outputs_raised : {E : Type 0} (events : List (Event ⊥)) → outputs (raised {E = E} events) ≡ []
 outputs_raised [] = refl
 outputs_raised (Frame bytes ∷ events) = outputs_raised events
 outputs_raised (Emitted e ∷ events) = absurd e
 
--- Joined events are raised part by part.
 raised_append : {E : Type 0} (x y : List (Event ⊥)) → raised {E = E} (x ++ y) ≡ raised x ++ raised y
 raised_append [] y = refl
 raised_append (Frame bytes ∷ x) y = ap (λ es. Frame bytes ∷ es) (raised_append x y)
 raised_append (Emitted e ∷ x) y = absurd e
 
--- The lifted dialog sends and listens in turn where the dialog does.
 in_turn_lifted : {R : Type 0} (E : Type 0) (dialog : Dialog ⊥ R) (m : Progress) (transcript : Transcript)
     → InTurn dialog m transcript → InTurn {E = E} (lifted dialog) m transcript
 in_turn_lifted E dialog m transcript f = search (rules, in_turn_after, played_lifted, bytes_raised)
 
--- A transcript that runs the dialog to its end runs the lifted dialog to its end.
 pub plays_lifted : {E R : Type 0} {dialog : Dialog ⊥ R} {m n : Progress} {transcript : Transcript}
     {events : List (Event ⊥)} {result : R} → Plays dialog m transcript events result n
     → Plays {E = E} (lifted dialog) m transcript (raised events) result n
 plays_lifted {E = E} {dialog = dialog} {m = m} {transcript = transcript} {events = events} f =
-    search (rules, played_lifted, bytes_raised, in_turn_lifted, raised_append {E = E} events [])
+    search (rules, played_lifted, bytes_raised, in_turn_lifted)
 
--- A transcript in which the dialog broke off is one in which the lifted dialog broke off, by the same fault.
 pub by_lifted : {R : Type 0} (E : Type 0) (by : HostFault) (dialog : Dialog ⊥ R) (m : Progress)
     (transcript : Transcript) (shown : List (Event ⊥))
     → BreaksBy by dialog m transcript shown → BreaksBy {E = E} by (lifted dialog) m transcript (raised shown)

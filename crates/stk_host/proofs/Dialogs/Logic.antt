@@ -47,7 +47,6 @@ module _ {E S M : Type 0} (w : World S M) (Asks : List ℕ → S → Type 0) (Ma
       (After : B → S → Type 0) (next : A → Dialog E B)
       (f : (bytes : List ℕ) (t : S) → Asks bytes t → Asks' bytes t) (g : (e : E) (t : S) → MayEmit e t → MayEmit' e t)
       (more : (a : A) (t : S) → Between a t → Upholds w Asks' MayEmit' After (next a) t) where
-    -- If the first dialog keeps its conditions, and the second one keeps them from every result, both do.
     on_bind : (d : Dialog E A) (s : S) → HoldsFrom w Asks MayEmit Between d s
         → HoldsFrom w Asks' MayEmit' After (d >>= next) s
     on_bind (Done a) s h = (more a s h).holds
@@ -66,12 +65,10 @@ module _ {E S M : Type 0} {w : World S M} {Asks : List ℕ → S → Type 0} {Ma
   pub done : {R : Type 0} {After : R → S → Type 0} {r : R} {s : S} → After r s → Upholds w Asks MayEmit After (Done r) s
   done a = record { holds = a }
 
-  -- The output comes only if its condition holds, and then the rule holds of what follows.
   pub emit : {R : Type 0} {After : R → S → Type 0} {e : E} {d : Dialog E R} {s : S}
       → MayEmit e s → Upholds w Asks MayEmit After d s → Upholds w Asks MayEmit After (Emit e d) s
   emit f l = record { holds = (f, l.holds) }
 
-  -- The question comes only if its condition holds, and then the rule holds after every move.
   pub ask : {R : Type 0} {After : R → S → Type 0} {bytes : List ℕ} {go_on : Reading → Dialog E R} {s : S} → Asks bytes s
       → ((move : M) → Upholds w Asks MayEmit After (go_on (w.reads bytes s move)) (w.after bytes s move))
       → Upholds w Asks MayEmit After (Ask bytes go_on) s
@@ -97,13 +94,11 @@ module _ {E S M : Type 0} {w : World S M} {Asks : List ℕ → S → Type 0} {Ma
   wider {Asks' = Asks'} {MayEmit' = MayEmit'} {After = After} {After' = After'} {d = d} {s = s} f g h l =
       subst (λ d. Upholds w Asks' MayEmit' After' d s) (bind_done d) (search (rules, on_bind))
 
-  -- A call, as a part of a dialog with output.
   pub call : {R : Type 0} {After : R → S → Type 0} {d : Dialog ⊥ R} {s : S}
       → Upholds w Asks NoOutput After d s → Upholds w Asks MayEmit After (lifted d) s
   call {After = After} {d = d} {s = s} l = record { holds = on_lifted w Asks MayEmit After d s l.holds }
 
 module _ {S M : Type 0} (w : World S M) (Asks : List ℕ → S → Type 0) where
-  -- What holds of a call, which has no output.
   abbrev Calls : {R : Type 0} → (R → S → Type 0) → Dialog ⊥ R → S → Type 0
   Calls After d s = Upholds w Asks NoOutput After d s
 
@@ -112,7 +107,6 @@ module _ {S M : Type 0} (w : World S M) (Asks : List ℕ → S → Type 0) where
   module _ (commands : List Command) (Stands : ℕ → S → Type 0) (After : StepOutcome → S → Type 0)
       (once : (more : ℕ) (t : S) → Stands (suc more) t → Calls (OnReply (Stands more) After) (attempt commands []) t)
       (none : (fault : StepFault) (t : S) → Stands 0 t → After (Err fault) t) where
-    -- After each reply the step ends, or the next attempt follows.
     by_reply : (more : ℕ) → ((fault : StepFault) (t : S) → Stands more t
         → Calls After (attempts_or_fault more commands fault) t) → (reply : Reply) (t : S)
         → OnReply (Stands more) After reply t → Calls After (retry_or_end (attempts_or_fault more commands) reply) t
@@ -120,7 +114,6 @@ module _ {S M : Type 0} (w : World S M) (Asks : List ℕ → S → Type 0) where
     by_reply more each (Again fault) t x = each fault t x
     by_reply more each (Stop fault) t x = done x
 
-    -- So the condition after the step holds.
     pub attempts : (more : ℕ) (fault : StepFault) (s : S) → Stands more s
         → Calls After (attempts_or_fault more commands fault) s
     unfolding attempts_or_fault

@@ -15,11 +15,9 @@ use Rattle.stk_host.specs.Steps.{exchange, Reply, reply_from_reading, with_data,
 use Rattle.stk_host.specs.WriteSteps.{write_steps}
 use Rattle.stk_host.specs.Operations.{handshake, opening, no_result, closing, checked_by, operation, writing}
 use Rattle.stk_host.specs.Bound.{AsksAtMost, SendsAtMost, commands_in, opening_steps, closing_steps, IsBoundedBy}
-use Rattle.stk_host.proofs.Transcripts.InDialogs.{whole_run}
 
 -- questions
 
--- A bound on the questions may grow.
 asks_within : {E R : Type 0} (n m : ℕ) (d : Dialog E R) → n ≤ m → AsksAtMost n d → AsksAtMost m d
 asks_within n m (Done r) le f = tt
 asks_within n m (Emit e d) le f = asks_within n m d le f
@@ -28,7 +26,6 @@ asks_within (suc n) zero (Ask body resume) le f = absurd (omega arith)
 asks_within (suc n) (suc m) (Ask body resume) le f =
     λ reading. asks_within n m (resume reading) (omega arith) (f reading)
 
--- The bounds of two dialogs in sequence add up.
 asks_bind : {E A B : Type 0} (n k m : ℕ) (d : Dialog E A) (go_on : A → Dialog E B) → n + k ≤ m → AsksAtMost n d
     → ((a : A) → AsksAtMost k (go_on a)) → AsksAtMost m (d >>= go_on)
 asks_bind n k m (Done a) go_on le f g = asks_within k m (go_on a) (omega arith) (g a)
@@ -40,7 +37,6 @@ asks_bind (suc n) k (suc m) (Ask body resume) go_on le f g =
 
 -- frames
 
--- A bound on the frames after each reading bounds them after any outcome of listening.
 read_most : {E R : Type 0} (n : ℕ) (go_on : Reading → Tape → Played E R) (got : Option (Reading × Tape))
     → ((reading : Reading) (left : Tape) → length (frames_in (go_on reading left).events) ≤ n)
     → length (frames_in (continue_with_reading go_on got).events) ≤ n
@@ -56,7 +52,6 @@ sends_most (suc n) (Ask body resume) seq tape f =
     let l = read_most n (λ reading. played (resume reading) (next seq)) (answer seq tape)
     (λ reading left. sends_most n (resume reading) (next seq) left (f reading)) in search rules
 
--- The frames of joined events are joined.
 frames_append : {E : Type 0} (x y : List (Event E)) → frames_in (x ++ y) ≡ frames_in x ++ frames_in y
 frames_append [] y = refl
 frames_append (Frame bytes ∷ x) y = ap (λ frames. bytes ∷ frames) (frames_append x y)
@@ -74,7 +69,7 @@ pub sends_asked : {E R : Type 0} (IsPartOfEvent : E → E → Type 0) (n : ℕ) 
 sends_asked IsPartOfEvent n d f = record {
   over_tape = λ seq tape. sends_most n d seq tape f;
   whole = λ before transcript events result after p.
-      rw (← ap (λ x. x.events) (whole_run p [])) (search (rules, sends_most));
+      rw (← ap (λ x. x.events) (p.plays [])) (search (rules, sends_most));
   broken_off = λ before transcript shown b.
       let prefix = prefix_most b.prefix in
       search (rules, sends_most);
@@ -82,12 +77,10 @@ sends_asked IsPartOfEvent n d f = record {
 
 -- steps
 
--- A bound after data bounds what follows from any reply.
 most_reply : (n : ℕ) (go_on : List ℕ → Dialog ⊥ Reply) (reply : Reply) → ((bytes : List ℕ) → AsksAtMost n (go_on bytes))
     → AsksAtMost n (with_data go_on reply)
 most_reply n go_on reply f = search rules
 
--- An attempt asks once for each command.
 attempt_most : (commands : List Command) (before : List ℕ) → AsksAtMost (length commands) (attempt commands before)
 unfolding attempt exchange
 attempt_most [] before = tt
@@ -95,12 +88,10 @@ attempt_most (command ∷ commands) before = λ reading.
     most_reply (length commands) (λ bytes. attempt commands (before ++ bytes)) (reply_from_reading command reading)
     (λ bytes. attempt_most commands (before ++ bytes))
 
--- A bound on the attempts that are left bounds what follows from a reply.
 most_settled : (n : ℕ) (again : StepFault → Dialog ⊥ StepOutcome) (reply : Reply)
     → ((fault : StepFault) → AsksAtMost n (again fault)) → AsksAtMost n (retry_or_end again reply)
 most_settled n again reply f = search rules
 
--- Each attempt asks once for each command.
 tries_most : (more : ℕ) (commands : List Command) (fault : StepFault)
     → AsksAtMost (more * length commands) (attempts_or_fault more commands fault)
 unfolding attempts_or_fault
@@ -111,7 +102,6 @@ tries_most (suc more) commands fault =
     (attempt_most commands []) (λ reply. most_settled (more * length commands) (attempts_or_fault more commands) reply
     (tries_most more commands))
 
--- A step asks at most four times for each command.
 pub step_most : (commands : List Command) → AsksAtMost (4 * length commands) (step commands)
 step_most commands = tries_most 4 commands NoAnswer
 
@@ -123,14 +113,12 @@ then_most commands steps go_on f =
     asks_bind (4 * length commands) (4 * commands_in steps) (4 * commands_in (commands ∷ steps)) (step commands)
     (unless_step_fault go_on) (omega arith) (step_most commands) (λ outcome. (search rules))
 
--- Steps ask at most four times for each command.
 pub play_most : (steps : List (List Command)) (before : List ℕ) → AsksAtMost (4 * commands_in steps) (play steps before)
 unfolding play
 play_most [] before = tt
 play_most (commands ∷ steps) before = then_most commands steps (λ bytes. play steps (before ++ bytes))
     (λ bytes. play_most steps (before ++ bytes))
 
--- A bound on the questions also bounds the frames.
 pub bounded : {R : Type 0} (steps : List (List Command)) (d : Dialog ⊥ R) → AsksAtMost (4 * commands_in steps) d
     → IsBoundedBy steps d
 bounded steps d f = record { asks = f; sends = sends_asked NoPart (4 * commands_in steps) d f }
@@ -142,19 +130,16 @@ checked_most n d judge f = asks_bind n 0 n d (λ outcome. Done (judge outcome)) 
 
 -- the operations of a host
 
--- An operation asks at most four times for each command of its steps.
 pub operation_most : {A : Type 0} (steps : List (List Command)) (judge : List ℕ → Result A HostFault)
     → AsksAtMost (4 * commands_in steps) (operation steps judge)
 unfolding operation
 operation_most steps judge = checked_most (4 * commands_in steps) (play steps []) (checked_by judge)
     (play_most steps [])
 
--- The same of signing on, entering programming mode and reading the signature.
 beginning_most : AsksAtMost (4 * commands_in opening_steps) handshake
 unfolding handshake
 beginning_most = search (rules, then_most, play_most)
 
--- The same of an opening; below, of a closing.
 pub opening_most : (signature : List ℕ) (force : Bool)
     → AsksAtMost (4 * commands_in opening_steps) (opening signature force)
 unfolding opening

@@ -24,7 +24,6 @@ pub next_place : (steps_at : ℕ → List (List Command)) (place end : ℕ) → 
     → each_from steps_at place (end - place) ≡ steps_at place ++ each_from steps_at (place + 1) (end - (place + 1))
 next_place steps_at place end before = search rules
 
--- A size of a page that divides 256 is at most 256.
 pub page_most : (page : ℕ) → 0 < page → 256 % page ≡ 0 → page ≤ 256
 page_most page some fits = search rules
 
@@ -33,12 +32,10 @@ pub no_page : (part : Part) (image : List (Option ℕ)) (number : ℕ)
     → holds_any image (number * part.flash_page) part.flash_page ≡ false → page_steps part image number ≡ []
 no_page part image number is = rw is refl
 
--- No run begins at this address, so it has no step.
 pub no_run : (part : Part) (image : List (Option ℕ)) (addr : ℕ) → begins_run part.eeprom_page image addr ≡ false
     → run_steps_at part image addr ≡ []
 no_run part image addr is = rw is refl
 
--- A run begins at this address, so it has one step.
 one_run : (part : Part) (image : List (Option ℕ)) (addr : ℕ) → begins_run part.eeprom_page image addr ≡ true
     → run_steps_at part image addr ≡ run_step part image addr ∷ []
 one_run part image addr is = rw is refl
@@ -67,7 +64,6 @@ skip_steps steps_at place (suc count) here after within none = elim (cases_lt pl
       rw (is, left) refl
 ]
 
--- The same for the places up to an end.
 skip_to : (steps_at : ℕ → List (List Command)) (place end here : ℕ) → place ≤ here → here ≤ end
     → ((i : ℕ) → place ≤ i → i < here → steps_at i ≡ [])
     → each_from steps_at place (end - place) ≡ each_from steps_at here (end - here)
@@ -79,7 +75,6 @@ inside_page : (page number addr : ℕ) → 0 < page → number * page < addr →
     → ⊥
 inside_page page number addr some from before first = grind (arith, common_steps)
 
--- The longest run from the next byte that is held is the next step, and a page or a gap ends it.
 pub next_run : (part : Part) (image : List (Option ℕ)) (next start end : ℕ) → 0 < part.eeprom_page
     → length image ≤ part.eeprom_size → (next % part.eeprom_page ≡ 0) ⊎ (byte_at image next ≡ None)
     → IsNextHeld image next start → IsByteRun image start (page_end part.eeprom_page start) end
@@ -111,7 +106,6 @@ next_run part image next start end some fits border held run is =
       ];
     }
 
--- If no byte is held from here on, there are no more steps.
 pub last_run : (part : Part) (image : List (Option ℕ)) (next count : ℕ) → ((k : ℕ) → next ≤ k → byte_at image k ≡ None)
     → each_from (run_steps_at part image) next count ≡ []
 last_run part image next count none = search (rules, no_steps)

@@ -11,20 +11,19 @@ use Rattle.stk_host.specs.Transcript.{LinkState, HasFailed}
 use Rattle.stk_host.specs.Dialog.{Dialog, Done, Frame, next}
 use Rattle.stk_host.specs.declared.fault.HostFault.{HostFault}
 use Rattle.stk_host.specs.declared.fault.HostFault.TheVariants.{SendFailed, RecvFailed}
-use Rattle.stk_host.specs.Play.{Progress, RunsOverLink, BreaksOverLink, Reaches}
-use Rattle.stk_host.specs.Reach.{SendsExactly, SendsOnlyPart, ReceivesReply, ReceivesNoReply}
+use Rattle.stk_host.specs.Play.{Progress, RunsOverLink, BreaksOverLink}
+use Rattle.stk_host.specs.Reach.{Reaches, SendsExactly, SendsOnlyPart, ReceivesReply, ReceivesNoReply}
 use Rattle.stk_host.specs.declared.conversation.Reply as in_code
 use Rattle.stk_host.specs.declared.conversation.Reply.TheVariants as replies
 use Rattle.stk_host.specs.State.{ConversationState}
 use Rattle.stk_host.specs.Calls.{ReturnsReply, reply_of}
 use Rattle.stk_host.specs.Steps.{exchange, attempt, attempts_or_fault, Reply, Data, Again, Stop, reply_from_reading, with_data, retry_or_end, StepOutcome}
 use Rattle.stk_host.proofs.Transcripts.Laws.{grows_on}
-use Rattle.stk_host.proofs.Transcripts.InDialogs.{leads_ask, breaks_asking, breaks_listening}
-use Rattle.stk_host.proofs.Transcripts.Reached.{reaches_further, breaks_after, broken_bind, reaches_bind}
+use Rattle.stk_host.proofs.Transcripts.InDialogs.{leads_ask, plays_from, breaks_asking, breaks_listening}
+use Rattle.stk_host.proofs.Transcripts.Reached.{reaches_on, reaches_from, played_from, broken_on, broken_bind, then_reaches}
 
 -- one command and its reply
 
--- A command was sent and its reply read.
 pub exchange_done : (seq then : ℕ) (command : Command) {u v : List ℕ} {o p q : LinkState} {reading : Reading}
     → SendsExactly (frame seq (body command)) o.transcript p.transcript → ReceivesReply seq u p q reading v → then
     ≡ next seq → q.failures ≡ o.failures
@@ -36,13 +35,12 @@ exchange_done seq then command {u = u} {v = v} {o = o} {p = p} {q = q} {reading 
       during = sends.during ++ receives.during;
       events = Frame (frame seq (body command)) ∷ [];
       grows = grows_on o.transcript p.transcript q.transcript sends.during receives.during sends.grows receives.grows;
-      leads = rw is (leads_ask (body command) (λ r. Done (reply_from_reading command r)) seq u v
+      plays = rw is (plays_from (leads_ask (body command) (λ r. Done (reply_from_reading command r)) seq u v
           sends.during receives.during reading sends.quiet sends.none_taken sends.bytes_sent receives.waits
-          receives.reading_is);
+          receives.reading_is));
       sound = same;
     }
 
--- Sending the command failed.
 pub exchange_unsent : (seq : ℕ) (command : Command) (u : List ℕ) {o p : LinkState}
     → SendsOnlyPart (frame seq (body command)) o.transcript p.transcript → HasFailed o p
     → BreaksOverLink SendFailed (exchange command) (record { next = seq; unread = u }) o p
@@ -55,7 +53,6 @@ exchange_unsent seq command u sends failed = record {
   failed = failed;
 }
 
--- The command was sent, and receiving its reply failed.
 pub exchange_unreceived : (seq : ℕ) (command : Command) {u : List ℕ} {o p q : LinkState}
     → SendsExactly (frame seq (body command)) o.transcript p.transcript → ReceivesNoReply seq u p q → HasFailed o q
     → BreaksOverLink RecvFailed (exchange command) (record { next = seq; unread = u }) o q
@@ -70,36 +67,31 @@ exchange_unreceived seq command {u = u} {o = o} {p = p} {q = q} sends receives f
 
 -- an attempt whose next command was sent and got its reply
 
--- After the reply to its first command the attempt goes on with the others, or ends.
-attempt_after_reply : (command : Command) (commands : List Command) (before : List ℕ) {seq n : Progress}
-    {o q : LinkState}
+attempt_on : (command : Command) (commands : List Command) (before : List ℕ) {seq n : Progress} {o q : LinkState}
     (reply : Reply) → RunsOverLink (exchange command) seq o q reply n → Reaches (attempt (command ∷ commands) before)
     seq o (with_data (λ bytes. attempt commands (before ++ bytes)) reply) n q
 unfolding attempt
-attempt_after_reply command commands before reply f = reaches_bind
-    (with_data (λ bytes. attempt commands (before ++ bytes))) f
+attempt_on command commands before reply f = then_reaches (with_data (λ bytes. attempt commands (before ++ bytes))) f
 
 -- or it broke off there
-pub attempt_breaks_off : {by : HostFault} (command : Command) (commands : List Command) {seq : Progress}
-    {o q : LinkState}
+pub attempt_off : {by : HostFault} (command : Command) (commands : List Command) {seq : Progress} {o q : LinkState}
     → BreaksOverLink by (exchange command) seq o q → BreaksOverLink by (attempt (command ∷ commands) []) seq o q
 unfolding attempt
-attempt_breaks_off command commands f = broken_bind (with_data (λ bytes. attempt commands ([] ++ bytes))) f
+attempt_off command commands f = broken_bind (with_data (λ bytes. attempt commands ([] ++ bytes))) f
 
 -- an attempt of one command
 by_reply : (last : Command) (reply : in_code.Reply) (bytes : List ℕ) {m n : Progress} {o q : LinkState}
     → RunsOverLink (exchange last) m o q (reply_of reply bytes) n
     → RunsOverLink (attempt (last ∷ []) []) m o q (reply_of reply bytes) n
 unfolding attempt
-by_reply last replies.Data bytes e = attempt_after_reply last [] [] (Data bytes) e
-by_reply last reply bytes e = attempt_after_reply last [] [] (reply_of reply bytes) e
+by_reply last replies.Data bytes e = played_from (attempt_on last [] [] (Data bytes) e)
+by_reply last reply bytes e = played_from (attempt_on last [] [] (reply_of reply bytes) e)
 
--- An exchange is an attempt of one command.
 pub gets_one : {L : Type 0} {link : Ghosts L} (last : Command) (m n : ConversationState) (o q : L)
     (result : Result in_code.Reply HostFault) → ReturnsReply link (exchange last) last m n o q result
     → ReturnsReply link (attempt (last ∷ []) []) last m n o q result
 gets_one last m n o q (Ok reply) f = search (rules, by_reply)
-gets_one last m n o q (Err fault) f = search (rules, attempt_breaks_off)
+gets_one last m n o q (Err fault) f = search (rules, attempt_off)
 
 -- an attempt of two commands, whose first got a reply without data
 pub gets_last : {L : Type 0} {link : Ghosts L} (first last : Command) (m n after : ConversationState) (o p q : L)
@@ -110,86 +102,71 @@ pub gets_last : {L : Type 0} {link : Ghosts L} (first last : Command) (m n after
 gets_last {link = link} first last m n after o p q was none result f stays is nothing g =
     by_result result (gets_one last n after p q result g)
   where
-    -- The first command was sent, and its reply was good.
-    first_replied : Reaches (attempt (first ∷ last ∷ []) []) m.progress (link.view o)
-        (attempt (last ∷ []) []) n.progress
+    begun : Reaches (attempt (first ∷ last ∷ []) []) m.progress (link.view o) (attempt (last ∷ []) []) n.progress
         (link.view p)
-    first_replied = attempt_after_reply first (last ∷ []) [] (Data []) (rw (is, nothing) at f)
+    begun = attempt_on first (last ∷ []) [] (Data []) (rw (is, nothing) at f)
 
-    -- The second command's reply is the attempt's, or the attempt broke off there.
     by_result : (result : Result in_code.Reply HostFault) → ReturnsReply link (attempt (last ∷ []) []) last n after p q
         result → ReturnsReply link (attempt (first ∷ last ∷ []) []) last m after o q result
-    by_result (Ok reply) e = search (rules, reaches_further first_replied e.ok, f.sound)
-    by_result (Err fault) e = search (rules, breaks_after first_replied e.err, f.sound)
+    by_result (Ok reply) e = search (rules, played_from (reaches_on begun (reaches_from e.ok)), f.sound)
+    by_result (Err fault) e = search (rules, broken_on begun e.err, f.sound)
 
 -- an attempt whose first command brought no data
 pub gets_short : (first last : Command) (was : in_code.Reply) (none bytes : List ℕ) {m n : Progress} {o p : LinkState}
     → RunsOverLink (exchange first) m o p (reply_of was none) n → (was ≡ replies.Data → ⊥)
     → RunsOverLink (attempt (first ∷ last ∷ []) []) m o p (reply_of was bytes) n
 gets_short first last replies.Data none bytes f short = absurd (short refl)
-gets_short first last was none bytes f short = search (rules, attempt_after_reply, was, none, f)
+gets_short first last was none bytes f short = search (rules, played_from, attempt_on, was, none, f)
 
 -- one round of the loop over the attempts
 
--- An attempt got a reply: the step ends, or the next attempt follows.
-attempts_after_reply : (more : ℕ) (commands : List Command) (last : StepFault) {seq n : Progress} {o q : LinkState}
-    (reply : Reply)
+tries_on : (more : ℕ) (commands : List Command) (last : StepFault) {seq n : Progress} {o q : LinkState} (reply : Reply)
     → RunsOverLink (attempt commands []) seq o q reply n
     → Reaches (attempts_or_fault (suc more) commands last) seq o (retry_or_end (attempts_or_fault more commands) reply)
     n q
 unfolding attempts_or_fault
-attempts_after_reply more commands last reply f = reaches_bind (retry_or_end (attempts_or_fault more commands)) f
+tries_on more commands last reply f = then_reaches (retry_or_end (attempts_or_fault more commands)) f
 
--- With no attempt left the step ends with the last fault.
-no_attempts_left : (commands : List Command) (last : StepFault) → attempts_or_fault zero commands last ≡ Done (Err last)
+tries_none : (commands : List Command) (last : StepFault) → attempts_or_fault zero commands last ≡ Done (Err last)
 unfolding attempts_or_fault
-no_attempts_left commands last = refl
+tries_none commands last = refl
 
--- If an attempt broke off, the step did.
-attempts_break_off : {by : HostFault} (more : ℕ) (commands : List Command) (last : StepFault) {seq : Progress}
-    {o q : LinkState}
+tries_off : {by : HostFault} (more : ℕ) (commands : List Command) (last : StepFault) {seq : Progress} {o q : LinkState}
     → BreaksOverLink by (attempt commands []) seq o q → BreaksOverLink by (attempts_or_fault (suc more) commands last)
     seq o q
 unfolding attempts_or_fault
-attempts_break_off more commands last f = broken_bind (retry_or_end (attempts_or_fault more commands)) f
+tries_off more commands last f = broken_bind (retry_or_end (attempts_or_fault more commands)) f
 
 -- in the form of the code: it has come this far, and an attempt is left
 module _ {a : Dialog ⊥ StepOutcome} {l seq : Progress} {j o : LinkState} {k : ℕ} (more : ℕ) (commands : List Command)
     (last : StepFault) (count : k ≡ suc more) (come : Reaches a l j (attempts_or_fault k commands last) seq o) where
-  -- One attempt is due.
-  attempt_due : Reaches a l j (attempts_or_fault (suc more) commands last) seq o
-  attempt_due = rw count at come
+  next_try : Reaches a l j (attempts_or_fault (suc more) commands last) seq o
+  next_try = rw count at come
 
-  -- After its reply the step ends, or the next attempt follows.
-  after_reply : {n : Progress} {q : LinkState} (reply : Reply) → RunsOverLink (attempt commands []) seq o q reply n
+  try : {n : Progress} {q : LinkState} (reply : Reply) → RunsOverLink (attempt commands []) seq o q reply n
       → Reaches a l j (retry_or_end (attempts_or_fault more commands) reply) n q
-  after_reply reply f = reaches_further attempt_due (attempts_after_reply more commands last reply f)
+  try reply f = reaches_on next_try (tries_on more commands last reply f)
 
-  -- The reply asks for another attempt.
   pub try_again : {n : Progress} {q : LinkState} {fault : StepFault} {reply : in_code.Reply} (bytes : List ℕ)
       → RunsOverLink (attempt commands []) seq o q (reply_of reply bytes) n → reply ≡ replies.Again fault
       → Reaches a l j (attempts_or_fault more commands fault) n q
-  try_again {fault = fault} bytes f again = after_reply (Again fault) (rw again at f)
+  try_again {fault = fault} bytes f again = try (Again fault) (rw again at f)
 
-  -- The reply has data: the step has ended well.
   pub try_data : {n : Progress} {q : LinkState} {bytes : List ℕ} {reply : in_code.Reply}
       → RunsOverLink (attempt commands []) seq o q (reply_of reply bytes) n → reply ≡ replies.Data
       → RunsOverLink a l j q (Ok bytes) n
-  try_data {bytes = bytes} f is_data = after_reply (Data bytes) (rw is_data at f)
+  try_data {bytes = bytes} f is_data = played_from (try (Data bytes) (rw is_data at f))
 
-  -- The reply stops the step.
   pub try_stop : {n : Progress} {q : LinkState} {fault : StepFault} {reply : in_code.Reply} (bytes : List ℕ)
       → RunsOverLink (attempt commands []) seq o q (reply_of reply bytes) n → reply ≡ replies.Stop fault
       → RunsOverLink a l j q (Err fault) n
-  try_stop {fault = fault} bytes f stop = after_reply (Stop fault) (rw stop at f)
+  try_stop {fault = fault} bytes f stop = played_from (try (Stop fault) (rw stop at f))
 
-  -- The attempt broke off.
   pub try_breaks : {by : HostFault} {q : LinkState} → BreaksOverLink by (attempt commands []) seq o q
       → BreaksOverLink by a l j q
-  try_breaks f = breaks_after attempt_due (attempts_break_off more commands last f)
+  try_breaks f = broken_on next_try (tries_off more commands last f)
 
--- No attempt is left.
 pub try_end : {a : Dialog ⊥ StepOutcome} {l seq : Progress} {j o : LinkState} (k : ℕ) (commands : List Command)
     (last : StepFault) → Reaches a l j (attempts_or_fault k commands last) seq o → k ≡ 0
     → RunsOverLink a l j o (Err last) seq
-try_end k commands last f is = rw (is, no_attempts_left commands last) at f
+try_end k commands last f is = played_from (rw (is, tries_none commands last) at f)

@@ -3,9 +3,9 @@ use Rattle.std.proofs.Common.{◌≡◌, ℕ, ◌+◌, ◌*◌, ◌<◌, ◌≤�
 use Rattle.std.specs.Prelude.{min}
 use Rattle.avr_part.specs.declared.part.Mem.{Mem}
 use Rattle.avr_part.specs.Part.{Part, IsPart, size_of}
-use Rattle.stk_frame.specs.Commands.{shape, data_count}
+use Rattle.stk_frame.specs.Commands.{shape}
 use Rattle.stk_host.specs.ReadSteps.{read_unit, read_count, load_command_at, read_command_at}
-use Rattle.stk_host.specs.Calls.{IsSizedStep}
+use Rattle.stk_host.specs.Calls.{IsSizedStep, data_count}
 
 -- how many bytes the steps before this number have brought
 abbrev pub read_before : Part → Mem → ℕ → ℕ
@@ -17,20 +17,16 @@ pub record BringsMore (part : Part) (mem : Mem) (number : ℕ) : Type 0 where
       (shape (read_command_at part mem number))
   pub within : read_before part mem (number + 1) ≤ size_of mem part
 
--- Each step brings the bytes of its block, inside the memory.
 pub brings_more : (part : Part) (mem : Mem) (number : ℕ) → number < read_count part mem → BringsMore part mem number
 brings_more part mem number before = search rules
 
--- After the last step all bytes of the memory were read.
 pub all_brought : (part : Part) (mem : Mem) (number : ℕ) → read_count part mem ≤ number
     → read_before part mem number ≡ size_of mem part
 all_brought part mem number past = search rules
 
--- A memory is read in at most 1,024 steps.
 pub few_reads : (part : Part) (mem : Mem) → IsPart part → read_count part mem ≤ 1024
 few_reads part mem is = search rules
 
--- The command of each step brings as many bytes as its shape fixes.
 pub sized_read : (part : Part) (mem : Mem) (number : ℕ)
     → IsSizedStep (load_command_at part mem number) (read_command_at part mem number)
 sized_read part mem number = search rules

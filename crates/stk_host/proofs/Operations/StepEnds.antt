@@ -8,61 +8,57 @@ use Rattle.stk_host.specs.declared.fault.HostFault.{HostFault}
 use Rattle.stk_host.specs.declared.fault.HostFault.TheVariants.{SendFailed, RecvFailed, WrongSignature}
 use Rattle.stk_host.specs.Transcript.{LinkState}
 use Rattle.stk_host.specs.Dialog.{Dialog, Done, ◌>>=◌}
-use Rattle.stk_host.specs.Play.{Progress, RunsOverLink, Reaches}
+use Rattle.stk_host.specs.Play.{Progress, RunsOverLink}
+use Rattle.stk_host.specs.Reach.{Reaches}
 use Rattle.stk_host.specs.Steps.{StepOutcome, unless_step_fault, step, play}
 use Rattle.stk_host.specs.Operations.{host_fault, checked_by, signature_checked, handshake, opening, no_result, closing}
 use Rattle.stk_host.specs.Calls.{StopsSteps, EndsSteps, EndsCall, opening_result}
-use Rattle.stk_host.proofs.Transcripts.Reached.{reaches_further, breaks_after, broken_bind, reaches_bind}
+use Rattle.stk_host.proofs.Transcripts.Reached.{reaches_on, reaches_from, played_from, broken_on, broken_bind, then_reaches}
 
 -- a stop in a dialog that was reached
-pub stops_once_reached : {a b : Dialog ⊥ StepOutcome} {m n : Progress} {o p : LinkState} (k : Progress) (q : LinkState)
+pub stops_on : {a b : Dialog ⊥ StepOutcome} {m n : Progress} {o p : LinkState} (k : Progress) (q : LinkState)
     (fault : HostFault) → Reaches a m o b n p → StopsSteps b n p q fault k → StopsSteps a m o q fault k
-stops_once_reached k q fault f (inl e) = inl (breaks_after f e)
-stops_once_reached k q fault f (inr (of, is, e)) = inr (of, is, reaches_further f e)
+stops_on k q fault f (inl e) = inl (broken_on f e)
+stops_on k q fault f (inr (of, is, e)) = inr (of, is, played_from (reaches_on f (reaches_from e)))
 
 -- a stop, after which nothing follows
-pub stops_before_more : (a : Dialog ⊥ StepOutcome) (go_on : List ℕ → Dialog ⊥ StepOutcome) (m n : Progress)
-    (o p : LinkState)
+pub stops_there : (a : Dialog ⊥ StepOutcome) (go_on : List ℕ → Dialog ⊥ StepOutcome) (m n : Progress) (o p : LinkState)
     (fault : HostFault) → StopsSteps a m o p fault n → StopsSteps (a >>= unless_step_fault go_on) m o p fault n
-stops_before_more a go_on m n o p fault (inl e) = inl (broken_bind (unless_step_fault go_on) e)
-stops_before_more a go_on m n o p fault (inr (of, is, e)) =
-    inr (of, is, reaches_bind (unless_step_fault go_on) e)
+stops_there a go_on m n o p fault (inl e) = inl (broken_bind (unless_step_fault go_on) e)
+stops_there a go_on m n o p fault (inr (of, is, e)) =
+    inr (of, is, played_from (then_reaches (unless_step_fault go_on) e))
 
 -- steps that brought their data
-pub continues_with_data : {a : Dialog ⊥ StepOutcome} {m n : Progress} {o p : LinkState}
-    (go_on : List ℕ → Dialog ⊥ StepOutcome)
+pub goes_on : {a : Dialog ⊥ StepOutcome} {m n : Progress} {o p : LinkState} (go_on : List ℕ → Dialog ⊥ StepOutcome)
     (bytes : List ℕ) → RunsOverLink a m o p (Ok bytes) n → Reaches (a >>= unless_step_fault go_on) m o (go_on bytes) n p
-continues_with_data go_on bytes f = reaches_bind (unless_step_fault go_on) f
+goes_on go_on bytes f = then_reaches (unless_step_fault go_on) f
 
 -- a step of a list of steps
-pub plays_first_step : (commands : List Command) (steps : List (List Command)) (before bytes : List ℕ) {m n : Progress}
+pub play_on : (commands : List Command) (steps : List (List Command)) (before bytes : List ℕ) {m n : Progress}
     {o p : LinkState} → RunsOverLink (step commands) m o p (Ok bytes) n
     → Reaches (play (commands ∷ steps) before) m o (play steps (before ++ bytes)) n p
 unfolding play
-plays_first_step commands steps before bytes f = continues_with_data (λ bs. play steps (before ++ bs)) bytes f
+play_on commands steps before bytes f = goes_on (λ bs. play steps (before ++ bs)) bytes f
 
--- If the first step stops, all of them stop.
-pub stops_in_first_step : (commands : List Command) (steps : List (List Command)) (before : List ℕ) (m n : Progress)
+pub play_stops : (commands : List Command) (steps : List (List Command)) (before : List ℕ) (m n : Progress)
     (o p : LinkState) (fault : HostFault)
     → StopsSteps (step commands) m o p fault n → StopsSteps (play (commands ∷ steps) before) m o p fault n
 unfolding play
-stops_in_first_step commands steps before m n o p fault e = search (rules, stops_before_more)
+play_stops commands steps before m n o p fault e = search (rules, stops_there)
 
--- If no step is left, the dialog was run to its end.
-pub plays_to_end : (bytes : List ℕ) {a : Dialog ⊥ StepOutcome} {m n : Progress} {o p : LinkState}
+pub play_done : (bytes : List ℕ) {a : Dialog ⊥ StepOutcome} {m n : Progress} {o p : LinkState}
     → Reaches a m o (play [] bytes) n p → RunsOverLink a m o p (Ok bytes) n
 unfolding play
-plays_to_end bytes f = f
+play_done bytes f = played_from f
 
 -- the result of an operation from the outcome of its steps
 
--- If the steps stopped, the call returns their fault.
 pub stop_ends : {A : Type 0} (allocates : Bool) (first : Dialog ⊥ StepOutcome) (judge : StepOutcome
     → Result A HostFault) → ((fault : StepFault) → judge (Err fault) ≡ Err (host_fault fault))
     → (fault : HostFault) (m n : Progress) (o p : LinkState) → StopsSteps first m o p fault n
     → EndsCall allocates (first >>= λ outcome. Done (judge outcome)) m o p (Err fault) n
 stop_ends allocates first judge passes_on fault m n o p (inr (of, is, e)) =
-    search (rules, reaches_bind (λ outcome. Done (judge outcome)) e)
+    search (rules, then_reaches (λ outcome. Done (judge outcome)) e)
 stop_ends allocates first judge passes_on SendFailed m n o p (inl e) = broken_bind (λ outcome. Done (judge outcome)) e
 stop_ends allocates first judge passes_on RecvFailed m n o p (inl e) = broken_bind (λ outcome. Done (judge outcome)) e
 stop_ends allocates first judge passes_on _ m n o p (inl e) = absurd e.breaks
@@ -74,19 +70,18 @@ checked_ends : {dialog : Dialog ⊥ (Result (List ℕ) HostFault)} {m n : Progre
     → EndsCall false dialog m o p (if force then Ok found else if same then Ok found else Err (WrongSignature found)) n
 checked_ends wanted found force same e = search rules
 
--- The result of an opening, from that of its steps; below, of a closing.
 pub opening_ends : (wanted : List ℕ) (force : Bool) (begun : Result (List ℕ) HostFault) (m n : Progress)
     (o p : LinkState) → EndsSteps handshake (λ found. found) m o p begun n
     → EndsCall false (opening wanted force) m o p (opening_result wanted force begun) n
 unfolding opening
 opening_ends wanted force (Ok found) m n o p e =
     checked_ends wanted found force (bytes_eq found wanted)
-    (reaches_bind (λ outcome. Done (checked_by (signature_checked wanted force) outcome)) e)
+    (played_from (then_reaches (λ outcome. Done (checked_by (signature_checked wanted force) outcome)) e))
 opening_ends wanted force (Err fault) m n o p e = search (rules, stop_ends)
 
 pub closing_ends : (result : Result (Unit {0}) HostFault) (m n : Progress) (o p : LinkState)
     → EndsSteps (step (leave ∷ [])) (λ done. []) m o p result n → EndsCall false closing m o p result n
 unfolding closing
-closing_ends (Ok done) m n o p e = reaches_bind (λ outcome. Done (checked_by no_result outcome)) e
+closing_ends (Ok done) m n o p e = played_from (then_reaches (λ outcome. Done (checked_by no_result outcome)) e)
 closing_ends (Err fault) m n o p e =
     stop_ends false (step (leave ∷ [])) (checked_by no_result) (λ fault. refl) fault m n o p e

@@ -8,85 +8,79 @@ use Rattle.avr_part.specs.Mem.{is_writable}
 use Rattle.avr_part.specs.Part.{Part, IsPart, size_of}
 use Rattle.stk_frame.specs.declared.command.Command.{Command}
 use Rattle.stk_frame.specs.declared.answer.Shape.{Shape}
-use Rattle.stk_frame.specs.Commands.{FitsShape, data_count}
+use Rattle.stk_frame.specs.Commands.{FitsShape}
 use Rattle.stk_host.specs.declared.fault.HostFault.{HostFault}
 use Rattle.stk_host.specs.declared.fault.HostFault.TheVariants.{ReadOnly}
 use Rattle.stk_host.specs.Transcript.{LinkState}
 use Rattle.stk_host.specs.Dialog.{Dialog, Done}
-use Rattle.stk_host.specs.Play.{Progress, RunsOverLink, Reaches}
+use Rattle.stk_host.specs.Play.{Progress, RunsOverLink}
+use Rattle.stk_host.specs.Reach.{Reaches}
 use Rattle.stk_host.specs.Steps.{StepOutcome, step, play}
 use Rattle.stk_host.specs.Places.{each_from}
 use Rattle.stk_host.specs.WriteSteps.{write_steps}
 use Rattle.stk_host.specs.Operations.{checked_by, operation, writing, Difference, difference_from, differs, comparison}
-use Rattle.stk_host.specs.Calls.{StopsSteps, EndsSteps, EndsCall, CompletesSteps, IsSizedShape}
+use Rattle.stk_host.specs.Calls.{StopsSteps, EndsSteps, EndsCall, CompletesSteps, CompletesStepsWithData, IsSizedShape, data_count}
 use Rattle.stk_host.proofs.ImagePlaces.PagesAndRuns.{next_place}
-use Rattle.stk_host.proofs.Transcripts.Reached.{reaches_here, reaches_further, reaches_bind}
-use Rattle.stk_host.proofs.Operations.StepEnds.{stops_once_reached, stop_ends, plays_first_step, stops_in_first_step, plays_to_end}
+use Rattle.stk_host.proofs.Transcripts.Reached.{reaches_here, reaches_on, played_from, then_reaches}
+use Rattle.stk_host.proofs.Operations.StepEnds.{stops_on, stop_ends, play_on, play_stops, play_done}
 
--- Data that fit a sized shape have its size.
+-- data of this size
 pub counted_data : (of : Shape) (bytes : List ℕ) → IsSizedShape of → FitsShape of bytes → length bytes ≡ data_count of
 counted_data of bytes counted sized = search rules
 
 -- a step that was run goes on with those that follow
-pub step_completes : (commands : List Command) (before bytes : List ℕ) {m n : Progress} {o p : LinkState}
-    → RunsOverLink (step commands) m o p (Ok bytes) n → CompletesSteps (commands ∷ []) before (before
+pub goes_with : (commands : List Command) (before bytes : List ℕ) {m n : Progress} {o p : LinkState}
+    → RunsOverLink (step commands) m o p (Ok bytes) n → CompletesStepsWithData (commands ∷ []) before (before
     ++ bytes) m o p (Ok tt) n
-step_completes commands before bytes f = λ steps. plays_first_step commands steps before bytes f
+goes_with commands before bytes f = λ steps. play_on commands steps before bytes f
 
--- If a step stopped, all steps that begin with it stop.
-pub step_stops : (commands : List Command) (before : List ℕ) (m n : Progress) (o p : LinkState) (fault : HostFault)
+pub stops_with : (commands : List Command) (before : List ℕ) (m n : Progress) (o p : LinkState) (fault : HostFault)
     → StopsSteps (step commands) m o p fault n
     → (steps : List (List Command)) → StopsSteps (play (commands ∷ steps) before) m o p fault n
-step_stops commands before m n o p fault e = λ steps. stops_in_first_step commands steps before m n o p fault e
+stops_with commands before m n o p fault e = λ steps. play_stops commands steps before m n o p fault e
 
 -- a step that brings no data
-pub quiet_step_completes : (commands : List Command) (of : Shape) (bytes : List ℕ)
-    (result : Result (Unit {0}) HostFault)
+pub goes_quietly : (commands : List Command) (of : Shape) (bytes : List ℕ) (result : Result (Unit {0}) HostFault)
     (m n : Progress) (o p : LinkState) → IsSizedShape of → data_count of ≡ 0 → OnOk result (FitsShape of bytes)
-    → EndsSteps (step commands) (λ done. bytes) m o p result n → CompletesSteps (commands ∷ []) [] [] m o p result n
-quiet_step_completes commands of bytes (Ok done) m n o p counted zero sized e =
-    rw (nil_from_length bytes (counted_data of bytes counted sized ∙ zero)) at (step_completes commands [] bytes e)
-quiet_step_completes commands of bytes (Err fault) m n o p counted zero sized e = step_stops commands [] m n o p fault e
+    → EndsSteps (step commands) (λ done. bytes) m o p result n → CompletesSteps (commands ∷ []) m o p result n
+goes_quietly commands of bytes (Ok done) m n o p counted zero sized e =
+    rw (nil_from_length bytes (counted_data of bytes counted sized ∙ zero)) at (goes_with commands [] bytes e)
+goes_quietly commands of bytes (Err fault) m n o p counted zero sized e = stops_with commands [] m n o p fault e
 
 -- a step that nothing follows
-pub only_step_ends : (commands : List Command) (result : Result (Unit {0}) HostFault) (m n : Progress) (o p : LinkState)
-    → CompletesSteps (commands ∷ []) [] [] m o p result n
-    → EndsSteps (play (commands ∷ []) []) (λ done. []) m o p result n
-only_step_ends commands result m n o p e = search (rules, plays_to_end)
+pub alone : (commands : List Command) (result : Result (Unit {0}) HostFault) (m n : Progress) (o p : LinkState)
+    → CompletesSteps (commands ∷ []) m o p result n → EndsSteps (play (commands ∷ []) []) (λ done. []) m o p result n
+alone commands result m n o p e = search (rules, play_done)
 
--- No steps were run, and nothing has passed.
 pub none_played : (m : Progress) (o : LinkState) → RunsOverLink (play [] []) m o o (Ok []) m
-none_played m o = plays_to_end [] (reaches_here (play [] []) m o)
+none_played m o = play_done [] (reaches_here (play [] []) m o)
 
 -- the steps of a place among those that are left of a dialog
 module _ {a : Dialog ⊥ StepOutcome} {k m : Progress} {r o : LinkState} (steps_at : ℕ → List (List Command))
     (place end : ℕ) (before : List ℕ)
     (come : Reaches a k r (play (each_from steps_at place (end - place)) before) m o) (lt : place < end) where
-  -- The steps of the places after this one.
   abbrev rest : List (List Command)
   rest = each_from steps_at (place + 1) (end - (place + 1))
 
-  -- If the steps of this place were run, those after it are left.
   pub reaches_next : {n : Progress} {p : LinkState} (after : List ℕ)
-      → CompletesSteps (steps_at place) before after m o p (Ok tt) n → Reaches a k r (play rest after) n p
-  reaches_next after e = search (rules, reaches_further, next_place)
+      → CompletesStepsWithData (steps_at place) before after m o p (Ok tt) n → Reaches a k r (play rest after) n p
+  reaches_next after e = search (rules, reaches_on, next_place)
 
-  -- If the steps of this place stopped, all stop.
   pub stops_next : (n : Progress) (p : LinkState) (fault : HostFault)
       → ((more : List (List Command)) → StopsSteps (play (steps_at place ++ more) before) m o p fault n)
       → StopsSteps a k r p fault n
-  stops_next n p fault e = search (rules, stops_once_reached, next_place)
+  stops_next n p fault e = search (rules, stops_on, next_place)
 
 -- a place without steps
-pub no_steps_complete : {these : List (List Command)} (m : Progress) (o : LinkState) → these ≡ []
-    → CompletesSteps these [] [] m o o (Ok tt) m
-no_steps_complete m o none = λ steps. rw none (reaches_here (play steps []) m o)
+pub passes : {these : List (List Command)} (m : Progress) (o : LinkState) → these ≡ []
+    → CompletesSteps these m o o (Ok tt) m
+passes m o none = λ steps. rw none (reaches_here (play steps []) m o)
 
 -- after the last place
 pub plays_all : {a : Dialog ⊥ StepOutcome} {k m : Progress} {r o : LinkState} (steps_at : ℕ → List (List Command))
     (place end : ℕ) {before : List ℕ} → Reaches a k r (play (each_from steps_at place (end - place)) before) m o
     → end ≤ place → RunsOverLink a k r o (Ok before) m
-plays_all steps_at place end {before = before} come past = search (rules, plays_to_end)
+plays_all steps_at place end {before = before} come past = search (rules, play_done)
 
 -- the outcome of an operation, from the outcome of its steps
 
@@ -97,12 +91,11 @@ reported_ends : {A : Type 0} (allocates : Bool) (steps : List (List Command)) (j
 unfolding operation
 reported_ends allocates steps judge fault m n o p e = search (rules, stop_ends)
 
--- Steps that brought data give the result that is made of them.
 checked_from : {A : Type 0} (steps : List (List Command)) (judge : List ℕ → Result A HostFault) (bytes : List ℕ)
     {m n : Progress} {o p : LinkState}
     → RunsOverLink (play steps []) m o p (Ok bytes) n → RunsOverLink (operation steps judge) m o p (judge bytes) n
 unfolding operation
-checked_from steps judge bytes e = reaches_bind (λ outcome. Done (checked_by judge outcome)) e
+checked_from steps judge bytes e = played_from (then_reaches (λ outcome. Done (checked_by judge outcome)) e)
 
 -- an operation that reads nothing
 pub done_ends : (steps : List (List Command)) (result : Result (Unit {0}) HostFault) (m n : Progress) (o p : LinkState)
@@ -111,32 +104,27 @@ pub done_ends : (steps : List (List Command)) (result : Result (Unit {0}) HostFa
 done_ends steps (Ok done) m n o p e = checked_from steps (λ bytes. Ok tt) [] e
 done_ends steps (Err fault) m n o p e = reported_ends false steps (λ bytes. Ok tt) fault m n o p e
 
--- A write of a memory that can be written ends as its steps do.
 pub writing_ends : (part : Part) (mem : Mem) (image : List (Option ℕ)) (result : Result (Unit {0}) HostFault)
     (m n : Progress) (o p : LinkState) → is_writable mem ≡ true
     → EndsSteps (play (write_steps part mem image) []) (λ done. []) m o p result n
     → EndsCall false (writing part mem image) m o p result n
 writing_ends part mem image result m n o p can e = search (rules, done_ends)
 
--- A write of a memory that can't be written is refused, and nothing passes.
 pub writes_nothing : (part : Part) (mem : Mem) (image : List (Option ℕ)) (m : Progress) (o : LinkState)
     → is_writable mem ≡ false → EndsCall false (writing part mem image) m o o (Err (ReadOnly mem)) m
-writes_nothing part mem image m o cannot = search (rules, reaches_here)
+writes_nothing part mem image m o cannot = search (rules, played_from, reaches_here)
 
--- A read returns the data of its steps, or their fault and no data.
 pub reading_ends : (steps : List (List Command)) (bytes : List ℕ) (result : Result (Unit {0}) HostFault)
     (m n : Progress) (o p : LinkState) → EndsSteps (play steps []) (λ done. bytes) m o p result n
     → EndsCall true (operation steps Ok) m o p (result_and result (Ok (if is_ok result then bytes else []))) n
 reading_ends steps bytes (Ok done) m n o p e = checked_from steps Ok bytes e
 reading_ends steps bytes (Err fault) m n o p e = reported_ends true steps Ok fault m n o p e
 
--- A comparison's result is no fault of the link.
 differs_ends : (dialog : Dialog ⊥ (Result (Unit {0}) HostFault)) (mem : Mem) (found : Option Difference)
     {m n : Progress} {o p : LinkState}
     → RunsOverLink dialog m o p (differs mem found) n → EndsCall true dialog m o p (differs mem found) n
 differs_ends dialog mem found e = search rules
 
--- A comparison returns what comparing the data of its steps gives, or their fault.
 pub verifying_ends : (steps : List (List Command)) (mem : Mem) (image : List (Option ℕ)) (bytes : List ℕ)
     (result : Result (Unit {0}) HostFault) (m n : Progress) (o p : LinkState)
     → EndsSteps (play steps []) (λ done. bytes) m o p result n
@@ -153,16 +141,13 @@ begins_at steps_at count before m o = search (rules, reaches_here)
 
 -- the number of bytes kept of a memory that was read
 
--- What is kept of a read that succeeded has the size that was read.
 pub read_sized : (taken : Result (Unit {0}) HostFault) (items : List ℕ) (n : ℕ) → OnOk taken (length items ≡ n)
     → OnOk taken (length (if is_ok taken then items else []) ≡ n)
 read_sized taken items n size = search rules
 
--- What is kept of a read is shorter than 2^32 bytes.
 pub read_short : (taken : Result (Unit {0}) HostFault) (items : List ℕ) (n : ℕ) → n < 2 ^ 32
     → OnOk taken (length items ≡ n) → length (if is_ok taken then items else []) < 2 ^ 32
 read_short taken items n bound size = search rules
 
--- A part's memory is smaller than 2^32 bytes.
 pub size_fits : (mem : Mem) (part : Part) → IsPart part → size_of mem part < 2 ^ 32
 size_fits mem part is = search rules

@@ -30,7 +30,6 @@ never_both f g = search (rules, sent_less f g.none_taken)
 abbrev fresh : LinkState
 fresh = record { transcript = []; failures = 0 }
 
--- A link that has failed once, with this transcript.
 abbrev showing : Transcript → LinkState
 showing transcript = record { transcript = transcript; failures = 1 }
 
@@ -43,11 +42,9 @@ never_either dialog before transcript f g =
     (subst (λ t. BreaksSending dialog before t f.shown) (sym f.grows) f.breaks)
     (subst (λ t. BreaksListening dialog before t g.shown) (sym g.grows) g.breaks)
 
--- The state in which frame 6 is next and nothing is unread.
 abbrev sixth : Progress
 sixth = progress_at 6 []
 
--- The frame of LEAVE with number 6.
 abbrev leaving : List ℕ
 leaving = 0x1B ∷ 0x06 ∷ 0x00 ∷ 0x03 ∷ 0x0E ∷ 0x11 ∷ 0x01 ∷ 0x01 ∷ 0x01 ∷ []
 
@@ -94,7 +91,6 @@ unsent_at_all = record {
   failed = refl;
 }
 
--- That is not a failure to receive a reply, either.
 pub not_unasked : (after : Progress) → EndsCall false closing sixth fresh (showing []) (Err RecvFailed) after → ⊥
 not_unasked after f = never_either closing sixth [] unsent_at_all f
 

@@ -12,32 +12,27 @@ use Rattle.stk_frame.proofs.Cuts.{cut_append, cut_joined}
 use Rattle.stk_host.specs.declared.link.Item.TheVariants.{Byte, Silence, End}
 use Rattle.stk_host.specs.Tape.{Tape, on_tape, bytes_on_tape, leading_bytes, answer, reading_from_first, timeout_or_end, first_reply, is_reply, past_skipped, reply_byte_limit, Replied, Silent, Ended, Babbled}
 
--- The bytes of joined tapes are joined.
+-- the bytes of two tapes joined, and of a tape of bytes alone
 pub bytes_of_append : (x y : Tape) → bytes_on_tape (x ++ y) ≡ bytes_on_tape x ++ bytes_on_tape y
 bytes_of_append [] y = refl
 bytes_of_append (Byte byte ∷ x) y = ap (λ bytes. byte ∷ bytes) (bytes_of_append x y)
 bytes_of_append (item ∷ x) y = bytes_of_append x y
 
--- The bytes of a tape of bytes alone are these bytes.
 pub bytes_of_on_tape : (bytes : List ℕ) → bytes_on_tape (on_tape bytes) ≡ bytes
 bytes_of_on_tape [] = refl
 bytes_of_on_tape (byte ∷ bytes) = ap (λ bs. byte ∷ bs) (bytes_of_on_tape bytes)
 
--- Joined bytes are joined on the tape.
 pub on_tape_append : (x y : List ℕ) → on_tape (x ++ y) ≡ on_tape x ++ on_tape y
 on_tape_append x y = map-append Byte x y
 
--- The leading bytes of a tape that begins with bytes are these and the leading ones after them.
 bytes_in_tape : (x : List ℕ) (tape : Tape) → leading_bytes (on_tape x ++ tape) ≡ x ++ leading_bytes tape
 bytes_in_tape [] tape = refl
 bytes_in_tape (b ∷ x) tape = ap (λ t. b ∷ t) (bytes_in_tape x tape)
 
--- Dropping the bytes that a tape begins with leaves what follows them.
 pub drop_tape : (x : List ℕ) (tape : Tape) → drop (length x) (on_tape x ++ tape) ≡ tape
 drop_tape [] tape = refl
 drop_tape (b ∷ x) tape = drop_tape x tape
 
--- A front that is longer than the first list has all of it and a front of the second.
 take_over : (n : ℕ) (x y : List ℕ) → length x ≤ n → take n (x ++ y) ≡ x ++ take (n - length x) y
 take_over n x y le = ap (λ m. take m (x ++ y)) (omega arith) ∙ take-append-add x y (n - length x)
 
@@ -47,7 +42,7 @@ pub reads_by : (seq : ℕ) (tape : Tape) (bytes : List ℕ) → take reply_byte_
 unfolding answer
 reads_by seq tape bytes is = ap (λ bs. reading_from_first (first_reply seq (cut bs)) bs tape) is
 
--- If the bytes hold no reply and are below the limit, the item after them decides.
+-- no reply yet, and more may come
 stopped_at : (seq : ℕ) (x : List ℕ) (tape : Tape) → first_reply seq (cut x) ≡ None → length x < reply_byte_limit
     → leading_bytes tape ≡ [] → answer seq (on_tape x ++ tape) ≡ timeout_or_end tape
 stopped_at seq x tape none few no_bytes =
@@ -55,22 +50,19 @@ stopped_at seq x tape none few no_bytes =
     rw (bytes_in_tape x tape, no_bytes, append-nil x) (take_all reply_byte_limit x (omega arith)) in
     reads_by seq (on_tape x ++ tape) x bytes ∙ rw (none, lt-leb reply_byte_limit (length x) few, drop_tape x tape) refl
 
--- A timeout after bytes without a reply is read as a timeout.
 pub reading_silent : (seq : ℕ) (x : List ℕ) (more : Tape) → first_reply seq (cut x) ≡ None → length x < reply_byte_limit
     → answer seq (on_tape x ++ Silence ∷ more) ≡ Some (Silent, more)
 reading_silent seq x more none few = stopped_at seq x (Silence ∷ more) none few refl
 
--- An end after bytes without a reply is read as the end.
 pub reading_ended : (seq : ℕ) (x : List ℕ) (more : Tape) → first_reply seq (cut x) ≡ None → length x < reply_byte_limit
     → answer seq (on_tape x ++ End ∷ more) ≡ Some (Ended, more)
 reading_ended seq x more none few = stopped_at seq x (End ∷ more) none few refl
 
--- Bytes without a reply, and nothing after them: listening waits.
 pub reading_waits : (seq : ℕ) (x : List ℕ) → first_reply seq (cut x) ≡ None → length x < reply_byte_limit
     → answer seq (on_tape x) ≡ None
 reading_waits seq x none few = ap (answer seq) (sym (append-nil (on_tape x))) ∙ stopped_at seq x [] none few refl
 
--- If the limit is reached without a reply, there were too many bytes.
+-- if the limit is reached
 pub reading_babbled : (seq : ℕ) (x : List ℕ) (more : Tape) → first_reply seq (cut x) ≡ None → length x
     ≡ reply_byte_limit → answer seq (on_tape x ++ more) ≡ Some (Babbled, more)
 reading_babbled seq x more none full =
@@ -81,22 +73,19 @@ reading_babbled seq x more none full =
     reads_by seq (on_tape x ++ more) x bytes ∙ rw (none, le-leb reply_byte_limit (length x) (omega arith))
     (ap (λ t. Some (Babbled, t)) (ap (λ n. drop n (on_tape x ++ more)) (sym full) ∙ drop_tape x more))
 
--- Skipping no byte changes nothing.
 pub further_zero : (o : Option (List ℕ × ℕ)) → o ≡ past_skipped 0 o
 further_zero None = refl
 further_zero (Some (body, used)) = ap (λ n. Some (body, n)) (omega arith)
 
--- Skipping bytes twice skips their sum.
 pub further_further : (a b : ℕ) (o : Option (List ℕ × ℕ)) → past_skipped a (past_skipped b o) ≡ past_skipped (a + b) o
 further_further a b None = refl
 further_further a b (Some (body, used)) = ap (λ n. Some (body, n)) (omega arith)
 
--- If no reply is found after skipped bytes, there is none.
 further_none : (a : ℕ) (o : Option (List ℕ × ℕ)) → past_skipped a o ≡ None → o ≡ None
 further_none a None e = refl
 further_none a (Some (body, used)) e = cc
 
--- After pieces without a reply the first reply is that of the others, and the pieces are skipped.
+-- after pieces without a reply
 pub first_reply_behind : (seq : ℕ) (xs ys : List (List ℕ)) → first_reply seq xs ≡ None
     → first_reply seq (xs ++ ys) ≡ past_skipped (length (concat xs)) (first_reply seq ys)
 first_reply_behind seq [] ys none = further_zero (first_reply seq ys)
@@ -109,7 +98,6 @@ first_reply_behind seq (x ∷ xs) ys none = elim (cases_Bool (is_reply seq x)) [
       ∙ ap (λ n. past_skipped n (first_reply seq ys)) (sym (length-append x (concat xs)))))
 ]
 
--- A reply found after skipped bytes was found in the bytes after them.
 some_inside : (a : ℕ) (o : Option (List ℕ × ℕ)) (v : List ℕ × ℕ) → past_skipped a o ≡ Some v
     → (w : List ℕ × ℕ) × (o ≡ Some w)
 some_inside a None v e = absurd (none-some v e)
@@ -135,7 +123,6 @@ no_good (piece ∷ pieces) none = elim (cases_Bool (is_frame piece)) [
   | inr is_not ↦ rw is_not (no_good pieces (rw is_not at none))
 ]
 
--- Pieces of which none is a good frame hold no reply.
 pub none_good : (seq : ℕ) (pieces : List (List ℕ)) → filter is_good pieces ≡ [] → first_reply seq pieces ≡ None
 none_good seq [] none = refl
 none_good seq (piece ∷ pieces) none = elim (cases_Bool (is_good piece)) [
@@ -143,7 +130,6 @@ none_good seq (piece ∷ pieces) none = elim (cases_Bool (is_good piece)) [
   | inr is_not ↦ rw is_not (ap (past_skipped (length piece)) (none_good seq pieces (rw is_not at none)))
 ]
 
--- Pieces that are no frames hold no reply.
 first_reply_skipped : (seq : ℕ) (xs : List (List ℕ)) → filter is_frame xs ≡ [] → first_reply seq xs ≡ None
 first_reply_skipped seq xs none = none_good seq xs (no_good xs none)
 

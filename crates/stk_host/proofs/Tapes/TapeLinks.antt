@@ -10,14 +10,12 @@ use Rattle.stk_host.specs.Tape.{Tape, leading_bytes, on_tape}
 use Rattle.stk_host.specs.Transcript.{Transcript, Sent, Got, Receives, heard, items_of}
 use Rattle.stk_host.proofs.Transcripts.Laws.{got_append}
 
--- If joined tapes are empty, so is the second.
 nothing_behind : (prefix back : Tape) → prefix ++ back ≡ [] → back ≡ []
 nothing_behind [] back none = none
 nothing_behind (item ∷ prefix) back none = absurd (cc)
 
 -- ---- a piece, and what is left of a tape after it
 
--- The leading bytes that are given, and the tape after them, are the tape.
 bytes_given : (most : ℕ) (tape : Tape) → on_tape (take most (leading_bytes tape))
     ++ drop (length (on_tape (take most (leading_bytes tape)))) tape ≡ tape
 bytes_given (suc most) (Byte b ∷ tape) = ap (λ (t : Tape). Byte b ∷ t) (bytes_given most tape)
@@ -28,14 +26,12 @@ abbrev ends_of : Tape → ℕ
 ends_of [] = 1
 ends_of (item ∷ tape) = 0
 
--- A piece and the tape after it are the tape, and an end if the tape was empty.
 piece_given : (most : ℕ) (tape : Tape) → next_piece most tape ++ drop (length (next_piece most tape)) tape
     ≡ tape ++ replicate (ends_of tape) End
 piece_given most [] = refl
 piece_given most (Byte b ∷ tape) = bytes_given most (Byte b ∷ tape) ∙ sym (append-nil (Byte b ∷ tape))
 piece_given most (item ∷ tape) = ap (λ (t : Tape). item ∷ t) (sym (append-nil tape))
 
--- If an end was given, no item is left.
 none_left : (n : ℕ) (tape : Tape) → 0 < ends_of tape → drop n tape ≡ []
 none_left zero [] some = refl
 none_left (suc n) [] some = refl
@@ -43,9 +39,8 @@ none_left n (item ∷ tape) some = absurd (omega (arith, some))
 
 -- ---- calls
 
--- Nothing was done since.
-pub nothing_consumed : (a : TapeState) → ConsumesTape a a
-nothing_consumed a = record {
+pub of_tape_now : (a : TapeState) → ConsumesTape a a
+of_tape_now a = record {
   during = [];
   grows = sym (append-nil a.transcript);
   ends = 0;
@@ -53,9 +48,8 @@ nothing_consumed a = record {
   over = λ some. absurd (omega (arith, some));
 }
 
--- What holds since a first state and of a later one holds since the first.
-consumed_since_first : (a b c : TapeState) → ConsumesTape a b → ConsumesTape b c → ConsumesTape a c
-consumed_since_first a b c f g = record {
+of_tape_on : (a b c : TapeState) → ConsumesTape a b → ConsumesTape b c → ConsumesTape a c
+of_tape_on a b c f g = record {
   during = f.during ++ g.during;
   grows = g.grows ∙ ap (λ (t : Transcript). t ++ g.during) f.grows ∙ append_assoc a.transcript f.during g.during;
   ends = f.ends + g.ends;
@@ -63,32 +57,27 @@ consumed_since_first a b c f g = record {
   over = none f.ends g.ends g.gave f.over g.over;
 }
   where
-    -- If an end came in either part, no item is left after both.
     none : (m n : ℕ) → heard g.during ++ c.left ≡ b.left ++ replicate n End → (0 < m → b.left ≡ [])
         → (0 < n → c.left ≡ []) → 0 < m + n → c.left ≡ []
     none m (suc n) gave first last some = last (omega arith)
     none m zero gave first last some =
         nothing_behind (heard g.during) c.left (gave ∙ append-nil b.left ∙ first (omega (arith, some)))
 
--- So each call that keeps it keeps it since any start.
-kept_since : (b c : TapeState) → ConsumesTape b c → Preserves ConsumesTape b c
-kept_since b c g = λ start f. consumed_since_first start b c f g
+since : (b c : TapeState) → ConsumesTape b c → Preserves ConsumesTape b c
+since b c g = λ start f. of_tape_on start b c f g
 
 -- nothing was received
 quiet_of_tape : (during : Transcript) (b c : TapeState) → heard during ≡ [] → c.left ≡ b.left
     → c.transcript ≡ b.transcript ++ during → Preserves ConsumesTape b c
-quiet_of_tape during b c quiet left transcript = kept_since b c (search rules)
+quiet_of_tape during b c quiet left transcript = since b c (search rules)
 
--- Neither the tape nor the transcript has changed.
 pub same_of_tape : (b c : TapeState) → c.left ≡ b.left → c.transcript ≡ b.transcript → Preserves ConsumesTape b c
 same_of_tape b c left transcript = quiet_of_tape [] b c refl left (transcript ∙ sym (append-nil b.transcript))
 
--- Bytes were sent, and the tape hasn't changed.
 pub sent_of_tape : (bytes : List ℕ) (b c : TapeState) → c.left ≡ b.left → c.transcript ≡ b.transcript ++ Sent bytes ∷ []
     → Preserves ConsumesTape b c
 sent_of_tape bytes b c left transcript = quiet_of_tape (Sent bytes ∷ []) b c refl left transcript
 
--- A piece was received, or the call failed.
 pub received_of_tape : (result : Result Heard LinkFault) (buffer : List ℕ) (b c : TapeState)
     → Receives buffer (tape_state b) (tape_state c) result
     → IfOk result (λ given. items_of given buffer ≡ next_piece (min b.cut (length buffer)) b.left)
@@ -98,7 +87,7 @@ received_of_tape (Ok given) buffer b c receives piece left kept =
     let most : ℕ = min b.cut (length buffer) in
     let rest : c.left ≡ drop (length (next_piece most b.left)) b.left =
     left ∙ ap (λ (t : Tape). drop (length t) b.left) piece in
-    kept_since b c (record {
+    since b c (record {
       during = Got (items_of given buffer) ∷ [];
       grows = receives.ok;
       ends = ends_of b.left;

@@ -7,13 +7,12 @@ use Rattle.stk_host.specs.declared.fault.HostFault.TheVariants.{SendFailed}
 use Rattle.stk_host.specs.Tape.{Tape, Reading, on_tape, answer}
 use Rattle.stk_host.specs.Transcript.{Transcript, Sent, Taken, Got, NoneTaken, sent, heard}
 use Rattle.stk_host.specs.Dialog.{Dialog, Done, Emit, Ask, ◌>>=◌, Event, Frame, Emitted, Played, played, prepend_events, continue_with_reading, next, bytes_sent}
-use Rattle.stk_host.specs.Play.{Progress, progress_at, IsDueToListen, InTurnFrom, InTurn, played_over, Plays, Breaks, BreaksSending, BreaksListening, BreaksBy, IsPrefixOfEvents, TranscriptLeads}
-use Rattle.stk_host.specs.Reach.{NothingReceived, WaitsFrom}
+use Rattle.stk_host.specs.Play.{Progress, progress_at, IsDueToListen, InTurnFrom, InTurn, played_over, Plays, Breaks, BreaksSending, BreaksListening, BreaksBy, IsPrefixOfEvents}
+use Rattle.stk_host.specs.Reach.{TranscriptLeads, NothingReceived, WaitsFrom}
 use Rattle.stk_host.proofs.Transcripts.Laws.{sent_append, got_append, got_both, got_quiet, sent_waiting, none_append, none_behind, none_waiting}
 
 -- runs
 
--- The run from a result, or one that waits.
 abbrev pub continued : {E A B : Type 0} → Option (A × ℕ × Tape) → (A → ℕ → Tape → Played E B) → Played E B
 continued None go_on = record { events = []; outcome = None }
 continued (Some (a, seq, tape)) go_on = go_on a seq tape
@@ -22,7 +21,6 @@ continued (Some (a, seq, tape)) go_on = go_on a seq tape
 abbrev pub followed : {E A B : Type 0} → Played E A → (A → ℕ → Tape → Played E B) → Played E B
 followed p go_on = prepend_events p.events (continued p.outcome go_on)
 
--- The run of two dialogs in sequence is the first one's, followed by the second one's from its result.
 pub played_bind : {E A B : Type 0} (dialog : Dialog E A) (go_on : A → Dialog E B) (seq : ℕ) (tape : Tape)
     → played (dialog >>= go_on) seq tape ≡ followed (played dialog seq tape) (λ a. played (go_on a))
 played_bind (Done a) go_on seq tape = refl
@@ -35,7 +33,6 @@ played_bind (Ask body resume) go_on seq tape =
       | Some got ↦ played_bind (resume got.0) go_on (next seq) got.1
     ])
 
--- Joined events send the joined bytes.
 pub bytes_append : {E : Type 0} (x y : List (Event E)) → bytes_sent (x ++ y) ≡ bytes_sent x ++ bytes_sent y
 bytes_append [] y = refl
 bytes_append (Frame bytes ∷ x) y = search (rules, append_assoc, bytes_append x y)
@@ -43,7 +40,6 @@ bytes_append (Emitted e ∷ x) y = bytes_append x y
 
 -- sending and listening in turn
 
--- If nothing was received, nothing was received out of turn.
 in_turn_without_bytes : {E R : Type 0} (dialog : Dialog E R) (seq : ℕ) (tape : Tape) (bytes : List ℕ)
     (transcript : Transcript) → NothingReceived transcript → InTurnFrom dialog seq tape bytes transcript
 in_turn_without_bytes dialog seq tape bytes [] quiet = tt
@@ -69,7 +65,6 @@ module _ {E F A B : Type 0} (dialog : Dialog E A) (inner : Dialog F B) (m n : �
     (before : List ℕ)
     (due : (x : Tape) (bytes : List ℕ) → IsDueToListen inner n (inner_tape ++ x) bytes
     → IsDueToListen dialog m (tape ++ x) (before ++ bytes)) where
-  -- The transcript after any front, which both have received.
   in_turn_shifted : (x : Tape) (bytes : List ℕ) (transcript : Transcript)
       → InTurnFrom inner n (inner_tape ++ x) bytes transcript
       → InTurnFrom dialog m (tape ++ x) (before ++ bytes) transcript
@@ -92,12 +87,10 @@ module _ {E F A B : Type 0} (dialog : Dialog E A) (inner : Dialog F B) (m n : �
       (in_turn_shifted [] [] transcript (subst (λ t. InTurnFrom inner n t [] transcript) (sym (append-nil inner_tape))
       f)))
 
--- The transcript is in turn in a dialog with more after it.
 in_turn_bind : {E A B : Type 0} (dialog : Dialog E A) (go_on : A → Dialog E B) (m : Progress) (transcript : Transcript)
     → InTurn dialog m transcript → InTurn (dialog >>= go_on) m transcript
 in_turn_bind dialog go_on m transcript f = search (rules, in_turn_after, played_bind)
 
--- While the reply to a question is waited for, each piece is in turn.
 in_turn_waiting : {E R : Type 0} (body : List ℕ) (resume : Reading → Dialog E R) (seq : ℕ) (tape : Tape)
     (transcript : Transcript)
     → WaitsFrom seq tape transcript → InTurnFrom (Ask body resume) seq tape (frame seq body) transcript
@@ -124,85 +117,76 @@ prefix_behind IsPartOfEvent before f =
 
 -- leading
 
--- Nothing has passed.
 pub leads_here : {E R : Type 0} (dialog : Dialog E R) (m : Progress) → TranscriptLeads dialog m [] [] dialog m
 leads_here dialog m = record { goes_on = λ more. refl; all_sent = refl; none_taken = tt; in_turn = tt }
 
 -- after a transcript that leads on
 module _ {E R : Type 0} {a b : Dialog E R} {m n : Progress} {x : Transcript} {events : List (Event E)}
     (f : TranscriptLeads a m x events b n) where
-  -- The run over both transcripts is the events so far and the run of the rest over the second.
-  run_over_both : (y : Transcript) → played_over a m (x ++ y) ≡ prepend_events events (played_over b n y)
-  run_over_both y = ap (λ t. played a m.next (on_tape m.unread ++ t)) (got_append x y) ∙ f.goes_on (heard y)
+  -- the run over both transcripts, what they send, and that both listen in turn
+  led : (y : Transcript) → played_over a m (x ++ y) ≡ prepend_events events (played_over b n y)
+  led y = ap (λ t. played a m.next (on_tape m.unread ++ t)) (got_append x y) ∙ f.goes_on (heard y)
 
-  -- What both transcripts sent is what the events sent.
-  bytes_over_both : (y : Transcript) (later : List (Event E)) → bytes_sent later ≡ sent y
+  led_bytes : (y : Transcript) (later : List (Event E)) → bytes_sent later ≡ sent y
       → bytes_sent (events ++ later) ≡ sent (x ++ y)
-  bytes_over_both y later is = rw (bytes_append events later, f.all_sent, is, sent_append x y) refl
+  led_bytes y later is = rw (bytes_append events later, f.all_sent, is, sent_append x y) refl
 
-  -- Both transcripts are in turn.
-  in_turn_over_both : (y : Transcript) → InTurn b n y → InTurn a m (x ++ y)
-  in_turn_over_both y in_turn = search (rules, in_turn_joined, in_turn_after, append_assoc, bytes_append)
+  led_in_turn : (y : Transcript) → InTurn b n y → InTurn a m (x ++ y)
+  led_in_turn y in_turn = search (rules, in_turn_joined, in_turn_after, append_assoc, bytes_append)
 
-  -- A transcript that leads on from there leads on in both.
   pub leads_on : {c : Dialog E R} {l : Progress} {y : Transcript} {ys : List (Event E)}
       → TranscriptLeads b n y ys c l → TranscriptLeads a m (x ++ y) (events ++ ys) c l
   leads_on {c = c} {l = l} {y = y} {ys = ys} g =
-      search (rules, got_both, append_assoc, bytes_over_both, in_turn_over_both, none_append)
+      search (rules, got_both, append_assoc, led_bytes, led_in_turn, none_append)
 
-  -- A transcript that breaks off there breaks off in both, by the same fault.
-  pub breaks_by_after : (by : HostFault) (y : Transcript) (shown : List (Event E)) → BreaksBy by b n y shown
+  pub by_on : (by : HostFault) (y : Transcript) (shown : List (Event E)) → BreaksBy by b n y shown
       → BreaksBy by a m (x ++ y) (events ++ shown)
-  breaks_by_after SendFailed y shown g = record {
+  by_on SendFailed y shown g = record {
     whole = events ++ g.whole;
     part = g.part;
     unsent = g.unsent;
     later = g.later;
     shown_is = ap (λ es. events ++ es) g.shown_is ∙ sym (append_assoc events g.whole (Frame g.part ∷ []));
-    events_are = rw (run_over_both y, g.events_are)
-        (sym (append_assoc events g.whole (Frame (g.part ++ g.unsent) ∷ g.later)));
+    events_are = rw (led y, g.events_are) (sym (append_assoc events g.whole (Frame (g.part ++ g.unsent) ∷ g.later)));
     not_whole = λ none. g.not_whole (none_behind x y none);
-    all_sent = bytes_over_both y shown g.all_sent;
-    in_turn = in_turn_over_both y g.in_turn;
+    all_sent = led_bytes y shown g.all_sent;
+    in_turn = led_in_turn y g.in_turn;
   }
-  breaks_by_after by y shown g = search (rules, run_over_both, bytes_over_both, in_turn_over_both, none_append)
+  by_on by y shown g = search (rules, led, led_bytes, led_in_turn, none_append)
 
 -- the same before what follows, and before a transcript that breaks off
 module _ {E R : Type 0} {a b : Dialog E R} {m n : Progress} {x : Transcript} {events : List (Event E)} where
-  -- A transcript leads as far if more follows the dialog.
   pub leads_bind : {B : Type 0} (go_on : R → Dialog E B) → TranscriptLeads a m x events b n
       → TranscriptLeads (a >>= go_on) m x events (b >>= go_on) n
   leads_bind go_on f = search (rules, played_bind, append_assoc, in_turn_bind)
 
-  -- The same of a transcript that breaks off by any cause.
   pub breaks_on : (IsPartOfEvent : E → E → Type 0) {y : Transcript} {shown : List (Event E)}
       → TranscriptLeads a m x events b n → Breaks IsPartOfEvent b n y shown → Breaks IsPartOfEvent a m (x ++ y) (events
       ++ shown)
-  breaks_on IsPartOfEvent {y = y} {shown = shown} f g = search
-      (rules, run_over_both, prefix_behind, bytes_over_both, in_turn_over_both, f, g)
+  breaks_on IsPartOfEvent {y = y} {shown = shown} f g = search (rules, led, prefix_behind, led_bytes, led_in_turn, f, g)
 
 -- an output event
 pub leads_emit : {E R : Type 0} (e : E) (dialog : Dialog E R) (m : Progress)
     → TranscriptLeads (Emit e dialog) m [] (Emitted e ∷ []) dialog m
 leads_emit e dialog m = record { goes_on = λ more. refl; all_sent = refl; none_taken = tt; in_turn = tt }
 
--- The run of a dialog that was run to its end is these events and this outcome.
-pub whole_run : {E R : Type 0} {a : Dialog E R} {m n : Progress} {transcript : Transcript} {events : List (Event E)}
-    {result : R} → Plays a m transcript events result n → (more : Tape)
-    → played a m.next (on_tape m.unread ++ (heard transcript ++ more))
-    ≡ record { events = events; outcome = Some (result, n.next, on_tape n.unread ++ more) }
-whole_run {events = events} f more = search (rules, f.goes_on more)
+-- a result was reached
+pub plays_from : {E R : Type 0} {a : Dialog E R} {m n : Progress} {transcript : Transcript} {events : List (Event E)}
+    {result : R} → TranscriptLeads a m transcript events (Done result) n → Plays a m transcript events result n
+plays_from {events = events} f = search rules
+
+pub leads_from : {E R : Type 0} {a : Dialog E R} {m n : Progress} {transcript : Transcript} {events : List (Event E)}
+    {result : R} → Plays a m transcript events result n → TranscriptLeads a m transcript events (Done result) n
+leads_from {events = events} f = search rules
 
 -- breaking off
 
--- What breaks off in a dialog breaks off with more after it.
 pub breaks_bind : {E A B : Type 0} (IsPartOfEvent : E → E → Type 0) {a : Dialog E A} {m : Progress}
     {transcript : Transcript} {shown : List (Event E)} (go_on : A → Dialog E B)
     → Breaks IsPartOfEvent a m transcript shown → Breaks IsPartOfEvent (a >>= go_on) m transcript shown
 breaks_bind IsPartOfEvent {a = a} {m = m} {transcript = transcript} go_on f =
     search (rules, played_bind, append_assoc, in_turn_bind)
 
--- The same by a fault of the link.
 pub by_bind : {E A B : Type 0} (by : HostFault) (a : Dialog E A) (m : Progress) (transcript : Transcript)
     (shown : List (Event E)) (go_on : A → Dialog E B)
     → BreaksBy by a m transcript shown → BreaksBy by (a >>= go_on) m transcript shown

@@ -1,11 +1,10 @@
 -- Laws of transcripts.
-use Rattle.std.proofs.Common.{◌≡◌, ◌⊎◌, ℕ, List, [], ◌∷◌, ◌++◌, refl, sym, ap, ◌∙◌, append_assoc, rules}
+use Rattle.std.proofs.Common.{◌≡◌, ℕ, [], ◌∷◌, ◌++◌, refl, sym, ap, ◌∙◌, append_assoc, rules}
 use Rattle.std.proofs.lemmas.List.{append-nil}
 use Rattle.stk_host.specs.Tape.{Tape}
-use Rattle.stk_host.specs.Transcript.{Transcript, Sent, Taken, Got, NoneTaken, sent, heard, Grows}
+use Rattle.stk_host.specs.Transcript.{Transcript, Sent, Taken, Got, NoneTaken, IsNothingOrTaken, sent, heard, Grows}
 use Rattle.stk_host.specs.Reach.{NothingReceived, WaitsFrom}
 
--- What joined transcripts sent is joined; below, what they received.
 pub sent_append : (x y : Transcript) → sent (x ++ y) ≡ sent x ++ sent y
 sent_append [] y = refl
 sent_append (Sent bytes ∷ x) y = ap (λ bs. bytes ++ bs) (sent_append x y) ∙ sym (append_assoc bytes (sent x) (sent y))
@@ -22,11 +21,9 @@ pub got_both : (u : Tape) (x y : Transcript) (more : Tape)
     → u ++ (heard (x ++ y) ++ more) ≡ u ++ (heard x ++ (heard y ++ more))
 got_both u x y more = search (rules, got_append, append_assoc)
 
--- A transcript that hasn't changed has grown by nothing.
 pub grows_none : (old : Transcript) → Grows old [] old
 grows_none old = sym (append-nil old)
 
--- Growth after growth is growth by both.
 pub grows_on : (a b c : Transcript) (x y : Transcript) → Grows a x b → Grows b y c → Grows a (x ++ y) c
 grows_on a b c x y f g = g ∙ ap (λ (t : Transcript). t ++ y) f ∙ append_assoc a x y
 
@@ -36,15 +33,12 @@ got_quiet [] quiet = refl
 got_quiet (Sent bytes ∷ transcript) quiet = got_quiet transcript quiet
 got_quiet transcript quiet = search rules
 
--- If two transcripts received nothing, neither did both joined.
 pub quiet_append : (x y : Transcript) → NoneTaken x → NothingReceived x → NothingReceived y → NothingReceived (x ++ y)
 quiet_append [] y none f g = g
 quiet_append (Sent bytes ∷ x) y none f g = quiet_append x y none f g
 quiet_append x y none f g = search rules
 
--- What a failed send took received nothing.
-pub taken_quiet : (last : Transcript) → (last ≡ []) ⊎ ((taken : List ℕ) × (last ≡ Taken taken ∷ []))
-    → NothingReceived last
+pub taken_quiet : (last : Transcript) → IsNothingOrTaken last → NothingReceived last
 taken_quiet last taken = search rules
 
 -- nothing is sent during the wait for a reply
@@ -54,7 +48,6 @@ sent_waiting seq tape [] waits = refl
 sent_waiting seq tape (Got items ∷ transcript) waits = sent_waiting seq (tape ++ items) transcript waits.1
 sent_waiting seq tape (other ∷ transcript) waits = absurd waits
 
--- If the reply was missing at each piece of two transcripts, so it was in both joined.
 pub waits_append : (seq : ℕ) (tape : Tape) (x y : Transcript) → WaitsFrom seq tape x → WaitsFrom seq (tape ++ heard x) y
     → WaitsFrom seq tape (x ++ y)
 waits_append seq tape [] y f g = rw (append-nil tape) at g
@@ -64,19 +57,16 @@ waits_append seq tape (other ∷ x) y f g = absurd f
 
 -- where no send failed
 
--- If no send of two transcripts failed, none failed in both joined.
 pub none_append : (x y : Transcript) → NoneTaken x → NoneTaken y → NoneTaken (x ++ y)
 none_append [] y f g = g
 none_append (Taken bytes ∷ x) y f g = absurd f
 none_append (other ∷ x) y f g = none_append x y f g
 
--- If no send failed, none failed in the later transcript.
 pub none_behind : (x y : Transcript) → NoneTaken (x ++ y) → NoneTaken y
 none_behind [] y f = f
 none_behind (Taken bytes ∷ x) y f = absurd f
 none_behind (other ∷ x) y f = none_behind x y f
 
--- While a reply is waited for, no send fails.
 pub none_waiting : (seq : ℕ) (tape : Tape) (transcript : Transcript) → WaitsFrom seq tape transcript
     → NoneTaken transcript
 none_waiting seq tape [] waits = tt

@@ -32,9 +32,8 @@ pub record Listening (seq : ℕ) (unread : List ℕ) (old : LinkState) (held : L
   pub waits : WaitsFrom seq (on_tape unread) during
   pub all_received : on_tape unread ++ got_in during ≡ on_tape (text ++ left)
 
--- Listening begins with no byte read.
-pub listening_begins : (seq : ℕ) (u : List ℕ) (o : LinkState) → length u ≤ reply_byte_limit → Listening seq u o [] 0 u o
-listening_begins seq u o few = record {
+pub begins : (seq : ℕ) (u : List ℕ) (o : LinkState) → length u ≤ reply_byte_limit → Listening seq u o [] 0 u o
+begins seq u o few = record {
   text = [];
   stands = refl;
   counted = refl;
@@ -52,10 +51,10 @@ ReadOn left new_left n held new what = (used : List ℕ) × (length used ≡ n) 
     × Fed held used new (frames_of_event what new)
 
 -- from what the reader was fed, a front of the unread bytes
-pub read_in_round : {held new left new_left piece : List ℕ} (n most : ℕ) (what : Event) → piece ≡ take most left
+pub read_on : {held new left new_left piece : List ℕ} (n most : ℕ) (what : Event) → piece ≡ take most left
     → n ≤ length piece → new_left ≡ drop n left → Fed held (take n piece) new (frames_of_event what new)
     → ReadOn left new_left n held new what × (n ≤ most)
-read_in_round n most what is within behind fed = (grind (arith, common_steps), grind (arith, common_steps))
+read_on n most what is within behind fed = (grind (arith, common_steps), grind (arith, common_steps))
 
 -- laws of listening
 module _ {seq : ℕ} {u : List ℕ} {o : LinkState} where
@@ -69,11 +68,9 @@ module _ {seq : ℕ} {u : List ℕ} {o : LinkState} where
   -- if nothing is left unread, and a piece is received
   module _ {held : List ℕ} {count : ℕ} {left : List ℕ} {p : LinkState} (of_left : Listening seq u o held count left p)
       (none : length left ≡ 0) (few : count < reply_byte_limit) where
-    -- The same with the empty list for what is left.
     l : Listening seq u o held count [] p
     l = subst (λ bs. Listening seq u o held count bs p) (nil_from_length left none) of_left
 
-    -- What was received is the text that was read.
     text_received : on_tape u ++ got_in l.during ≡ on_tape l.text
     text_received = l.all_received ∙ ap on_tape (append-nil l.text)
 
@@ -81,22 +78,20 @@ module _ {seq : ℕ} {u : List ℕ} {o : LinkState} where
     not_yet : answer seq (on_tape u ++ got_in l.during) ≡ None
     not_yet = ap (answer seq) text_received ∙ reading_waits seq l.text l.no_reply (omega (arith, l.counted))
 
-    -- One more piece may be received, because the reply isn't there yet.
     waits_more : (items : Tape) → WaitsFrom seq (on_tape u) (l.during ++ Got items ∷ [])
     waits_more items = waits_append seq (on_tape u) l.during (Got items ∷ []) l.waits (not_yet, tt)
 
-    -- After received bytes listening goes on with these.
     pub received_bytes : {q : LinkState} {what : Heard} {n : ℕ} {new : List ℕ} → count + length new ≤ reply_byte_limit
         → what ≡ heard.Bytes n → ReceivesPiece what new p q → Listening seq u o held count new q
     received_bytes {q = q} {new = new} most is piece =
         search (rules, waits_more, got_append, append-nil, append_assoc, text_received, on_tape_append)
 
     -- a timeout or an end
-    ends_with_item : {q : LinkState} {new : List ℕ} (item : Item) (reading : Reading)
+    stops : {q : LinkState} {new : List ℕ} (item : Item) (reading : Reading)
         → (new ≡ []) × Grows p.transcript (Got (item ∷ []) ∷ []) q.transcript
         → ((more : Tape) → answer seq (on_tape l.text ++ item ∷ more) ≡ Some (reading, more))
         → ReceivesReply seq u o q reading new
-    ends_with_item {q = q} item reading piece reads = rw piece.0 (record {
+    stops {q = q} item reading piece reads = rw piece.0 (record {
       during = l.during ++ Got (item ∷ []) ∷ [];
       grows = grows_on o.transcript p.transcript q.transcript l.during (Got (item ∷ []) ∷ []) l.grows piece.1;
       waits = waits_more (item ∷ []);
@@ -104,36 +99,33 @@ module _ {seq : ℕ} {u : List ℕ} {o : LinkState} where
       reading_is = search (rules, got_both, l, append_assoc, text_received);
     })
 
-    -- After a timeout listening ends with it.
     pub received_silence : {q : LinkState} {what : Heard} {new : List ℕ} → what ≡ heard.Silence
         → ReceivesPiece what new p q → ReceivesReply seq u o q Silent new
     received_silence is piece =
-        ends_with_item Silence Silent (rw is at piece)
+        stops Silence Silent (rw is at piece)
         (λ more. reading_silent seq l.text more l.no_reply (omega (arith, l.counted)))
 
-    -- After the end of the link listening ends with it.
     pub received_end : {q : LinkState} {what : Heard} {new : List ℕ} → what ≡ heard.End → ReceivesPiece what new p q
         → ReceivesReply seq u o q Ended new
     received_end is piece =
-        ends_with_item End Ended (rw is at piece)
+        stops End Ended (rw is at piece)
         (λ more. reading_ended seq l.text more l.no_reply (omega (arith, l.counted)))
 
     -- nothing is received: the link failed
     pub receives_none : {q : LinkState} → Grows p.transcript [] q.transcript → ReceivesNoReply seq u o q
     receives_none {q = q} g = grind (arith, common_steps, not_yet)
 
-  -- After bytes that bring no reply listening goes on.
-  pub reads_other_bytes : {held : List ℕ} {count : ℕ} {left : List ℕ} {p : LinkState} (n : ℕ) (new_left new : List ℕ)
+  pub reads_on : {held : List ℕ} {count : ℕ} {left : List ℕ} {p : LinkState} (n : ℕ) (new_left new : List ℕ)
       (what : Event) → Listening seq u o held count left p → ReadOn left new_left n held new what
       → first_reply seq (frames_of_event what new) ≡ None → Listening seq u o new (count + n) new_left p
-  reads_other_bytes n new_left new what l read other = search (rules, length-append, still_none, append_assoc)
+  reads_on n new_left new what l read other = search (rules, length-append, still_none, append_assoc)
 
   -- listening whose reading is known
-  reading_known : {held : List ℕ} {count : ℕ} {left : List ℕ} {p : LinkState} (x rest_left : List ℕ) (reading : Reading)
+  gives : {held : List ℕ} {count : ℕ} {left : List ℕ} {p : LinkState} (x rest_left : List ℕ) (reading : Reading)
       → (l : Listening seq u o held count left p) → on_tape u ++ got_in l.during ≡ on_tape (x ++ rest_left)
       → ((more : Tape) → answer seq (on_tape x ++ more) ≡ Some (reading, more))
       → ReceivesReply seq u o p reading rest_left
-  reading_known x rest_left reading l all reads = record {
+  gives x rest_left reading l all reads = record {
     during = l.during;
     grows = l.grows;
     waits = l.waits;
@@ -141,28 +133,24 @@ module _ {seq : ℕ} {u : List ℕ} {o : LinkState} where
     reading_is = search (rules, append_assoc, on_tape_append);
   }
 
-  -- If the bytes used end with the reply, listening ends with it.
-  finds_reply_in : {held : List ℕ} {count : ℕ} {p : LinkState} (used left new : List ℕ)
+  finds_in : {held : List ℕ} {count : ℕ} {p : LinkState} (used left new : List ℕ)
       → Listening seq u o held count (used ++ left) p → Fed held used new (new ∷ []) → HoldsFrame new
       → is_reply seq new ≡ true → count + length used ≤ reply_byte_limit
       → ReceivesReply seq u o p (Replied (body_of new)) left
-  finds_reply_in used left new l fed frame good few =
+  finds_in used left new l fed frame good few =
       let whole : rest (l.text ++ used) ≡ [] = fed.stands l.text l.stands ∙ rest_whole new frame.whole in
       let size : length (l.text ++ used) ≤ reply_byte_limit = rw length-append (omega (arith, l.counted)) in
-      reading_known (l.text ++ used) left (Replied (body_of new)) l
+      gives (l.text ++ used) left (Replied (body_of new)) l
       (l.all_received ∙ ap on_tape (sym (append_assoc l.text used left)))
       (λ more. search (rules, reading_found, now_found))
 
-  -- The same, by the event that the reader reported.
-  pub finds_reply : {held : List ℕ} {count : ℕ} {left : List ℕ} {p : LinkState} (n : ℕ) (new_left new : List ℕ)
-      (what : Event)
+  pub finds : {held : List ℕ} {count : ℕ} {left : List ℕ} {p : LinkState} (n : ℕ) (new_left new : List ℕ) (what : Event)
       → Listening seq u o held count left p → ReadOn left new_left n held new what
       → (what ≡ event.Frame) × HoldsFrame new × (is_reply seq new ≡ true) → count + n ≤ reply_byte_limit
       → ReceivesReply seq u o p (Replied (body_of new)) new_left
-  finds_reply n new_left new what l read is few =
-      finds_reply_in read.0 new_left new (rw read.2 at l) (rw is.0 at read.3) is.1 is.2 (omega (arith, read.1))
+  finds n new_left new what l read is few =
+      finds_in read.0 new_left new (rw read.2 at l) (rw is.0 at read.3) is.1 is.2 (omega (arith, read.1))
 
-  -- If the limit is reached, listening ends.
-  pub reaches_limit : {held : List ℕ} {count : ℕ} {left : List ℕ} {p : LinkState}
+  pub babbles : {held : List ℕ} {count : ℕ} {left : List ℕ} {p : LinkState}
       → Listening seq u o held count left p → count ≡ reply_byte_limit → ReceivesReply seq u o p Babbled left
-  reaches_limit {left = left} l full = grind (arith, common_steps, reading_babbled)
+  babbles {left = left} l full = grind (arith, common_steps, reading_babbled)

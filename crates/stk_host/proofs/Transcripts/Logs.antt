@@ -36,7 +36,6 @@ log_more (mark.Heard (heard.Bytes n) ∷ marks) out back more_out more_back m o 
 log_more (mark.Heard none ∷ marks) out back more_out more_back m o b =
     ap (λ t. Got (items_of none []) ∷ t) (log_more marks out back more_out more_back m o (omega (arith, b)))
 
--- One more mark adds its count of bytes sent; below, of bytes received.
 pub out_more : (marks : List Mark) (m : Mark) → sent_count (marks ++ m ∷ []) ≡ sent_count marks + sent_count (m ∷ [])
 out_more [] m = omega arith
 out_more (mark.Sent n ∷ marks) m = omega (arith, out_more marks m)
@@ -48,33 +47,30 @@ back_more [] m = omega arith
 back_more (mark.Heard h ∷ marks) m = omega (arith, back_more marks m)
 back_more (other ∷ marks) m = back_more marks m
 
--- The bytes sent in the transcript of the marks are those that are kept.
-pub sent_bytes_kept : (marks : List Mark) (out back : List ℕ) → sent_count marks ≡ length out
+pub sent_in : (marks : List Mark) (out back : List ℕ) → sent_count marks ≡ length out
     → sent (transcript_of marks out back) ≡ out
-sent_bytes_kept [] [] back o = refl
-sent_bytes_kept [] (x ∷ out) back o = absurd (omega arith)
-sent_bytes_kept (mark.Sent n ∷ marks) out back o =
-    rw (sent_bytes_kept marks (drop n out) back (rw length-drop (omega arith))) (take-append-drop n out)
-sent_bytes_kept (mark.Heard h ∷ marks) out back o = sent_bytes_kept marks out (drop (received_byte_count h) back) o
+sent_in [] [] back o = refl
+sent_in [] (x ∷ out) back o = absurd (omega arith)
+sent_in (mark.Sent n ∷ marks) out back o =
+    rw (sent_in marks (drop n out) back (rw length-drop (omega arith))) (take-append-drop n out)
+sent_in (mark.Heard h ∷ marks) out back o = sent_in marks out (drop (received_byte_count h) back) o
 
--- The bytes received in the transcript of the marks are those that are kept.
-pub received_bytes_kept : (marks : List Mark) (out back : List ℕ) → received_count marks ≡ length back
+pub received_in : (marks : List Mark) (out back : List ℕ) → received_count marks ≡ length back
     → bytes_on_tape (transcript.heard (transcript_of marks out back)) ≡ back
-received_bytes_kept [] out [] b = refl
-received_bytes_kept [] out (x ∷ back) b = absurd (omega arith)
-received_bytes_kept (mark.Sent n ∷ marks) out back b = received_bytes_kept marks (drop n out) back b
-received_bytes_kept (mark.Heard (heard.Bytes n) ∷ marks) out back b =
+received_in [] out [] b = refl
+received_in [] out (x ∷ back) b = absurd (omega arith)
+received_in (mark.Sent n ∷ marks) out back b = received_in marks (drop n out) back b
+received_in (mark.Heard (heard.Bytes n) ∷ marks) out back b =
     rw (bytes_of_append (on_tape (take n back)) (transcript.heard (transcript_of marks out (drop n back))))
-    (rw (bytes_of_on_tape (take n back), received_bytes_kept marks out (drop n back) (rw length-drop (omega arith)))
+    (rw (bytes_of_on_tape (take n back), received_in marks out (drop n back) (rw length-drop (omega arith)))
     (take-append-drop n back))
-received_bytes_kept (mark.Heard none ∷ marks) out back b = received_bytes_kept marks out back (omega (arith, b))
+received_in (mark.Heard none ∷ marks) out back b = received_in marks out back (omega (arith, b))
 
 -- what was received is what is kept of the buffer
 pub items_received : (h : Heard) (buffer : List ℕ) → FitsBuffer h (length buffer)
     → items_of h (take (received_byte_count h) buffer) ≡ items_of h buffer
 items_received h buffer fits = search (rules, take_all)
 
--- As many bytes are kept as the mark counts.
 pub count_received : (h : Heard) (buffer : List ℕ) → FitsBuffer h (length buffer)
     → received_count (mark.Heard h ∷ []) ≡ length (take (received_byte_count h) buffer)
 count_received h buffer fits = search rules
@@ -83,12 +79,10 @@ count_received h buffer fits = search rules
 module _ (marks new_marks : List Mark) (out new_out back new_back x y : List ℕ) (m : Mark)
     (o : sent_count marks ≡ length out) (b : received_count marks ≡ length back) (marks_are : new_marks ≡ marks ++ m
     ∷ []) (out_is : new_out ≡ out ++ x) (back_is : new_back ≡ back ++ y) where
-  -- The transcript grows by what the new mark shows.
   pub log_adds : (old : Transcript) → transcript_of marks out back ≡ old
       → transcript_of new_marks new_out new_back ≡ old ++ transcript_of (m ∷ []) x y
   log_adds old view = search (rules, log_more)
 
-  -- The counts of the marks stay those of the bytes.
   pub counts_more : sent_count (m ∷ []) ≡ length x → received_count (m ∷ []) ≡ length y
       → (sent_count new_marks ≡ length new_out) × (received_count new_marks ≡ length new_back)
   counts_more mo mb = search (rules, length-append, out_more, back_more)

@@ -3,13 +3,12 @@ use Rattle.std.proofs.lemmas.Grind.{common_steps}
 use Rattle.std.proofs.Common.{◌≡◌, ℕ, ◌+◌, ◌-◌, ◌<◌, ◌≤◌, List, [], ◌∷◌, ◌++◌, length, take, drop, append_assoc, arith, Err, rules}
 use Rattle.std.proofs.lemmas.List.{drop-take, drop-drop, take-append-drop, length-take, length-drop}
 use Rattle.std.proofs.Math.Seq.{take-add}
-use Rattle.std.specs.Prelude.{◌⊎◌, slice_range}
+use Rattle.std.specs.Prelude.{slice_range}
 use Rattle.ghosts.specs.Failures.{OneFailureCounted}
-use Rattle.stk_host.specs.Transcript.{Transcript, LinkState, Sent, Taken, NoneTaken, TakesPart, sent, Grows, LinkCounts}
+use Rattle.stk_host.specs.Transcript.{Transcript, LinkState, Sent, NoneTaken, IsNothingOrTaken, TakesPart, sent, Grows, LinkCounts}
 use Rattle.stk_host.specs.Reach.{SendsExactly, SendsOnlyPart}
 use Rattle.stk_host.proofs.Transcripts.Laws.{sent_append, grows_on, quiet_append, taken_quiet, none_append, none_behind}
 
--- After bytes sent, more bytes were sent.
 pub output_more : (x y : List ℕ) (o p q : Transcript) → SendsExactly x o p → Grows p (Sent y ∷ []) q
     → SendsExactly (x ++ y) o q
 output_more x y o p q emits g = grind (arith, common_steps, quiet_append, none_append, sent_append)
@@ -20,9 +19,8 @@ pub sends_part : (bytes : List ℕ) (n m : ℕ) (part : List ℕ) (o p q : Trans
 sends_part bytes n m part o p q emits is g = search (rules, take-add, output_more)
 
 -- what a failed send didn't take
-some_unsent : (last : Transcript) (bytes unsent : List ℕ)
-    → (last ≡ []) ⊎ ((taken : List ℕ) × (last ≡ Taken taken ∷ [])) → NoneTaken last → bytes ≡ sent last ++ unsent
-    → 0 < length bytes → 0 < length unsent
+some_unsent : (last : Transcript) (bytes unsent : List ℕ) → IsNothingOrTaken last → NoneTaken last
+    → bytes ≡ sent last ++ unsent → 0 < length bytes → 0 < length unsent
 some_unsent last bytes unsent taken none is some = search rules
 
 -- the first `n` bytes were sent, and the send of the others failed
@@ -61,7 +59,6 @@ fails_since a c count error same counted failed = search rules
 pub range_later : (xs : List ℕ) (a b n : ℕ) → a + n ≤ b → slice_range xs (a + n) b ≡ drop n (slice_range xs a b)
 range_later xs a b n le = search (rules, drop-drop n a xs, drop-take n (b - (a + n)) (drop a xs))
 
--- After `n` more places of a range were used, the rest is left.
 pub range_consumed : (xs : List ℕ) (a b n : ℕ) (all : List ℕ) → a ≤ b → slice_range xs a b ≡ all → n ≤ length all
     → slice_range xs (a + n) b ≡ drop n all
 range_consumed xs a b n all order is le = search (rules, length-take, range_later)

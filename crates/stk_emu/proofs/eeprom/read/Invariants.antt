@@ -3,7 +3,6 @@ use Rattle.stk_emu.specs.Programmer.{eeprom_reads}
 use Rattle.stk_emu.proofs.Memories.Blocks.{LooksOn}
 use Rattle.stk_emu.proofs.eeprom.read.Given as goal
 
--- The first `place` bytes were read, and the others are left to read.
 abbrev pub invariant-loop-place : goal.invariant-loop-place
 invariant-loop-place l = record {
   on : LooksOn l.initial.out.items (eeprom_reads l.command l.address 0 l.count l.initial.chip) l.out.items

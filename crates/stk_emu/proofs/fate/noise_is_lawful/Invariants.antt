@@ -4,7 +4,6 @@ use Rattle.stk_frame.specs.Cut.{cut, is_good}
 use Rattle.stk_frame.specs.Reader.{MayHaveBeenFed}
 use Rattle.stk_emu.proofs.fate.noise_is_lawful.Given as goal
 
--- The noise up to place `at` holds no good frame.
 abbrev pub invariant-loop-at : goal.invariant-loop-at
 invariant-loop-at l = record {
   in_range : l.at ≤ length l.noise;

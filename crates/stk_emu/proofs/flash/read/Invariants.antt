@@ -3,7 +3,6 @@ use Rattle.stk_emu.specs.Programmer.{flash_reads}
 use Rattle.stk_emu.proofs.Memories.Blocks.{LooksOn}
 use Rattle.stk_emu.proofs.flash.read.Given as goal
 
--- The first `place` bytes were read, and the others are left to read.
 abbrev pub invariant-loop-place : goal.invariant-loop-place
 invariant-loop-place l = record {
   on : LooksOn l.fn.out.items (flash_reads l.block.wide l.block.command l.block.address 0 l.count l.fn.chip) l.out.items

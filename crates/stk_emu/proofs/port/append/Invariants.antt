@@ -3,7 +3,6 @@ use Rattle.std.proofs.Common.{◌≡◌, ◌+◌, ◌≤◌, ◌++◌, take}
 use Rattle.std.specs.VecDeque.{deque_len, deque_capacity}
 use Rattle.stk_emu.proofs.port.append.Given as goal
 
--- The first bytes wait behind those that waited before.
 abbrev pub invariant-loop-byte : goal.invariant-loop-byte
 invariant-loop-byte l = record {
   items : l.waits.items ≡ l.fn.waits.items ++ take l.byte-index l.bytes;

@@ -3,7 +3,6 @@ use Rattle.stk_host.specs.Reach.{SendsExactly}
 use Rattle.ghosts.specs.Preserves.{Preserves}
 use Rattle.stk_host.proofs.link.send_all.Given as goal
 
--- The first `done` bytes were sent, and the link hasn't failed.
 abbrev pub invariant-loop-done : goal.invariant-loop-done
 invariant-loop-done g l = record {
   in_range : l.done ≤ length l.bytes;

@@ -1,11 +1,11 @@
 use Rattle.std.proofs.Common.{arith, rules, ◌-◌}
 use Rattle.std.proofs.lemmas.Result.{err_from_is_err_and}
-use Rattle.stk_host.proofs.Transcripts.Listening.{Listening, listening_begins, received_bytes, received_silence, received_end, reads_other_bytes, read_in_round, finds_reply, reaches_limit, receives_none}
+use Rattle.stk_host.proofs.Transcripts.Listening.{Listening, begins, received_bytes, received_silence, received_end, reads_on, read_on, finds, babbles, receives_none}
 use Rattle.stk_host.proofs.listen.listen.Goals as goal
 use Rattle.stk_host.proofs.listen.listen.Goals.{then-is_empty+in_ok-receive_piece+in-Bytes, else-is_empty}
 
 pub loop-count-init : goal.loop-count-init
-loop-count-init g c = search (rules, listening_begins)
+loop-count-init g c = search (rules, begins)
 
 pub returns-in-Silence : goal.returns-in-Silence
 returns-in-Silence g c =
@@ -37,9 +37,9 @@ returns-then-is_reply g c =
           (omega (arith, w.in_ok-receive_piece.ensures.within)) w.in-Bytes.is w.in_ok-receive_piece.ensures.ok)
       | else-is_empty w ↦ rw (w.unread-is, w.link-is) c.loop-count.invariant.listening
     ] in
-    let read = read_in_round _ (4096 - c.loop-count.count) _ c.prefix.ensures c.feed-used.ensures.within
+    let read = read_on _ (4096 - c.loop-count.count) _ c.prefix.ensures c.feed-used.ensures.within
     c.consume.ensures.left c.feed-used.ensures.fed in
-    let receives = finds_reply _ _ _ _ l read.0 (c.is_reply.ensures.yes c.if-is_reply.true)
+    let receives = finds _ _ _ _ l read.0 (c.is_reply.ensures.yes c.if-is_reply.true)
     (omega (arith, read.1)) in
     search rules
 
@@ -53,12 +53,12 @@ loop-count-preserved g c =
           (omega (arith, w.in_ok-receive_piece.ensures.within)) w.in-Bytes.is w.in_ok-receive_piece.ensures.ok)
       | else-is_empty w ↦ rw (w.unread-is, w.link-is) c.loop-count.invariant.listening
     ] in
-    let read = read_in_round _ (4096 - c.loop-count.count) _ c.prefix.ensures c.feed-used.ensures.within
+    let read = read_on _ (4096 - c.loop-count.count) _ c.prefix.ensures c.feed-used.ensures.within
     c.consume.ensures.left c.feed-used.ensures.fed in
     record {
       in_range = omega (arith, read.1);
       fits = c.consume.ensures.fits;
-      listening = reads_other_bytes _ _ _ _ l read.0 (c.is_reply.ensures.no c.if-is_reply.false);
+      listening = reads_on _ _ _ _ l read.0 (c.is_reply.ensures.no c.if-is_reply.false);
       counted = elim c.if-is_empty.branch [
         | then-is_empty+in_ok-receive_piece+in-Bytes w ↦ rw w.link-is
             (omega (arith, w.in_ok-receive_piece.ensures.counts.sound, c.loop-count.invariant.counted))
@@ -73,5 +73,5 @@ loop-count-preserved g c =
 
 pub returns : goal.returns
 returns g c =
-    let receives = reaches_limit c.loop-count.invariant.listening (omega arith) in
+    let receives = babbles c.loop-count.invariant.listening (omega arith) in
     search rules

@@ -3,13 +3,12 @@ use Rattle.std.specs.Prelude.{vec_capacity}
 use Rattle.avr_part.specs.Part.{size_of}
 use Rattle.stk_host.specs.Places.{each_from}
 use Rattle.stk_host.specs.ReadSteps.{read_count, read_step, read_steps}
-use Rattle.stk_host.specs.Play.{Reaches}
+use Rattle.stk_host.specs.Reach.{Reaches}
 use Rattle.stk_host.specs.Steps.{play}
 use Rattle.ghosts.specs.Preserves.{Preserves}
 use Rattle.stk_host.proofs.Operations.Reads.{read_before}
 use Rattle.stk_host.proofs.reading.read_memory.Given as goal
 
--- The steps before this number were run, and `out` has their data.
 abbrev pub invariant-loop-number : goal.invariant-loop-number
 invariant-loop-number g l = record {
   reaches : Reaches (play (read_steps l.part l.mem) []) l.fn.talk.progress (g.L.Link.view l.fn.link)

@@ -2,7 +2,6 @@ use Rattle.std.proofs.Common.{◌≡◌, length, take, ◌-◌, ◌≤◌}
 use Rattle.stk_host.specs.Tape.{leading_bytes}
 use Rattle.stk_host.proofs.tape_link.copy_bytes.Given as goal
 
--- The buffer has the first `count` leading bytes.
 abbrev pub invariant-loop-count : goal.invariant-loop-count
 invariant-loop-count l = record {
   in_range : l.count ≤ length l.buffer;

@@ -1,12 +1,12 @@
 use Rattle.std.proofs.Common.{rules}
-use Rattle.stk_host.proofs.Operations.Steps.{only_step_ends, none_played}
+use Rattle.stk_host.proofs.Operations.Steps.{alone, none_played}
 use Rattle.stk_host.proofs.writing.write_memory.Goals as goal
 
 pub returns-in-Signature : goal.returns-in-Signature
 returns-in-Signature g c = search (rules, none_played)
 
 pub returns-in-Some : goal.returns-in-Some
-returns-in-Some g c = search (rules, only_step_ends)
+returns-in-Some g c = search (rules, alone)
 
 pub returns-in-None : goal.returns-in-None
 returns-in-None g c = search (rules, none_played)

@@ -1,12 +1,11 @@
 use Rattle.std.proofs.Common.{◌≤◌, ◌-◌, length, []}
 use Rattle.stk_host.specs.Places.{each_from}
 use Rattle.stk_host.specs.WriteSteps.{place_count, place_steps}
-use Rattle.stk_host.specs.Play.{Reaches}
+use Rattle.stk_host.specs.Reach.{Reaches}
 use Rattle.stk_host.specs.Steps.{play}
 use Rattle.ghosts.specs.Preserves.{Preserves}
 use Rattle.stk_host.proofs.writing.write_places.Given as goal
 
--- The steps of the places before this one were run.
 abbrev pub invariant-loop-place : goal.invariant-loop-place
 invariant-loop-place g l = record {
   reaches : Reaches (play (each_from (place_steps l.part l.mem l.image) 0 (place_count l.part l.mem)) [])

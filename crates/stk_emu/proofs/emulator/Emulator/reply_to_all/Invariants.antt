@@ -2,7 +2,6 @@ use Rattle.std.proofs.Common.{length, take, ◌-◌, ◌≤◌}
 use Rattle.stk_emu.specs.Emulator.{AppendsReplies}
 use Rattle.stk_emu.proofs.emulator.Emulator.reply_to_all.Given as goal
 
--- The replies to the first `used` bytes were appended.
 abbrev pub invariant-loop-used : goal.invariant-loop-used
 invariant-loop-used l = record {
   within : l.used ≤ length l.bytes;

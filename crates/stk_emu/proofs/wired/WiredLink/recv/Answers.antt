@@ -2,7 +2,7 @@ use Rattle.std.proofs.Common.{rules, subst, sym}
 use Rattle.std.proofs.Math.Seq.{take-length}
 use Rattle.std.proofs.lemmas.List.{length-map}
 use Rattle.stk_emu.specs.Wired.{ComesOf}
-use Rattle.stk_emu.proofs.Wires.Waiting.{bytes_next}
+use Rattle.stk_emu.proofs.Wires.Waiting.{silence_next, bytes_next}
 use Rattle.stk_emu.proofs.Wires.Kept.{got_state, keeps_receiving}
 use Rattle.stk_emu.proofs.wired.WiredLink.recv.Goals as goal
 use Rattle.stk_emu.proofs.wired.WiredLink.recv.Goals.{then-count-eq0, else-count-eq0}
@@ -18,7 +18,7 @@ returns-clause-received g c = elim c.if-count-eq0.branch [
 
 pub returns-clause-next : goal.returns-clause-next
 returns-clause-next g c = elim c.if-count-eq0.branch [
-  | then-count-eq0 w ↦ rw w.heard-is (search rules)
+  | then-count-eq0 w ↦ rw w.heard-is (search (rules, silence_next))
   | else-count-eq0 w ↦ rw w.heard-is (search (rules, length-map, bytes_next))
 ]
 

@@ -4,7 +4,6 @@ use Rattle.stk_frame.specs.Decoding.{command_of}
 use Rattle.stk_frame.proofs.DecodedBodies.{is_read}
 use Rattle.stk_frame.proofs.command.Command.read.Goals as goal
 
--- The bytes are their first byte and the others.
 apart : (bytes : List ℕ) → 1 ≤ length bytes
     → command_of bytes ≡ command_of (slice_index bytes 0 ∷ take (length bytes - 1) (drop 1 bytes))
 apart [] some = absurd (omega arith)

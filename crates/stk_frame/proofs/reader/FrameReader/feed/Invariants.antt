@@ -2,7 +2,6 @@ use Rattle.std.proofs.Common.{take, [], ◌-◌, ◌≤◌, length}
 use Rattle.stk_frame.specs.Reader.{Fed}
 use Rattle.stk_frame.proofs.reader.FrameReader.feed.Given as goal
 
--- The bytes used so far ended in no frame.
 abbrev pub invariant-loop-used : goal.invariant-loop-used
 invariant-loop-used l = record { within : l.used ≤ length l.piece; fed : Fed l.fn.self (take l.used l.piece) l.self [] }
 

@@ -1,10 +1,9 @@
 use Rattle.std.proofs.Common.{◌≤◌, ◌<◌, length, ◌-◌}
-use Rattle.stk_host.specs.Play.{Reaches}
+use Rattle.stk_host.specs.Reach.{Reaches}
 use Rattle.stk_host.specs.Steps.{step, attempts_or_fault, commands_by}
 use Rattle.ghosts.specs.Preserves.{Preserves}
 use Rattle.stk_host.proofs.conversation.Conversation.step.Given as goal
 
--- After the attempts so far, those that are left are the rest of the step.
 abbrev pub invariant-loop-tried : goal.invariant-loop-tried
 invariant-loop-tried g l = record {
   reaches : Reaches (step (commands_by l.first l.last)) l.fn.self.progress (g.L.Link.view l.fn.link)

@@ -7,12 +7,10 @@ use Rattle.stk_host.specs.declared.log.Mark.TheVariants as mark
 use Rattle.stk_host.proofs.Transcripts.Logs.{log_adds, counts_more}
 use Rattle.stk_host.proofs.log.Log.add_sent.Goals as goal
 
--- Bytes that fit are appended to the vector.
 appended : {A E : Type 0} {new : List ℕ} (old bytes : List ℕ) (result : Result A E) → IsOk result
     → new ≡ (if is_ok result then old ++ bytes else old) → new ≡ old ++ bytes
 appended old bytes result ok is = is ∙ ap (λ b. if b then old ++ bytes else old) ok
 
--- What fits the room fits the vector.
 fits : (len most count room : ℕ) → len ≤ most → most - len ≡ room → count ≤ room → len + count ≤ most
 fits len most count room within is le = omega arith
 

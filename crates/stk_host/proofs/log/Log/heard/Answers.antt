@@ -1,6 +1,6 @@
 use Rattle.std.proofs.Common.{rules}
-use Rattle.stk_host.proofs.Transcripts.Logs.{received_bytes_kept}
+use Rattle.stk_host.proofs.Transcripts.Logs.{received_in}
 use Rattle.stk_host.proofs.log.Log.heard.Goals as goal
 
 pub returns : goal.returns
-returns c = search (rules, received_bytes_kept)
+returns c = search (rules, received_in)
