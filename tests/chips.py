@@ -272,8 +272,9 @@ def forgiven():
 
 def whose_lock():
     """A lock counts only while its file has the lock's name. A run whose lock file another run removes, before it is
-    locked, is told that the chip is in use. While a run removes its lock file, another one is refused. A pipe that gets the lock
-    file's name after the look blocks no run, and what a link that gets the new file's name leads to stays as it is."""
+    locked, is told that the chip is in use. While a run removes its lock file, another one is refused. A pipe that gets
+    the lock file's name after the look blocks no run, and what a link that gets the new file's name leads to stays as
+    it is."""
 
     def stale():
         fresh_room()
