@@ -1,6 +1,6 @@
 -- A session over a device of which only reading is believed: after status 0 the actions at its end, which only read,
 -- found what they compared.
-use Rattle.std.proofs.Common.{◌≡◌, ◌∙◌, ℕ, List, [], ◌∷◌, ◌++◌, refl, sym, subst, arith, inl, inr, rules}
+use Rattle.std.proofs.Common.{◌≡◌, ◌∙◌, ℕ, List, [], ◌∷◌, ◌++◌, ap, refl, sym, subst, arith, inl, inr, rules}
 use Rattle.std.specs.Prelude.{⊤}
 use Rattle.avr_desk.specs.OutputEvents.{OutputEvent}
 use Rattle.avr_part.specs.Part.{Part, IsPart}
@@ -123,7 +123,7 @@ module _ {part : Part} (sound : IsPart part) (real : Real part) (IsIn : real.P �
         t.is_in _ y.0 rests.stands,
         λ fine.
             let agreement = agrees_for_actions part s rest x in
-            let no_fault = own.stands ∙ fine in
+            let no_fault = own.status_is ∙ ap status_of fine in
             let has = real.has _ y.0 (real.idle _ y.0 own.left) in
             subst RestAgrees (sym (has ∙ (agreement.memories no_fault ∙ reads_leave Reads part rest x reads)))
             (agreement.if_fine no_fault),
