@@ -558,7 +558,8 @@ NAMED = "-p takes a chip's name, such as m328p: -p '?' lists all: nothing was se
 def refused():
     """What --try-rows doesn't take is refused before the device is opened."""
     at = "-P /dev/null -p m328p"
-    lacks = "no flash_size, flash_page, eeprom_size, eeprom_page, eesave_bit found in a table "
+    lacks = "no flash_size, flash_page, eeprom_size, eeprom_page, eesave_bit found (begin a regular file with [parts."
+    end = " and these fields): nothing was sent"
     cases = {
         f"{at} --try-rows=all": "--try-rows=all may erase and lock the chip: add --yes if you can lose it; nothing was "
         "sent, and the device was not opened",
@@ -570,10 +571,10 @@ def refused():
         "-P emu:chip.bin -p m328p --try-rows": "--try-rows is for a serial device, not -P emu:chip.bin",
         "-P /dev/null -p nosuch --try-rows": f"no part nosuch: {NAMED}",
         "-P /dev/null --try-rows": f"no part given (-p): {NAMED}",
-        "-P /dev/null --parts one.toml -p c-chip --try-rows": f"one.toml: {lacks}[parts.c-chip]: nothing was sent",
-        "-P /dev/null --parts nosuch.toml -p m328p --try-rows": f"nosuch.toml: {lacks}[parts.m328p]: nothing was sent",
+        "-P /dev/null --parts one.toml -p c-chip --try-rows": f"one.toml: {lacks}c-chip]{end}",
+        "-P /dev/null --parts nosuch.toml -p m328p --try-rows": f"nosuch.toml: {lacks}m328p]{end}",
         "-P /dev/null --parts tiny.toml --try-rows": "no part given (-p): with --parts, -p takes a part as that file ",
-        "-P /dev/null --parts less.toml -p tiny --try-rows": "less.toml: no eesave_bit found in a table [parts.tiny]: ",
+        "-P /dev/null --parts less.toml -p tiny --try-rows": "less.toml: no eesave_bit found (begin a regular file ",
     }
     # (with what an editor or a note may add)
     less = boards.TINY.replace("flash_size", 'kind = "}"\nnote = "[rev. B]"\nflash_size')

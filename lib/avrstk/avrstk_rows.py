@@ -151,7 +151,8 @@ def sizes_of(words: Words) -> Dict[str, int]:
     if words.parts_file is None or not words.part:
         what = f"no part {words.part}" if words.part else "no part given (-p)"
         raise Fault(f"{what}: {no_part(words, None)}: {UNOPENED}")
-    raise Fault(f"{words.parts_file}: no {', '.join(lacking)} found in a table [parts.{words.part}]: {UNOPENED}")
+    begin = f"begin a regular file with [parts.{words.part}] and these fields"
+    raise Fault(f"{words.parts_file}: no {', '.join(lacking)} found ({begin}): {UNOPENED}")
 
 
 class Rows:
