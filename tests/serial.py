@@ -1312,6 +1312,9 @@ def images_that_are_read_once():
     """An image is read once, also from a pipe, and may have several memories. Messages name the user's files."""
     images_in_pipes()
     text = room.read("blink.hex")
+    (room.folder / "-").mkdir()
+    check_equal("beside a folder named -", piped([*NO_CHIP, "-U", "flash:w:-:i"], hex_of([(0, bytes(600))]))[0], 0)
+    (room.folder / "-").rmdir()
     status, _, printed, own = piped([*NO_CHIP, "-U", "flash:w:-:i", "-U", "eeprom:w:-:i"], hex_of([(0, bytes(600))]))
     check_equal("two memories", (status, set(room.read("no.bin")[:600] + room.read("no.bin")[32_768:][:600])), (0, {0}))
     for content, wanted in [

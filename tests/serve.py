@@ -835,6 +835,9 @@ def reports():
             os.kill(run, signal.SIGKILL)
             check_equal("it is hung up on", client.recv(1), b"")
         check_equal("its status", server.end()[0], 1)
+    # (- is a file for --log, and standard output for --json)
+    words = ["0", "-p", "m328p", "--chip", "chip.bin", "--log", "-", "--json", "-", "--", "true"]
+    check_equal("a log named -, and a report", (ran(words)[0], room.read("-")), (0, b""))
     held = report()
     faults = [{"fault": "--lose-reply SIGN_ON#2", "struck": 1}, {"fault": "--lose CHIP_ERASE", "struck": 0}]
     check_equal("the faults", (held["status"], held["faults"], held["seed"]), (1, faults, None))

@@ -22,7 +22,7 @@ CHANGED = "erased or partly written"
 KINDS = {
     r"signature is (00 00 00|FF FF FF), \S+ has( \w\w){3}$": "no chip",
     r"signature is( \w\w){3}, \S+ has( \w\w){3}$": "other part",
-    r"command 10 refused with status (80|C0)$": "no chip",
+    r"command 10 refused with status (80|81|C0)$": "no chip",
     r"command \w\w refused with status \w\w$": "refused",
     r"\w+: address \w+: \w+ expected, \w+ found$": "mismatch",
     r"no answer( in 4096 bytes)?$|link (ended|cannot be \w+)$|command \w\w: bad answer$": "line",

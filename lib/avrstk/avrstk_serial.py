@@ -520,7 +520,7 @@ def judge(words: Words) -> None:
     judge_options(words)
     words.report.stage = "file"
     for update in words.updates:
-        is_read = update.is_image and not os.path.isdir(update.file)
+        is_read = update.is_image and not update.is_folder()
         update.judge(words.content(update.file) if is_read else None)
     if words.each or words.is_station:
         check(words)

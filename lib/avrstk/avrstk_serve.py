@@ -471,8 +471,9 @@ def main(help_text: str) -> int:
 
 
 def judge_output(options: Mapping[str, str], output: str, *others: str) -> None:
-    """Refuses the file of an output that another option has, too."""
-    for other in others if output in options else []:
+    """Refuses the file of an output that another option has, too. (`-` is a file, but for --json.)"""
+    is_file = output in options and (output, options[output]) != ("--json", "-")
+    for other in others if is_file else []:
         if other in options and os.path.realpath(options[other]) == os.path.realpath(options[output]):
             raise Fault(f"{output} {options[output]}: this is the file of {other}")
 

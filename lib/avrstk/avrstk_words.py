@@ -362,10 +362,14 @@ class Update:
         if self.is_image and self.file:
             self.hand_on(content)
 
+    def is_folder(self) -> bool:
+        """Whether the file is a folder. (`-` is a standard stream.)"""
+        return self.file != "-" and os.path.isdir(self.file)
+
     def fault_of_file(self) -> str | None:
         """Returns why the file can't be read or written; None if it can, as far as is known without opening it."""
         folder, is_target = os.path.dirname(self.file) or ".", self.operation == "r" and self.file != "-"
-        if (is_target or self.is_image) and os.path.isdir(self.file):
+        if (is_target or self.is_image) and self.is_folder():
             return "is a folder"
         place = self.file if os.path.exists(self.file) else folder
         if is_target and not (os.path.isdir(folder) and os.access(place, os.W_OK)):
