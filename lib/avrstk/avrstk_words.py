@@ -328,12 +328,6 @@ class Update:
             return len(re.findall(r"[^ \t,]+", self.file))
         return max(self.image(), default=-1) + 1
 
-    def may_have(self, address: int) -> bool:
-        """Whether an image has a byte at this address, as far as its first 64 kB tell."""
-        if self.format == "m":
-            return address < self.size()
-        return len(self.front) == 65_536 or address in self.image()
-
     def value(self) -> int | None:
         """Returns the byte of an update of one byte, also from a file, else None."""
         if self.is_image:
