@@ -59,7 +59,7 @@ def put_edits(crates, rows):
         path.write_text(edited(path.read_text(), number, row, Path(row[0])))
     (crates / "avr_desk/src/chosen.rt").write_text(MODULE)
     root = crates / "avr_desk/src/lib.rt"
-    text = root.read_text().replace("\nmod bytes;\n", "\nmod bytes;\nmod chosen;\n", 1)
+    text = root.read_text().replace("\nmod failing;\n", "\nmod chosen;\nmod failing;\n", 1)
     root.write_text(f"{text}pub use chosen::is_chosen;\n")
 
 

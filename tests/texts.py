@@ -14,8 +14,8 @@ from cases import TOP, check, check_equal, named, run_cases
 
 # texts of faults of which avrstk prints no line, by crate
 UNPRINTED = {
-    "avr_desk": ["no such file", "the device failed"],
     "avr_image": ["the reader has failed before", "the images are of different sizes"],
+    "avr_io": ["no such file", "the device failed"],
     "avr_plan": ["a warning could not be printed"],
     "avr_records": ["the reader met a fault before", "the file is too long"],
     "avr_tool": ["the command line asks for no run: status {0}"],

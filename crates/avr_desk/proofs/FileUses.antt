@@ -1,4 +1,3 @@
--- Uses and pieces of files.
-pub mod Pieces
+-- Uses of files.
 pub mod Uses
 pub mod Calls

@@ -2,23 +2,23 @@
 use Rattle.std.proofs.lemmas.Bool.Decides.{nat_tests}
 use Rattle.std.proofs.Common.{◌≡◌, ap, ℕ, zero, suc, true, List, [], ◌∷◌, Some, Result, Ok, Err, arith, rules}
 use Rattle.avr_desk.specs.Failing.{Failing, FailsWhenDue}
-use Rattle.avr_desk.specs.Fault.{CountsFailure}
-use Rattle.avr_desk.specs.Files.{CountsReadResult}
+use Rattle.avr_io.specs.Fault.{CountsFailure}
+use Rattle.avr_io.specs.Files.{CountsReadResult}
 use Rattle.avr_desk.specs.Memory.{Stock}
-use Rattle.avr_desk.specs.Record.{Bytes, DeskState, Record, showing, nothing_kept, after_out}
-use Rattle.avr_desk.specs.OutputEvents.{ReportsLineAs}
+use Rattle.avr_io.specs.Record.{Bytes, DeskState, Record, showing, nothing_kept, after_out}
+use Rattle.avr_io.specs.OutputEvents.{ReportsLineAs}
 use Rattle.avr_desk.specs.Shown.{RecordsTaken}
-use Rattle.avr_desk.specs.Stream.{SendsTaken}
+use Rattle.avr_io.specs.Stream.{SendsTaken}
 use Rattle.avr_desk.specs.Truth.{OpeningsAreTrue, IsTrueOpening}
-use Rattle.avr_desk.specs.declared.desk.DeskFault.{DeskFault}
-use Rattle.avr_desk.specs.declared.desk.DeskFault.TheVariants.{NotFound, Failed}
-use Rattle.avr_desk.specs.declared.files.FileFault.TheVariants.{Memory}
-use Rattle.avr_desk.specs.declared.record.FileUse.TheVariants.{Opened, Created}
-use Rattle.avr_desk.specs.declared.record.Opening.{Opening}
-use Rattle.avr_desk.specs.declared.record.Opening.TheVariants.{Absent, Found}
-use Rattle.avr_desk.specs.declared.record.Writing.{Writing}
-use Rattle.avr_desk.specs.declared.stream.Stream.{Stream}
-use Rattle.avr_desk.specs.declared.stream.Stream.TheVariants.{File, Output, Messages}
+use Rattle.avr_io.specs.declared.desk.DeskFault.{DeskFault}
+use Rattle.avr_io.specs.declared.desk.DeskFault.TheVariants.{NotFound, Failed}
+use Rattle.avr_io.specs.declared.files.FileFault.TheVariants.{Memory}
+use Rattle.avr_io.specs.declared.record.FileUse.TheVariants.{Opened, Created}
+use Rattle.avr_io.specs.declared.record.Opening.{Opening}
+use Rattle.avr_io.specs.declared.record.Opening.TheVariants.{Absent, Found}
+use Rattle.avr_io.specs.declared.record.Writing.{Writing}
+use Rattle.avr_io.specs.declared.stream.Stream.{Stream}
+use Rattle.avr_io.specs.declared.stream.Stream.TheVariants.{File, Output, Messages}
 
 -- a desk with an empty record that has failed this often, never at the messages
 abbrev silent : ℕ → DeskState

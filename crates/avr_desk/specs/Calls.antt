@@ -2,9 +2,9 @@
 use Rattle.std.specs.Prelude.{false, [], take, Ok}
 use Rattle.avr_desk.specs.declared.journal.Call.{Call}
 use Rattle.avr_desk.specs.declared.journal.Call.TheVariants as call
-use Rattle.avr_desk.specs.declared.record.Open.TheVariants.{ToRead, ToWrite}
-use Rattle.avr_desk.specs.Record.{Record, with_open, with_absent, with_held, with_denied, with_none_held, with_replaced, with_tried, after_read}
-use Rattle.avr_desk.specs.Stream.{after_sent}
+use Rattle.avr_io.specs.declared.record.Open.TheVariants.{ToRead, ToWrite}
+use Rattle.avr_io.specs.Record.{Record, with_open, with_absent, with_held, with_denied, with_none_held, with_replaced, with_tried, after_read}
+use Rattle.avr_io.specs.Stream.{after_sent}
 
 -- the record after this call
 abbrev pub after_call : Call → Record → Record

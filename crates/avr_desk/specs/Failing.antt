@@ -1,11 +1,11 @@
 -- A desk of which one call fails by plan.
 use Rattle.std.specs.Prelude.{◌≡◌, ◌≢◌, ◌==◌, ◌+◌, ◌-◌, ℕ, Result, Err, if◌then◌else◌}
 use Rattle.ghosts.specs.Failures.{counted}
-use Rattle.avr_desk.specs.Record.{DeskState, showing}
-use Rattle.avr_desk.specs.declared.desk.DeskFault.{DeskFault}
-use Rattle.avr_desk.specs.declared.desk.DeskFault.TheVariants.{Failed}
-use Rattle.avr_desk.specs.declared.stream.Stream.{Stream}
-use Rattle.avr_desk.specs.declared.stream.Stream.TheVariants.{Messages}
+use Rattle.avr_io.specs.Record.{DeskState, showing}
+use Rattle.avr_io.specs.declared.desk.DeskFault.{DeskFault}
+use Rattle.avr_io.specs.declared.desk.DeskFault.TheVariants.{Failed}
+use Rattle.avr_io.specs.declared.stream.Stream.{Stream}
+use Rattle.avr_io.specs.declared.stream.Stream.TheVariants.{Messages}
 
 -- `due` numbers the call that fails: 1 is the next one, 0 none. `planned` counts the planned failures, and
 -- `message_failures` those at the messages.

@@ -6,16 +6,16 @@ use Rattle.std.specs.List.{All, Contains}
 use Rattle.std.specs.declared.io.Read.{Ghosts as Reads}
 use Rattle.std.specs.declared.io.Write.{Ghosts as Writes}
 use Rattle.avr_desk.specs.Journal.{calls_of_record}
-use Rattle.avr_desk.specs.Named.{is_dash}
-use Rattle.avr_desk.specs.Record.{Bytes, Record}
+use Rattle.avr_io.specs.Named.{is_dash}
+use Rattle.avr_io.specs.Record.{Bytes, Record}
 use Rattle.avr_desk.specs.declared.file_system.FileSystem.{Ghosts}
-use Rattle.avr_desk.specs.declared.record.FileUse.{FileUse}
-use Rattle.avr_desk.specs.declared.record.FileUse.TheVariants.{Opened, Created}
-use Rattle.avr_desk.specs.declared.record.Open.{Open}
-use Rattle.avr_desk.specs.declared.record.Open.TheVariants as is
-use Rattle.avr_desk.specs.declared.record.Opening.TheVariants.{Absent, Found}
-use Rattle.avr_desk.specs.declared.record.Reading.{Reading}
-use Rattle.avr_desk.specs.declared.record.Writing.{Writing}
+use Rattle.avr_io.specs.declared.record.FileUse.{FileUse}
+use Rattle.avr_io.specs.declared.record.FileUse.TheVariants.{Opened, Created}
+use Rattle.avr_io.specs.declared.record.Open.{Open}
+use Rattle.avr_io.specs.declared.record.Open.TheVariants as is
+use Rattle.avr_io.specs.declared.record.Opening.TheVariants.{Absent, Found}
+use Rattle.avr_io.specs.declared.record.Reading.{Reading}
+use Rattle.avr_io.specs.declared.record.Writing.{Writing}
 use Rattle.avr_desk.specs.declared.system.OpenFile.{OpenFile}
 use Rattle.avr_desk.specs.declared.system.OpenFile.TheVariants.{Nothing, Input, ToRead, ToWrite, Output}
 

@@ -1,11 +1,11 @@
 -- The calls of a system for files, and those that a desk's record shows.
 use Rattle.std.specs.Prelude.{◌≡◌, ◌⊎◌, ℕ, ◌+◌, List, [], ◌∷◌, ◌++◌, Option, Some, None, Result, Ok, Err, flat_map, if◌then◌else◌}
 use Rattle.std.specs.Option.{option_len}
-use Rattle.avr_desk.specs.Named.{is_dash}
-use Rattle.avr_desk.specs.Record.{Bytes, Record, all_uses}
-use Rattle.avr_desk.specs.declared.record.FileUse.{FileUse}
-use Rattle.avr_desk.specs.declared.record.FileUse.TheVariants.{Opened, Created}
-use Rattle.avr_desk.specs.declared.record.Opening.TheVariants.{Absent, Found}
+use Rattle.avr_io.specs.Named.{is_dash}
+use Rattle.avr_io.specs.Record.{Bytes, Record, all_uses}
+use Rattle.avr_io.specs.declared.record.FileUse.{FileUse}
+use Rattle.avr_io.specs.declared.record.FileUse.TheVariants.{Opened, Created}
+use Rattle.avr_io.specs.declared.record.Opening.TheVariants.{Absent, Found}
 use Rattle.ghosts.specs.Preserves.{Preserves}
 
 -- Standard input was given; a file was opened to read; or a file was created or replaced.

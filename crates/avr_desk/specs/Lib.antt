@@ -1,9 +1,4 @@
 -- what contracts of public calls cite
-pub mod Fault
-pub mod Record
-pub mod Stream
-pub mod Files
-pub mod Named
 pub mod Looks
 pub mod Memory
 pub mod Truth
@@ -13,10 +8,6 @@ pub mod Journal
 pub mod Handles
 pub mod Shown
 pub mod Calls
-pub mod Lines
-pub mod OutputEvents
-pub mod Stage
-pub mod StageRuns
 -- inside: how things are stored, and contracts of private functions
 pub mod OpenFile
 -- names from the crates below that public contracts use

@@ -1,8 +1,8 @@
 -- A desk in memory: its state in contracts, and the bytes that a name means.
 use Rattle.std.specs.Prelude.{ℕ, List, [], ◌++◌, drop, length, Option, Some, None, if◌then◌else◌}
-use Rattle.avr_desk.specs.Record.{DeskState, Record, Bytes, all_files, nothing_kept, showing}
-use Rattle.avr_desk.specs.Named.{bytes_given, is_dash, newest}
-use Rattle.avr_desk.specs.declared.record.Writing.{Writing}
+use Rattle.avr_io.specs.Record.{DeskState, Record, Bytes, all_files, nothing_kept, showing}
+use Rattle.avr_io.specs.Named.{bytes_given, is_dash, newest}
+use Rattle.avr_io.specs.declared.record.Writing.{Writing}
 
 -- Beside what any desk shows: the standard input, the files put there, and all bytes of the file opened last.
 pub record MemDeskState : Type 0 where

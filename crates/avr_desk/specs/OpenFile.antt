@@ -2,8 +2,8 @@
 use Rattle.std.specs.Prelude.{◌≡◌, ◌<◌, ℕ, Bool, true, false, length, take}
 use Rattle.std.specs.Io.KnownBytes.{Consumes, IsAtEnd, Keeps}
 use Rattle.std.specs.declared.io.Read.{Ghosts as Reads}
-use Rattle.avr_desk.specs.Record.{Bytes, is_to_read, is_to_write}
-use Rattle.avr_desk.specs.declared.record.Open.{Open}
+use Rattle.avr_io.specs.Record.{Bytes, is_to_read, is_to_write}
+use Rattle.avr_io.specs.declared.record.Open.{Open}
 use Rattle.avr_desk.specs.declared.system.OpenFile.{OpenFile}
 use Rattle.avr_desk.specs.declared.system.OpenFile.TheVariants.{Input, ToRead, ToWrite, Output}
 

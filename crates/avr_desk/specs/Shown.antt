@@ -7,15 +7,15 @@ use Rattle.std.specs.declared.io.Read.{Ghosts as Reads}
 use Rattle.std.specs.declared.io.Write.{Ghosts as Writes}
 use Rattle.avr_desk.specs.Handles.{IsTrueRecord}
 use Rattle.avr_desk.specs.Journal.{no_calls}
-use Rattle.avr_desk.specs.Named.{is_dash}
-use Rattle.avr_desk.specs.Record.{Bytes, Record, DeskState, all_files, nothing_kept, showing}
+use Rattle.avr_io.specs.Named.{is_dash}
+use Rattle.avr_io.specs.Record.{Bytes, Record, DeskState, all_files, nothing_kept, showing}
 use Rattle.avr_desk.specs.OpenFile.{is_output}
-use Rattle.avr_desk.specs.Stream.{after_sent}
+use Rattle.avr_io.specs.Stream.{after_sent}
 use Rattle.avr_desk.specs.declared.file_system.FileSystem.{Ghosts}
-use Rattle.avr_desk.specs.declared.record.Writing.{Writing}
-use Rattle.avr_desk.specs.declared.stream.Stream.{Stream}
-use Rattle.avr_desk.specs.declared.desk.DeskFault.{DeskFault}
-use Rattle.avr_desk.specs.declared.desk.DeskFault.TheVariants.{Failed}
+use Rattle.avr_io.specs.declared.record.Writing.{Writing}
+use Rattle.avr_io.specs.declared.stream.Stream.{Stream}
+use Rattle.avr_io.specs.declared.desk.DeskFault.{DeskFault}
+use Rattle.avr_io.specs.declared.desk.DeskFault.TheVariants.{Failed}
 use Rattle.avr_desk.specs.declared.system.OpenFile.{OpenFile}
 use Rattle.avr_desk.specs.declared.system.OpenFile.TheVariants.{Nothing}
 

@@ -1,14 +1,14 @@
 -- The record of a desk in memory is true of the files that it began with.
 use Rattle.std.specs.Prelude.{◌≡◌, Bool, true, List, [], ◌∷◌, ◌++◌, Option, Some, None}
-use Rattle.avr_desk.specs.declared.record.FileUse.{FileUse}
-use Rattle.avr_desk.specs.declared.record.FileUse.TheVariants.{Opened, Created}
+use Rattle.avr_io.specs.declared.record.FileUse.{FileUse}
+use Rattle.avr_io.specs.declared.record.FileUse.TheVariants.{Opened, Created}
 use Rattle.avr_desk.specs.Memory.{MemDeskState, Stock, stock_of, content_of_name}
-use Rattle.avr_desk.specs.Record.{Bytes, files_among}
-use Rattle.avr_desk.specs.declared.record.Open.{Open}
-use Rattle.avr_desk.specs.declared.record.Open.TheVariants.{ToRead}
-use Rattle.avr_desk.specs.declared.record.Opening.{Opening}
-use Rattle.avr_desk.specs.declared.record.Opening.TheVariants.{Absent, Found}
-use Rattle.avr_desk.specs.declared.record.Writing.{Writing}
+use Rattle.avr_io.specs.Record.{Bytes, files_among}
+use Rattle.avr_io.specs.declared.record.Open.{Open}
+use Rattle.avr_io.specs.declared.record.Open.TheVariants.{ToRead}
+use Rattle.avr_io.specs.declared.record.Opening.{Opening}
+use Rattle.avr_io.specs.declared.record.Opening.TheVariants.{Absent, Found}
+use Rattle.avr_io.specs.declared.record.Writing.{Writing}
 
 -- `bytes` is a prefix of the file, and all of it if the end was seen
 pub record IsReadPrefix (stood : Option Bytes) (bytes : Bytes) (ended : Bool) : Type 0 where

@@ -1,8 +1,8 @@
 -- What a watcher of a desk receives.
 use Rattle.std.specs.Prelude.{ℕ, Bool, Result, ⊤}
-use Rattle.avr_desk.specs.Record.{Bytes}
-use Rattle.avr_desk.specs.declared.desk.DeskFault.{DeskFault}
-use Rattle.avr_desk.specs.declared.stream.Stream.{Stream}
+use Rattle.avr_io.specs.Record.{Bytes}
+use Rattle.avr_io.specs.declared.desk.DeskFault.{DeskFault}
+use Rattle.avr_io.specs.declared.stream.Stream.{Stream}
 use Rattle.avr_desk.specs.declared.watched.DeskCall.{DeskCall}
 use Rattle.avr_desk.specs.declared.watched.DeskCall.TheVariants as call
 

@@ -1,12 +1,12 @@
 ghost use Rattle.std.specs.Prelude.{◌≡◌, ◌≤◌, ◌-◌, ◌==◌, length, IfErr, IfOk, is_err};
 ghost use Rattle.avr_desk.specs.Failing.{FailsWhenDue, count_after, failing, of_inner};
-ghost use Rattle.avr_desk.specs.Record.{ChangesRecord, after_open, after_create, after_hold, after_read, Replaces, released, HasOpen, is_to_read, is_to_write};
-ghost use Rattle.avr_desk.specs.Fault.{CountsFailure, WriteCounts, IsCall};
-ghost use Rattle.avr_desk.specs.Stream.{IsWrite};
-ghost use Rattle.avr_desk.specs.declared.stream.Stream.TheVariants.{File, Output, Messages};
+ghost use Rattle.avr_io.specs.Record.{ChangesRecord, after_open, after_create, after_hold, after_read, Replaces, released, HasOpen, is_to_read, is_to_write};
+ghost use Rattle.avr_io.specs.Fault.{CountsFailure, WriteCounts, IsCall};
+ghost use Rattle.avr_io.specs.Stream.{IsWrite};
+ghost use Rattle.avr_io.specs.declared.stream.Stream.TheVariants.{File, Output, Messages};
 ghost use Rattle.ghosts.specs.Preserves.{Preserves};
 
-use crate::desk::{ChipDesk, Desk, DeskFault};
+use avr_io::{ChipDesk, Desk, DeskFault};
 use std::marker::Model;
 
 /// For tests: a desk whose nth call fails and is counted. All other calls go to the inner desk. A release isn't counted

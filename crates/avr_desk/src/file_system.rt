@@ -4,7 +4,7 @@ ghost use Rattle.std.specs.IoError.{error_kind};
 ghost use Rattle.std.specs.declared.io.Error.{Error};
 ghost use Rattle.std.specs.Option.{option_copied, option_len};
 ghost use Rattle.avr_desk.specs.Journal.{AddsCalls, Counts, ChangesCalls, SystemCalls, Gives, CrashMayAlsoLeave, CrashLeavesNoMore, Opens, IsUncounted, TakesHold, with_calls, with_one_more_held, made};
-ghost use Rattle.avr_desk.specs.Record.{Bytes};
+ghost use Rattle.avr_io.specs.Record.{Bytes};
 ghost use Rattle.ghosts.specs.Preserves.{Preserves};
 
 use std::io;

@@ -1,9 +1,9 @@
 //! A desk's record for proofs alone. It takes no memory, and its methods do nothing at run time.
 ghost use Rattle.std.specs.Prelude.{◌≡◌};
 ghost use Rattle.std.specs.Borrow.{ftrue};
-ghost use Rattle.avr_desk.specs.Record.{Record, nothing_kept};
+ghost use Rattle.avr_io.specs.Record.{Record, nothing_kept};
 
-use crate::stream::Stream;
+use avr_io::Stream;
 use std::marker::Model;
 
 /// What one call of a desk did.

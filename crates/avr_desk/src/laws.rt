@@ -4,7 +4,7 @@ ghost use Rattle.ghosts.specs.Preserves.{Preserves};
 ghost use Rattle.avr_desk.specs.Handles.{IsTrueRecord};
 ghost use Rattle.avr_desk.specs.Journal.{no_calls};
 ghost use Rattle.avr_desk.specs.Memory.{MemDeskState, Stock, stock_of};
-ghost use Rattle.avr_desk.specs.Record.{Bytes, all_uses, nothing_kept};
+ghost use Rattle.avr_io.specs.Record.{Bytes, all_uses, nothing_kept};
 ghost use Rattle.avr_desk.specs.Shown.{IsTrueSince, RecordsAll};
 ghost use Rattle.avr_desk.specs.Truth.{OpeningsAreTrue, HoldsTrue};
 ghost use Rattle.avr_desk.specs.declared.system.OpenFile.TheVariants.{Nothing};

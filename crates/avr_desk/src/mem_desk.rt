@@ -1,12 +1,13 @@
 ghost use Rattle.std.specs.Prelude.{◌≡◌, ◌≤◌, ◌+◌, ◌++◌, ◌∷◌, ◌==◌, ◌&&◌, [], min, take, drop, length, Some, None, IfOk, OnOk, OnErr, is_ok, not, true, if◌then◌else◌};
 ghost use Rattle.std.specs.Option.{option_copied, option_to_list};
 ghost use Rattle.std.specs.Vec.{vec_len, vec_capacity};
-ghost use Rattle.avr_desk.specs.Record.{use_of};
+ghost use Rattle.avr_io.specs.Record.{use_of};
 
-use crate::bytes::Bytes;
-use crate::desk::{ChipDesk, Desk, DeskFault};
 use crate::journal::{Call, Journal};
-use crate::record::{FileUse, Open, Opening, Reading, Writing, is_dash, newest, newest_created};
+use avr_io::{
+    Bytes, ChipDesk, Desk, DeskFault, FileUse, Open, Opening, Reading, Stream, Writing, is_dash,
+    newest, newest_created,
+};
 use std::alloc::{AllocError, Global};
 use std::marker::Model;
 use std::mem;
@@ -94,8 +95,8 @@ fn open_next(uses: &mut Vec<FileUse>, current: &mut Open, next: Open, last: Opti
 impl MemDesk {
     ghost use Rattle.ghosts.specs.Failures.{OneFailureCounted};
     ghost use Rattle.avr_desk.specs.Memory.{contents, fresh_desk};
-    ghost use Rattle.avr_desk.specs.Named.{holds, newest};
-    ghost use Rattle.avr_desk.specs.Record.{all_files};
+    ghost use Rattle.avr_io.specs.Named.{holds, newest};
+    ghost use Rattle.avr_io.specs.Record.{all_files};
 
     /// Creates a desk without files. Each opening of `-` reads `input` from its start.
     pub fn new(alloc: Global, input: Bytes) -> MemDesk
@@ -211,12 +212,12 @@ impl MemDesk {
 
 #[tactic(auto, using(crate::proofs::Desks::InMemory::same_true))]
 impl Desk for MemDesk {
-    ghost use Rattle.avr_desk.specs.Record.{after_open, after_create, after_read, after_write, after_out, after_err, bytes_taken, is_to_read, is_to_write};
-    ghost use Rattle.avr_desk.specs.Fault.{CountsFailure, WriteCounts, IsCall};
+    ghost use Rattle.avr_io.specs.Record.{after_open, after_create, after_read, after_write, after_out, after_err, bytes_taken, is_to_read, is_to_write};
+    ghost use Rattle.avr_io.specs.Fault.{CountsFailure, WriteCounts, IsCall};
     ghost use Rattle.avr_desk.specs.Memory.{contents, updated, memory_state, Stock, unread_bytes};
     ghost use Rattle.avr_desk.specs.Truth.{HoldsTrue};
     ghost use Rattle.ghosts.specs.Preserves.{Preserves};
-    ghost use Rattle.avr_desk.specs.declared.stream.Stream.TheVariants.{File, Output, Messages};
+    ghost use Rattle.avr_io.specs.declared.stream.Stream.TheVariants.{File, Output, Messages};
 
     ghost view = { memory_state };
 
@@ -329,13 +330,13 @@ impl Desk for MemDesk {
 
 #[tactic(auto, using(crate::proofs::Desks::InMemory::same_true))]
 impl ChipDesk for MemDesk {
-    ghost use Rattle.avr_desk.specs.Record.{Replaces, after_hold, with_none_held, with_replaced};
-    ghost use Rattle.avr_desk.specs.Fault.{CountsFailure, IsCall};
+    ghost use Rattle.avr_io.specs.Record.{Replaces, after_hold, with_none_held, with_replaced};
+    ghost use Rattle.avr_io.specs.Fault.{CountsFailure, IsCall};
     ghost use Rattle.avr_desk.specs.Memory.{updated, memory_state};
-    ghost use Rattle.avr_desk.specs.Named.{holds};
+    ghost use Rattle.avr_io.specs.Named.{holds};
     ghost use Rattle.avr_desk.specs.Truth.{HoldsTrue};
     ghost use Rattle.ghosts.specs.Preserves.{Preserves};
-    ghost use Rattle.avr_desk.specs.declared.stream.Stream.TheVariants.{File};
+    ghost use Rattle.avr_io.specs.declared.stream.Stream.TheVariants.{File};
 
     fn hold(&mut self, name: &str) -> Result<bool, DeskFault>
         ensures free { IfOk result (λ b. b ≡ not (holds name.now self.old.kept)) }

@@ -7,7 +7,7 @@
 ghost use Rattle.std.specs.Prelude.{◌≡◌, ◌⊎◌, [], IfOk, MatchResult, OnOk, Option, Some};
 ghost use Rattle.avr_desk.specs.Handles.{IsHeldBy};
 ghost use Rattle.avr_desk.specs.Journal.{ChangesCalls, CrashLeavesNoMore, CrashMayAlsoLeave, IsUncounted, with_calls, made};
-ghost use Rattle.avr_desk.specs.Record.{Bytes};
+ghost use Rattle.avr_io.specs.Record.{Bytes};
 ghost use Rattle.ghosts.specs.Preserves.{Preserves};
 
 use crate::file_system::FileSystem;

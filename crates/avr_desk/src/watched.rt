@@ -1,13 +1,12 @@
 ghost use Rattle.std.specs.Prelude.{◌≡◌, ◌≤◌, length, IfOk};
-ghost use Rattle.avr_desk.specs.Record.{ChangesRecord, after_open, after_create, after_hold, after_read, Replaces, released, HasOpen, is_to_read, is_to_write};
-ghost use Rattle.avr_desk.specs.Fault.{CountsFailure, IsCall};
-ghost use Rattle.avr_desk.specs.Stream.{IsWrite};
-ghost use Rattle.avr_desk.specs.declared.stream.Stream.TheVariants.{File, Output, Messages};
+ghost use Rattle.avr_io.specs.Record.{ChangesRecord, after_open, after_create, after_hold, after_read, Replaces, released, HasOpen, is_to_read, is_to_write};
+ghost use Rattle.avr_io.specs.Fault.{CountsFailure, IsCall};
+ghost use Rattle.avr_io.specs.Stream.{IsWrite};
+ghost use Rattle.avr_io.specs.declared.stream.Stream.TheVariants.{File, Output, Messages};
 ghost use Rattle.avr_desk.specs.Watching.{ReportedDeskCall, Opened, Created, Held, Released, Checked, Replaced, Read, Wrote, reported_desk_call};
 ghost use Rattle.ghosts.specs.Preserves.{Preserves};
 
-use crate::desk::{ChipDesk, Desk, DeskFault};
-use crate::stream::Stream;
+use avr_io::{ChipDesk, Desk, DeskFault, Stream};
 use std::fmt;
 
 /// A finished call of a desk: its arguments and its result.

@@ -3,8 +3,8 @@ use Rattle.std.proofs.Common.{◌≡◌, ◌≤◌, ℕ, [], List, All, length, 
 use Rattle.std.proofs.lemmas.List.{append-nil}
 use Rattle.ghosts.specs.Preserves.{Preserves}
 use Rattle.avr_plan.specs.declared.settings.Settings.{Settings}
-use Rattle.avr_desk.specs.Record.{Bytes, DeskState, ChangesRecord}
-use Rattle.avr_desk.specs.OutputEvents.{OutputEvent, after_events}
+use Rattle.avr_io.specs.Record.{Bytes, DeskState, ChangesRecord}
+use Rattle.avr_io.specs.OutputEvents.{OutputEvent, after_events}
 use Rattle.avr_part.specs.Sound.{IsSoundChip}
 use Rattle.avr_plan.specs.Plan.{Plan, IsFitted}
 use Rattle.avr_session.specs.Run.{RunsSession, StopsSession}

@@ -8,12 +8,12 @@ use Rattle.std.specs.declared.io.Write.{Ghosts as Writes}
 use Rattle.avr_desk.proofs.FileUses.Uses.{files_used}
 use Rattle.avr_desk.specs.Handles.{IsTrueRecord}
 use Rattle.avr_desk.specs.Journal.{FileCall, SystemCalls, calls_of, calls_of_record}
-use Rattle.avr_desk.specs.Named.{is_dash}
+use Rattle.avr_io.specs.Named.{is_dash}
 use Rattle.avr_desk.specs.OpenFile.{is_output}
-use Rattle.avr_desk.specs.Record.{Bytes, Record, all_uses}
+use Rattle.avr_io.specs.Record.{Bytes, Record, all_uses}
 use Rattle.avr_desk.specs.Shown.{IsTrueSince, Shown}
 use Rattle.avr_desk.specs.declared.file_system.FileSystem.{Ghosts}
-use Rattle.avr_desk.specs.declared.record.Writing.{Writing}
+use Rattle.avr_io.specs.declared.record.Writing.{Writing}
 use Rattle.avr_desk.specs.declared.system.OpenFile.{OpenFile}
 use Rattle.avr_desk.specs.declared.system.OpenFile.TheVariants.{Output}
 use Rattle.avr_laws.specs.Recorded.{RecordsFiles, RecordsOutput}

@@ -1,6 +1,6 @@
 -- A session that went along exchanges: its reports, and its end.
 use Rattle.std.proofs.Common.{◌≡◌, ℕ, List, All, length, sym, subst, rules}
-use Rattle.avr_desk.specs.OutputEvents.{OutputEvent}
+use Rattle.avr_io.specs.OutputEvents.{OutputEvent}
 use Rattle.avr_part.specs.Part.{IsPart}
 use Rattle.avr_part.specs.Sound.{IsSoundChip}
 use Rattle.avr_plan.specs.Plan.{Plan, IsFitted}

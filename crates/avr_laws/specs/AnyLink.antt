@@ -1,8 +1,8 @@
 -- What holds of a session over a link that forges no frame, besides what avr_tool's OverFaultyLink states: its
 -- reports are true and expected, and few bad frames change nothing.
 use Rattle.std.specs.Prelude.{ℕ, ◌≡◌, ◌⊎◌, true, List}
-use Rattle.avr_desk.specs.Record.{DeskState, ChangesRecord}
-use Rattle.avr_desk.specs.OutputEvents.{OutputEvent, after_events}
+use Rattle.avr_io.specs.Record.{DeskState, ChangesRecord}
+use Rattle.avr_io.specs.OutputEvents.{OutputEvent, after_events}
 use Rattle.avr_plan.specs.Plan.{Plan}
 use Rattle.avr_session.specs.Actions.{actions}
 use Rattle.stk_emu.specs.Device.{device}

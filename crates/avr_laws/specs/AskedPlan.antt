@@ -5,9 +5,9 @@ use Rattle.avr_plan.specs.declared.update.Format.{Format}
 use Rattle.avr_plan.specs.declared.update.Format.TheVariants.{Immediate}
 use Rattle.avr_plan.specs.declared.update.Op.TheVariants as op
 use Rattle.avr_plan.specs.declared.update.Update.{Update}
-use Rattle.avr_desk.specs.Record.{Bytes}
-use Rattle.avr_desk.specs.declared.record.Opening.{Opening}
-use Rattle.avr_desk.specs.declared.record.Opening.TheVariants.{Found}
+use Rattle.avr_io.specs.Record.{Bytes}
+use Rattle.avr_io.specs.declared.record.Opening.{Opening}
+use Rattle.avr_io.specs.declared.record.Opening.TheVariants.{Found}
 use Rattle.avr_part.specs.BuiltIn.{built_in_parts, has_id}
 use Rattle.avr_part.specs.Part.{Part, size_of}
 use Rattle.avr_laws.specs.HeldImage.{HoldsImageAs, HoldsValues}

@@ -5,8 +5,8 @@ use Rattle.std.specs.Char.{is_ascii_digit}
 use Rattle.std.specs.List.{list_all, list_any}
 use Rattle.std.specs.Str.Parse.{digits_value}
 use Rattle.clap.specs.Words.{Row, all_of, first_of}
-use Rattle.avr_desk.specs.Named.{is_dash}
-use Rattle.avr_desk.specs.Record.{Bytes}
+use Rattle.avr_io.specs.Named.{is_dash}
+use Rattle.avr_io.specs.Record.{Bytes}
 use Rattle.avr_part.specs.Mem.{name_of}
 use Rattle.avr_part.specs.declared.part.Mem.TheVariants.{Flash}
 use Rattle.avr_plan.specs.Settings.{switches_of}

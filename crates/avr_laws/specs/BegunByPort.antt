@@ -5,7 +5,7 @@ use Rattle.avr_plan.specs.Command.{avrstk}
 use Rattle.avr_plan.specs.declared.settings.Port.{Port}
 use Rattle.avr_plan.specs.declared.settings.Port.TheVariants.{Stdio, Emulated, Network, Served}
 use Rattle.avr_plan.specs.declared.settings.Settings.{Settings}
-use Rattle.avr_desk.specs.Record.{Bytes, Record}
+use Rattle.avr_io.specs.Record.{Bytes, Record}
 use Rattle.avr_laws.specs.AskedSettings.{AsksFor, AsksToServe}
 use Rattle.avr_laws.specs.AnyTape.{after_sent_frames}
 use Rattle.avr_laws.specs.Kept.{HasGeometryOf, NoneForged, on_part}

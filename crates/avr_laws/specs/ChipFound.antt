@@ -1,7 +1,7 @@
 -- The chip that a run over the emulator finds in its file.
 use Rattle.std.specs.Prelude.{◌≡◌, [], ◌∷◌, ◌++◌, length, replicate, Option, Some, None}
 use Rattle.avr_desk.specs.Memory.{Stock, content_of_name}
-use Rattle.avr_desk.specs.Record.{Bytes, Record, all_files}
+use Rattle.avr_io.specs.Record.{Bytes, Record, all_files}
 use Rattle.avr_part.specs.ChipFile.{chip_file}
 use Rattle.avr_part.specs.Part.{Part}
 use Rattle.avr_part.specs.State.{ChipState as Chip, fresh_state}

@@ -7,12 +7,12 @@ use Rattle.avr_plan.specs.declared.update.Op.{Op}
 use Rattle.avr_plan.specs.declared.update.Op.TheVariants as op
 use Rattle.avr_plan.specs.declared.update.Update.{Update}
 use Rattle.avr_desk.specs.Memory.{Stock, content_of_name}
-use Rattle.avr_desk.specs.Record.{Bytes}
-use Rattle.avr_desk.specs.OutputEvents.{OutputEvent, Opens, PrintsLine}
-use Rattle.avr_desk.specs.Stage.{StageResult}
+use Rattle.avr_io.specs.Record.{Bytes}
+use Rattle.avr_io.specs.OutputEvents.{OutputEvent, Opens, PrintsLine}
+use Rattle.avr_io.specs.Stage.{StageResult}
 use Rattle.avr_desk.specs.Truth.{IsTrueOpening}
-use Rattle.avr_desk.specs.declared.record.Opening.{Opening}
-use Rattle.avr_desk.specs.declared.record.Opening.TheVariants.{Absent, Found}
+use Rattle.avr_io.specs.declared.record.Opening.{Opening}
+use Rattle.avr_io.specs.declared.record.Opening.TheVariants.{Absent, Found}
 use Rattle.avr_part.specs.Mem.{is_writable}
 use Rattle.avr_plan.specs.Plan.{Plan}
 use Rattle.avr_plan.specs.Planning.{planned}

@@ -2,9 +2,9 @@
 -- was sent and received alone. docs/CHECK.md reads it out.
 use Rattle.std.specs.Prelude.{◌≡◌, ℕ, false, not, ◌&&◌, List, [], ◌∷◌, ◌++◌, filter, take, if◌then◌else◌}
 use Rattle.avr_plan.specs.declared.settings.Switches.{Switches}
-use Rattle.avr_desk.specs.Named.{is_dash}
-use Rattle.avr_desk.specs.Record.{Bytes, Record, all_uses, files_among}
-use Rattle.avr_desk.specs.declared.record.Writing.{Writing}
+use Rattle.avr_io.specs.Named.{is_dash}
+use Rattle.avr_io.specs.Record.{Bytes, Record, all_uses, files_among}
+use Rattle.avr_io.specs.declared.record.Writing.{Writing}
 use Rattle.avr_laws.specs.AnyTape.{after_sent_frames}
 use Rattle.avr_laws.specs.NoForgedFrame.{AreNotForged, frame_of_reply}
 use Rattle.avr_part.specs.Sound.{IsSoundChip}

@@ -1,7 +1,7 @@
 -- THE PROMISE FOR ANY PROGRAMMER THAT KEEPS THE TABLE: what status 0 means for the chip and the desk, over a link that
 -- forges no frame. docs/CHECK.md reads it out.
 use Rattle.std.specs.Prelude.{ℕ, List, []}
-use Rattle.avr_desk.specs.Record.{Record}
+use Rattle.avr_io.specs.Record.{Record}
 use Rattle.avr_part.specs.declared.part.Mem.{Mem}
 use Rattle.avr_part.specs.Part.{Part, IsPart}
 use Rattle.avr_plan.specs.Plan.{Plan}

@@ -5,8 +5,8 @@ use Rattle.avr_plan.specs.Command.{avrstk}
 use Rattle.avr_plan.specs.declared.settings.Port.{Port}
 use Rattle.avr_plan.specs.declared.settings.Port.TheVariants.{Stdio, Emulated, Network, Served}
 use Rattle.avr_plan.specs.declared.settings.Settings.{Settings}
-use Rattle.avr_desk.specs.Record.{Bytes, Record, all_uses, openings_among, with_replaced}
-use Rattle.avr_desk.specs.declared.record.Opening.{Opening}
+use Rattle.avr_io.specs.Record.{Bytes, Record, all_uses, openings_among, with_replaced}
+use Rattle.avr_io.specs.declared.record.Opening.{Opening}
 use Rattle.avr_laws.specs.AskedPlan.{IsAsked, WasOpened}
 use Rattle.avr_laws.specs.AskedSettings.{AsksFor, AsksToServe}
 use Rattle.avr_laws.specs.ChipFound.{AreInFile, file_of_memories}

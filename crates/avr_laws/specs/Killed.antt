@@ -2,7 +2,7 @@
 use mathlib.Core.Logic.{inl, inr}
 use Rattle.std.specs.Prelude.{◌≡◌, ◌⊎◌, ℕ, Option, None, Some}
 use Rattle.avr_plan.specs.declared.settings.Settings.{Settings}
-use Rattle.avr_desk.specs.Record.{Bytes, DeskState}
+use Rattle.avr_io.specs.Record.{Bytes, DeskState}
 use Rattle.avr_desk.specs.declared.file_system.FileSystem.{Ghosts}
 use Rattle.avr_tool.specs.Emulated.{RunsEmulator}
 use Rattle.avr_tool.specs.ServedRun.{RunsServedFor, ServesPart}

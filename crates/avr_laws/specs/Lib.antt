@@ -35,14 +35,14 @@ pub mod KeptByPort
 pub mod Recorded
 pub mod BegunByPort
 -- of the crates below, the definitions that public contracts cite
-pub use Rattle.avr_desk.specs.Fault
+pub use Rattle.avr_io.specs.Fault
 pub use Rattle.avr_desk.specs.Memory
-pub use Rattle.avr_desk.specs.Named
-pub use Rattle.avr_desk.specs.StageRuns
-pub use Rattle.avr_desk.specs.Record
-pub use Rattle.avr_desk.specs.OutputEvents
+pub use Rattle.avr_io.specs.Named
+pub use Rattle.avr_io.specs.StageRuns
+pub use Rattle.avr_io.specs.Record
+pub use Rattle.avr_io.specs.OutputEvents
 pub use Rattle.avr_desk.specs.Shown
-pub use Rattle.avr_desk.specs.Stage
+pub use Rattle.avr_io.specs.Stage
 pub use Rattle.avr_desk.specs.Truth
 pub use Rattle.avr_image.specs.Image
 pub use Rattle.avr_part.specs.ChipFile

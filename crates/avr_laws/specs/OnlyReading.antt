@@ -1,6 +1,6 @@
 -- Output events that only open files for reading and print lines. Nothing is created, written or output.
 use Rattle.std.specs.Prelude.{List, [], ◌∷◌}
-use Rattle.avr_desk.specs.OutputEvents.{OutputEvent, Opens, PrintsLine}
+use Rattle.avr_io.specs.OutputEvents.{OutputEvent, Opens, PrintsLine}
 
 -- Only openings of files, and printed lines.
 abbrev pub OnlyReadsAndPrints : List OutputEvent → Type 0

@@ -1,8 +1,8 @@
 -- The promise over the emulator, to be read alone: what the files hold after a run with status 0.
 use Rattle.std.specs.Prelude.{◌≡◌, false, [], Some}
 use Rattle.avr_plan.specs.declared.settings.Settings.{Settings}
-use Rattle.avr_desk.specs.Named.{newest}
-use Rattle.avr_desk.specs.Record.{Bytes}
+use Rattle.avr_io.specs.Named.{newest}
+use Rattle.avr_io.specs.Record.{Bytes}
 use Rattle.avr_tool.specs.Items.{asked_items}
 use Rattle.avr_tool.specs.Written.{IsWritten}
 use Rattle.avr_part.specs.ChipFile.{chip_file}

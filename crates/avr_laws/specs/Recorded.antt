@@ -7,11 +7,11 @@ use Rattle.std.specs.declared.io.Read.{Ghosts as Reads}
 use Rattle.std.specs.declared.io.Write.{Ghosts as Writes}
 use Rattle.avr_desk.specs.Handles.{IsTrueOpen, IsTrueUse}
 use Rattle.avr_desk.specs.Journal.{calls_of}
-use Rattle.avr_desk.specs.Named.{is_dash}
-use Rattle.avr_desk.specs.Record.{Bytes, all_uses, files_among}
+use Rattle.avr_io.specs.Named.{is_dash}
+use Rattle.avr_io.specs.Record.{Bytes, all_uses, files_among}
 use Rattle.avr_desk.specs.Shown.{Shown}
 use Rattle.avr_desk.specs.declared.file_system.FileSystem.{Ghosts}
-use Rattle.avr_desk.specs.declared.record.Writing.{Writing}
+use Rattle.avr_io.specs.declared.record.Writing.{Writing}
 use Rattle.avr_desk.specs.declared.system.OpenFile.TheVariants.{Output}
 
 -- Each use of a file in the record was made with the system, and so was that of the open file. The system did nothing

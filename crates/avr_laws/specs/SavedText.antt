@@ -1,7 +1,7 @@
 -- The text of a file that a memory is read into: records of 32 bytes from address 0 on, or numbers.
 use Rattle.std.specs.Prelude.{ℕ, ◌+◌, ◌-◌, ◌/◌, ◌%◌, ◌==◌, nat_lt, List, [], ◌∷◌, ◌++◌, length, sum, if◌then◌else◌}
 use Rattle.hex.specs.Hex.{encode_upper}
-use Rattle.avr_desk.specs.Record.{Bytes}
+use Rattle.avr_io.specs.Record.{Bytes}
 use Rattle.avr_plan.specs.declared.update.Format.{Format}
 use Rattle.avr_plan.specs.declared.update.Format.TheVariants.{Ihex, Srec, Decimal, Hexadecimal, Octal, Binary}
 use Rattle.avr_image.specs.Lists.{list_line}

@@ -2,8 +2,8 @@
 use Rattle.std.specs.Prelude.{ℕ, List, [], ◌∷◌, ◌++◌, Some, None, false, codes}
 use Rattle.avr_plan.specs.declared.settings.Settings.{Settings}
 use Rattle.avr_plan.specs.declared.settings.Port.TheVariants.{Stdio}
-use Rattle.avr_desk.specs.Lines.{spaced_digits}
-use Rattle.avr_desk.specs.OutputEvents.{OutputEvent}
+use Rattle.avr_io.specs.Lines.{spaced_digits}
+use Rattle.avr_io.specs.OutputEvents.{OutputEvent}
 use Rattle.avr_part.specs.BuiltIn.{m328p}
 use Rattle.avr_part.specs.declared.part.Mem.TheVariants.{Lfuse}
 use Rattle.avr_plan.specs.Plan.{Plan}

@@ -6,9 +6,9 @@ use Rattle.std.specs.List.{concat}
 use Rattle.avr_plan.specs.declared.update.Update.{Update}
 use Rattle.avr_plan.specs.declared.update.Format.TheVariants.{Ihex}
 use Rattle.avr_plan.specs.declared.update.Op.TheVariants as op
-use Rattle.avr_desk.specs.Record.{Bytes, Record, nothing_kept}
-use Rattle.avr_desk.specs.declared.record.FileUse.TheVariants.{Opened}
-use Rattle.avr_desk.specs.declared.record.Opening.TheVariants.{Found}
+use Rattle.avr_io.specs.Record.{Bytes, Record, nothing_kept}
+use Rattle.avr_io.specs.declared.record.FileUse.TheVariants.{Opened}
+use Rattle.avr_io.specs.declared.record.Opening.TheVariants.{Found}
 use Rattle.avr_part.specs.Part.{Part}
 use Rattle.avr_part.specs.State.{ChipState, fresh_state}
 use Rattle.avr_part.specs.declared.part.Mem.TheVariants.{Flash}

@@ -3,8 +3,8 @@
 
 ghost use Rattle.std.specs.Prelude.{◌≡◌, ◌*◌, ◌++◌, ℕ, List, [], All, Some, take};
 ghost use Rattle.avr_plan.specs.declared.settings.Settings.{Settings};
-ghost use Rattle.avr_desk.specs.Record.{Bytes, DeskState};
-ghost use Rattle.avr_desk.specs.OutputEvents.{OutputEvent, IsPartOfEvent};
+ghost use Rattle.avr_io.specs.Record.{Bytes, DeskState};
+ghost use Rattle.avr_io.specs.OutputEvents.{OutputEvent, IsPartOfEvent};
 ghost use Rattle.avr_part.specs.Part.{IsPart};
 ghost use Rattle.avr_plan.specs.Plan.{Plan, IsFitted};
 ghost use Rattle.avr_session.specs.Actions.{actions};

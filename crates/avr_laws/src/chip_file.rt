@@ -3,9 +3,9 @@
 ghost use Rattle.std.specs.Prelude.{◌≡◌, ℕ, false, [], Some};
 ghost use Rattle.avr_plan.specs.declared.settings.Settings.{Settings};
 ghost use Rattle.avr_desk.specs.Memory.{MemDeskState, Stock, memory_state, content_of_name};
-ghost use Rattle.avr_desk.specs.Named.{is_dash};
+ghost use Rattle.avr_io.specs.Named.{is_dash};
 ghost use Rattle.avr_desk.specs.Truth.{HoldsTrue};
-ghost use Rattle.avr_desk.specs.Record.{Bytes, nothing_kept};
+ghost use Rattle.avr_io.specs.Record.{Bytes, nothing_kept};
 ghost use Rattle.avr_tool.specs.OverFaultyLink.{memories};
 ghost use Rattle.avr_tool.specs.Emulated.{RunsOverEmulator};
 ghost use Rattle.avr_laws.specs.ChipFound.{IsChipInFile, contents_held};

@@ -2,7 +2,7 @@
 
 ghost use Rattle.avr_plan.specs.Port.{port_number};
 ghost use Rattle.avr_plan.specs.declared.settings.Settings.{Settings};
-ghost use Rattle.avr_desk.specs.Record.{Bytes};
+ghost use Rattle.avr_io.specs.Record.{Bytes};
 ghost use Rattle.avr_desk.specs.Shown.{IsNewDesk, RecordsAll, system_desk_view};
 ghost use Rattle.avr_laws.specs.Killed.{LeavesOldOrNew, chip_file_of_run, chip_file_of_server};
 ghost use Rattle.avr_session.specs.Runs.{devices};

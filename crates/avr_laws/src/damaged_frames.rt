@@ -3,7 +3,7 @@
 
 ghost use Rattle.std.specs.Prelude.{◌≡◌, true, ℕ, List, [], Bool, All};
 ghost use Rattle.avr_plan.specs.declared.settings.Settings.{Settings};
-ghost use Rattle.avr_desk.specs.Stage.{Produced};
+ghost use Rattle.avr_io.specs.Stage.{Produced};
 ghost use Rattle.avr_part.specs.Sound.{IsSoundChip};
 ghost use Rattle.avr_plan.specs.Plan.{Plan};
 ghost use Rattle.avr_plan.specs.Planning.{planned};

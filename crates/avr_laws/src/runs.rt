@@ -2,7 +2,7 @@
 
 ghost use Rattle.std.specs.Prelude.{◌≡◌, ◌<◌, ◌*◌, true, false, List, [], ◌∷◌, All, Some, flat_map, map, sum_by, ℕ};
 ghost use Rattle.avr_plan.specs.declared.settings.Settings.{Settings};
-ghost use Rattle.avr_desk.specs.Record.{DeskState, ChangesRecord, Record, all_openings};
+ghost use Rattle.avr_io.specs.Record.{DeskState, ChangesRecord, Record, all_openings};
 ghost use Rattle.avr_laws.specs.Again.{AgreesOnTwoChips, ItemsKeepEeprom};
 ghost use Rattle.avr_tool.specs.OverFaultyLink.{SessionOverWire, memories, events_over};
 ghost use Rattle.avr_laws.specs.AnyLink.{OverAnyWire, WholeSessionOverExchanges};
@@ -11,7 +11,7 @@ ghost use Rattle.avr_tool.specs.ExpectedRun.{expected_run};
 ghost use Rattle.avr_tool.specs.Items.{items, asked_items, has_erase};
 ghost use Rattle.avr_tool.specs.Outcome.{IsExpectedRun};
 ghost use Rattle.avr_tool.specs.Written.{IsWritten, written_to};
-ghost use Rattle.avr_desk.specs.OutputEvents.{OutputEvent, after_events};
+ghost use Rattle.avr_io.specs.OutputEvents.{OutputEvent, after_events};
 ghost use Rattle.avr_part.specs.Part.{IsPart};
 ghost use Rattle.avr_part.specs.Sound.{IsSoundChip};
 ghost use Rattle.avr_part.specs.State.{ChipState as Chip};
@@ -49,7 +49,7 @@ ghost use Rattle.stk_host.specs.Dialog.{Event, played, bytes_sent, frames_in, ou
 ghost use Rattle.stk_host.specs.Transcript.{Transcript, heard, sent};
 
 use super::any_programmer::AnyProgrammer;
-use avr_desk::Desk;
+use avr_io::Desk;
 use avr_plan::Settings;
 use avr_tool::run;
 use std::alloc::Global;

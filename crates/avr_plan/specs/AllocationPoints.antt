@@ -7,9 +7,9 @@ use Rattle.avr_plan.specs.declared.update.Format.TheVariants.{Immediate}
 use Rattle.avr_plan.specs.declared.update.Op.{Op}
 use Rattle.avr_plan.specs.declared.update.Op.TheVariants as op
 use Rattle.avr_plan.specs.declared.update.Update.{Update}
-use Rattle.avr_desk.specs.OutputEvents.{OutputEvent}
-use Rattle.avr_desk.specs.Stage.{Stage, Produced}
-use Rattle.avr_desk.specs.declared.record.Opening.{Opening}
+use Rattle.avr_io.specs.OutputEvents.{OutputEvent}
+use Rattle.avr_io.specs.Stage.{Stage, Produced}
+use Rattle.avr_io.specs.declared.record.Opening.{Opening}
 use Rattle.avr_part.specs.Mem.{is_writable}
 use Rattle.avr_part.specs.Part.{Part}
 use Rattle.avr_plan.specs.Planning.{planned, tasks_stage}

@@ -1,11 +1,11 @@
 -- What a desk records while an image file is read.
 use Rattle.std.specs.Prelude.{◌≡◌, ◌≤◌, ℕ, List, [], ◌++◌, length, Option, Bool, false, Result, Ok, Err, MatchBool}
 use Rattle.avr_plan.specs.declared.update.Format.{Format}
-use Rattle.avr_desk.specs.Fault.{HasSameCounts}
-use Rattle.avr_desk.specs.Files.{after_reading, with_read, CountsFileFault, EndsOrExceedsLimit}
-use Rattle.avr_desk.specs.Record.{DeskState, Record, ChangesRecord, Bytes}
-use Rattle.avr_desk.specs.declared.files.FileFault.{FileFault}
-use Rattle.avr_desk.specs.declared.files.FileFault.TheVariants.{NotRead}
+use Rattle.avr_io.specs.Fault.{HasSameCounts}
+use Rattle.avr_io.specs.Files.{after_reading, with_read, CountsFileFault, EndsOrExceedsLimit}
+use Rattle.avr_io.specs.Record.{DeskState, Record, ChangesRecord, Bytes}
+use Rattle.avr_io.specs.declared.files.FileFault.{FileFault}
+use Rattle.avr_io.specs.declared.files.FileFault.TheVariants.{NotRead}
 use Rattle.avr_records.specs.declared.kind.Ending.{Ending}
 use Rattle.avr_records.specs.declared.kind.Found.{Found}
 use Rattle.avr_plan.specs.ImageFile.{ImageOrBadFile, image_of_file_within, image_within}

@@ -16,10 +16,9 @@ pub mod AllocationPoints
 -- inside: representations, and contracts of private functions
 pub mod Intake
 -- what they cite of the crates below
-pub use Rattle.avr_desk.specs.Fault
-pub use Rattle.avr_desk.specs.Memory
-pub use Rattle.avr_desk.specs.StageRuns
-pub use Rattle.avr_desk.specs.Record
-pub use Rattle.avr_desk.specs.Stage
+pub use Rattle.avr_io.specs.Fault
+pub use Rattle.avr_io.specs.StageRuns
+pub use Rattle.avr_io.specs.Record
+pub use Rattle.avr_io.specs.Stage
 pub use Rattle.ghosts.specs.Failures
 pub use Rattle.ghosts.specs.Preserves

@@ -1,10 +1,10 @@
 -- The messages of errors while a plan is made, in pieces.
 use Rattle.std.specs.Prelude.{ℕ, List, [], ◌∷◌, codes, decimal}
 use Rattle.byteorder.specs.Endian.{big_bytes}
-use Rattle.avr_desk.specs.Record.{Bytes}
+use Rattle.avr_io.specs.Record.{Bytes}
 use Rattle.avr_image.specs.declared.fault.ImageFault.{ImageFault}
 use Rattle.avr_image.specs.declared.fault.ImageFault.TheVariants as image_fault
-use Rattle.avr_desk.specs.Lines.{digits, file_pieces, memory_pieces, too_long_pieces}
+use Rattle.avr_io.specs.Lines.{digits, file_pieces, memory_pieces, too_long_pieces}
 use Rattle.avr_part.specs.Fault.{field_name}
 use Rattle.avr_part.specs.Mem.{name_of}
 use Rattle.avr_part.specs.declared.fault.PartFault.{PartFault}

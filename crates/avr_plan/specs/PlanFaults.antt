@@ -3,10 +3,10 @@ use Rattle.std.specs.Prelude.{◌≡◌, ℕ, List, Option, Some, None, Result, 
 use Rattle.std.specs.Result.{result_map_both}
 use Rattle.avr_plan.specs.declared.settings.Settings.{Settings}
 use Rattle.avr_plan.specs.declared.update.Update.{Update}
-use Rattle.avr_desk.specs.Fault.{CountsNeverFall, HasFailedToReport}
-use Rattle.avr_desk.specs.Lines.{error, file_fault_line, memory_line, too_long_line}
-use Rattle.avr_desk.specs.Record.{DeskState, Bytes}
-use Rattle.avr_desk.specs.OutputEvents.{ReportsLine}
+use Rattle.avr_io.specs.Fault.{CountsNeverFall, HasFailedToReport}
+use Rattle.avr_io.specs.Lines.{error, file_fault_line, memory_line, too_long_line}
+use Rattle.avr_io.specs.Record.{DeskState, Bytes}
+use Rattle.avr_io.specs.OutputEvents.{ReportsLine}
 use Rattle.avr_plan.specs.Lines.{image_pieces, no_part_pieces, part_file_pieces, read_only_pieces, values_pieces}
 use Rattle.avr_plan.specs.declared.part_choice.TheConstants.{LARGEST_PART_FILE}
 use Rattle.avr_plan.specs.declared.plan_fault.PartsFault.{PartsFault}

@@ -1,7 +1,7 @@
 -- The stages of a plan in order: the part file, the part, and each update with its file.
 use Rattle.std.specs.Prelude.{ℕ, Bool, false, nat_le, nat_lt, List, [], ◌∷◌, ◌++◌, length, Option, Some, None, Result, Ok, Err, IsErr, codes, if◌then◌else◌}
 use Rattle.std.specs.Result.{result_map_both}
-use Rattle.avr_desk.specs.Record.{DeskState, Bytes}
+use Rattle.avr_io.specs.Record.{DeskState, Bytes}
 use Rattle.avr_plan.specs.declared.settings.Settings.{Settings}
 use Rattle.avr_plan.specs.declared.settings.Switches.{Switches}
 use Rattle.avr_plan.specs.declared.update.Format.{Format}
@@ -10,8 +10,8 @@ use Rattle.avr_plan.specs.declared.update.Op.{Op}
 use Rattle.avr_plan.specs.declared.update.Op.TheVariants as op
 use Rattle.avr_plan.specs.declared.update.Update.{Update}
 use Rattle.avr_image.specs.Values.{image_of_values}
-use Rattle.avr_desk.specs.Lines.{error, warning, too_long_line}
-use Rattle.avr_desk.specs.OutputEvents.{OutputEvent, PrintsLine, ReportsLine}
+use Rattle.avr_io.specs.Lines.{error, warning, too_long_line}
+use Rattle.avr_io.specs.OutputEvents.{OutputEvent, PrintsLine, ReportsLine}
 use Rattle.avr_part.specs.BuiltIn.{part_of_id}
 use Rattle.avr_part.specs.Mem.{is_writable}
 use Rattle.avr_part.specs.Part.{Part, size_of}
@@ -24,7 +24,7 @@ use Rattle.avr_plan.specs.declared.part_choice.TheConstants.{LARGEST_PART_FILE}
 use Rattle.avr_plan.specs.ImageFile.{image_within}
 use Rattle.avr_plan.specs.Lines.{bad_file_pieces, no_part_pieces, part_file_pieces, read_only_pieces, values_pieces}
 use Rattle.avr_plan.specs.Plan.{Plan}
-use Rattle.avr_desk.specs.Stage.{Stage, ◌>>=◌, result_stage, output_stage, file_stage}
+use Rattle.avr_io.specs.Stage.{Stage, ◌>>=◌, result_stage, output_stage, file_stage}
 use Rattle.avr_plan.specs.declared.planned.Task.{Task}
 use Rattle.avr_plan.specs.declared.planned.Task.TheVariants.{Write, Verify, Read}
 

@@ -4,7 +4,7 @@ use Rattle.std.specs.Prelude.{if◌then◌else◌, ⊤, ok_or}
 use Rattle.std.specs.Option.{option_map_or}
 use Rattle.std.specs.Result.{result_map_both}
 use Rattle.std.specs.Str.{bytes_eq}
-use Rattle.avr_desk.specs.Named.{is_dash}
+use Rattle.avr_io.specs.Named.{is_dash}
 use Rattle.clap.specs.Words.{Row, first_of, count_of}
 use Rattle.avr_part.specs.PartFile.{Bytes, ◌>>=◌}
 use Rattle.avr_plan.specs.Port.{port_number, port_of_option, port_to_serve}

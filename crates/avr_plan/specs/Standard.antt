@@ -1,7 +1,7 @@
 -- Which standard streams the command line asks for, and whether one is asked for twice.
 use Rattle.std.specs.Prelude.{◌&&◌, Bool, true, false, List}
 use Rattle.std.specs.List.{list_any}
-use Rattle.avr_desk.specs.Named.{is_dash}
+use Rattle.avr_io.specs.Named.{is_dash}
 use Rattle.avr_plan.specs.declared.update.Update.{Update}
 use Rattle.avr_plan.specs.declared.update.Op.TheVariants.{Read}
 use Rattle.avr_plan.specs.declared.update.Format.TheVariants.{Immediate}

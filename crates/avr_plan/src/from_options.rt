@@ -7,14 +7,14 @@ ghost use Rattle.avr_plan.specs.Settings.{GivesUnlessOutOfMemory, ReportsAnyway,
 ghost use Rattle.avr_plan.specs.Update.{update_of};
 ghost use Rattle.std.specs.Option.{option_map_or};
 ghost use Rattle.std.specs.List.{list_any};
-ghost use Rattle.avr_desk.specs.Named.{is_dash};
+ghost use Rattle.avr_io.specs.Named.{is_dash};
 ghost use Rattle.avr_plan.specs.Standard.{uses_standard, uses_input, is_port_taken};
 
 use crate::ports::{port_given, served};
 use crate::settings::{Port, Settings, SettingsFault, Switches};
 use crate::text::{Text, owned, owned_option};
 use crate::update::{Format, Op, Update, UpdateFault, Updates, parse_update};
-use avr_desk::is_dash;
+use avr_io::is_dash;
 use clap::ArgMatches;
 use std::alloc::Global;
 

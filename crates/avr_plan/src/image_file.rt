@@ -1,10 +1,10 @@
 //! The image of an update: of a file in one of the formats, or of values.
 ghost use Rattle.std.specs.Prelude.{◌≡◌, ◌+◌, ◌<◌, ◌^◌, ℕ, IfErr, OnOk, length, false, IfOk, vec_len, vec_capacity};
-ghost use Rattle.avr_desk.specs.Fault.{CountsNeverFall, HasSameCounts};
-ghost use Rattle.avr_desk.specs.Record.{DeskState, Bytes};
+ghost use Rattle.avr_io.specs.Fault.{CountsNeverFall, HasSameCounts};
+ghost use Rattle.avr_io.specs.Record.{DeskState, Bytes};
 ghost use Rattle.avr_records.specs.declared.kind.Found.{Found as AnyFound};
 ghost use Rattle.avr_plan.specs.ImageFile.{kind_of, image_of_file};
-ghost use Rattle.avr_desk.specs.Files.{CountsFileFault, FileBreaks};
+ghost use Rattle.avr_io.specs.Files.{CountsFileFault, FileBreaks};
 ghost use Rattle.avr_plan.specs.ImageReading.{BreaksReading, CountsReadFault, FirstBytesAreRead, MatchRead, ReadsImage, ReadsRest};
 ghost use Rattle.avr_plan.specs.Intake.{WasFed, record_bytes_fed};
 ghost use Rattle.ghosts.specs.Preserves.{Preserves};
@@ -13,8 +13,8 @@ ghost use Rattle.avr_plan.specs.declared.update.Update.{Update as AnyUpdate};
 ghost use Rattle.avr_plan.specs.PlanFaults.{ReportsTaskFault, with_status};
 ghost use Rattle.avr_plan.specs.Planning.{is_warned, warning_events, file_image_stage, update_image as update_image_stage};
 ghost use Rattle.avr_plan.specs.AllocationPoints.{has_immediate_values};
-ghost use Rattle.avr_desk.specs.StageRuns.{OnlyAtStart, RunsStage};
-ghost use Rattle.avr_desk.specs.Stage.{output_stage};
+ghost use Rattle.avr_io.specs.StageRuns.{OnlyAtStart, RunsStage};
+ghost use Rattle.avr_io.specs.Stage.{output_stage};
 
 use crate::intake::{BadFile, Intake};
 use crate::messages::{image_message, values_message};
@@ -23,8 +23,8 @@ use crate::planned::Task;
 use crate::settings::Switches;
 use crate::update::{Format, Update};
 use arrayvec::ArrayVec;
-use avr_desk::{Desk, DeskFault, FileFault, Piece, memory_message, print_warning, refuse};
 use avr_image::{Image, parse_immediate};
+use avr_io::{Desk, DeskFault, FileFault, Piece, memory_message, print_warning, refuse};
 use avr_part::Part;
 use avr_records::{Ending, FIRST_BYTES, Found, detect};
 use std::alloc::Global;

@@ -1,12 +1,12 @@
 //! Makes an image from the bytes of a file as they come, or returns why they are no image.
 ghost use Rattle.std.specs.Prelude.{◌≡◌, ◌+◌, ◌<◌, ◌≤◌, ◌^◌, ◌++◌, ℕ, [], length, MatchResult};
-ghost use Rattle.avr_desk.specs.Record.{Bytes};
+ghost use Rattle.avr_io.specs.Record.{Bytes};
 ghost use Rattle.avr_records.specs.declared.kind.Found.{Found as AnyFound};
 ghost use Rattle.avr_plan.specs.ImageFile.{image_of_file, fault_of_long_file};
 ghost use Rattle.avr_plan.specs.Intake.{WasFed, record_bytes_fed, found_as, in_long_file};
 
-use avr_desk::FileFault;
 use avr_image::{Image, ImageFault, RawReader};
+use avr_io::FileFault;
 use avr_records::{Ending, Found, Kind, RecordFault, RecordReader};
 use std::alloc::Global;
 use thiserror::Error;

@@ -4,8 +4,8 @@ ghost use Rattle.avr_plan.specs.Lines.{bad_file_pieces, image_pieces, in_line_pi
 
 use crate::image_file::{LARGEST_IMAGE_FILE, ReadFault};
 use crate::intake::BadFile;
-use avr_desk::{Message, Piece, file_message, memory_message, too_long_message};
 use avr_image::ImageFault;
+use avr_io::{Message, Piece, file_message, memory_message, too_long_message};
 use avr_part::{Field, Mem, PartFault};
 use avr_records::RecordFault;
 

@@ -2,13 +2,13 @@
 ghost use Rattle.std.specs.Prelude.{◌≡◌, false, [], None, Ok, IfErr};
 ghost use Rattle.avr_plan.specs.PlanFaults.{ReportsPartsFault, with_status};
 ghost use Rattle.avr_plan.specs.Planning.{LacksPart, parts_stage, part_stage};
-ghost use Rattle.avr_desk.specs.StageRuns.{OnlyAtStart, RunsStage};
+ghost use Rattle.avr_io.specs.StageRuns.{OnlyAtStart, RunsStage};
 ghost use Rattle.ghosts.specs.Preserves.{Preserves};
 
 use crate::messages::{no_part_message, part_file_message};
 use crate::plan_fault::PartsFault;
 use crate::text::Text;
-use avr_desk::{Desk, file_message, read_file, refuse, too_long_message};
+use avr_io::{Desk, file_message, read_file, refuse, too_long_message};
 use avr_part::{Part, Parts, parse_part_file};
 use std::alloc::Global;
 

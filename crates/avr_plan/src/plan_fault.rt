@@ -1,8 +1,8 @@
 ghost use Rattle.std.specs.Prelude.{◌≡◌};
 
 use crate::image_file::ReadFault;
-use avr_desk::FileFault;
 use avr_image::ImageFault;
+use avr_io::FileFault;
 use avr_part::PartFault;
 use thiserror::Error;
 

@@ -4,7 +4,7 @@ ghost use Rattle.avr_plan.specs.PlanFaults.{ReportsPlanFault, ReportsTaskFault, 
 ghost use Rattle.avr_plan.specs.Planning.{LacksPart, task_stage, tasks_stage, planned};
 ghost use Rattle.avr_plan.specs.declared.planned.Task.{Task as AnyTask};
 ghost use Rattle.avr_plan.specs.AllocationPoints.{AtAllocatingUpdate, AtAllocatingTask, op_allocates};
-ghost use Rattle.avr_desk.specs.StageRuns.{OnlyAtStart, RunsStage};
+ghost use Rattle.avr_io.specs.StageRuns.{OnlyAtStart, RunsStage};
 ghost use Rattle.ghosts.specs.Preserves.{Preserves};
 
 use crate::image_file::update_image;
@@ -15,7 +15,7 @@ use crate::planned::{Plan, Task, Tasks};
 use crate::settings::{Settings, Switches};
 use crate::text::Text;
 use crate::update::{Op, Update};
-use avr_desk::{Desk, memory_message, refuse};
+use avr_io::{Desk, memory_message, refuse};
 use avr_part::Part;
 use std::alloc::{AllocError, Global};
 

@@ -1,7 +1,7 @@
 -- When allocation can fail in a session: at an action that allocates, before anything of it has happened.
 use Rattle.std.specs.Prelude.{ℕ, Bool, true, List, [], ◌∷◌, ◌++◌, ◌≡◌, Some}
 use Rattle.avr_plan.specs.declared.settings.Switches.{Switches}
-use Rattle.avr_desk.specs.OutputEvents.{OutputEvent}
+use Rattle.avr_io.specs.OutputEvents.{OutputEvent}
 use Rattle.avr_part.specs.Part.{Part}
 use Rattle.stk_host.specs.Dialog.{Event}
 use Rattle.stk_host.specs.Play.{Progress, played_over}

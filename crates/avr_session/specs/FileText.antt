@@ -1,6 +1,6 @@
 -- The file that a memory's bytes are written to.
 use Rattle.std.specs.Prelude.{ℕ, ◌==◌, ◌&&◌, ◌+◌, ◌*◌, ◌/◌, [], ◌∷◌, take, if◌then◌else◌}
-use Rattle.avr_desk.specs.Record.{Bytes}
+use Rattle.avr_io.specs.Record.{Bytes}
 use Rattle.avr_plan.specs.declared.update.Format.{Format}
 use Rattle.avr_plan.specs.declared.update.Format.TheVariants.{Ihex, Srec, Decimal, Hexadecimal, Octal, Binary}
 use Rattle.avr_image.specs.Lists.{list_text}

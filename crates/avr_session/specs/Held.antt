@@ -1,6 +1,6 @@
 -- What a session holds before and after a call: for contracts inside this crate.
 use Rattle.std.specs.Prelude.{◌≡◌, List, None, Result, ⊤}
-use Rattle.avr_desk.specs.declared.desk.Desk.{Ghosts as Desks}
+use Rattle.avr_io.specs.declared.desk.Desk.{Ghosts as Desks}
 use Rattle.avr_session.specs.declared.session.Session.{Session}
 use Rattle.avr_session.specs.declared.ending.End.{End}
 use Rattle.avr_session.specs.Actions.{Action}

@@ -1,9 +1,9 @@
 -- The lines of a session: information, warnings, and faults.
 use Rattle.std.specs.Prelude.{ℕ, List, [], ◌∷◌, codes, nat_lt, if◌then◌else◌}
 use Rattle.byteorder.specs.Endian.{big_bytes}
-use Rattle.avr_desk.specs.Record.{Bytes}
-use Rattle.avr_desk.specs.Lines.{digits, spaced_digits, information, warning, error, memory_pieces}
-use Rattle.avr_desk.specs.OutputEvents.{OutputEvent, PrintsLine}
+use Rattle.avr_io.specs.Record.{Bytes}
+use Rattle.avr_io.specs.Lines.{digits, spaced_digits, information, warning, error, memory_pieces}
+use Rattle.avr_io.specs.OutputEvents.{OutputEvent, PrintsLine}
 use Rattle.avr_part.specs.Mem.{name_of}
 use Rattle.avr_part.specs.Part.{Part}
 use Rattle.avr_plan.specs.Lines.{read_only_pieces}

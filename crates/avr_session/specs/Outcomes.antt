@@ -1,6 +1,6 @@
 -- The outcome of a session, and the fault whose line was reported.
 use Rattle.std.specs.Prelude.{ℕ, Result, Ok, Err, ⊤}
-use Rattle.avr_desk.specs.Record.{DeskState}
+use Rattle.avr_io.specs.Record.{DeskState}
 use Rattle.avr_part.specs.Part.{Part}
 use Rattle.avr_plan.specs.Plan.{Plan}
 use Rattle.avr_session.specs.declared.ending.End.{End}

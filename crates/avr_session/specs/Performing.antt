@@ -1,12 +1,12 @@
 -- How an action of a session ends: for contracts inside this crate.
 use Rattle.std.specs.Prelude.{Bool, true, false, ◌≡◌, ◌≤◌, List, Result, Ok, Err, ⊤}
 use Rattle.std.specs.List.{list_any}
-use Rattle.avr_desk.specs.Fault.{CountsNeverFall}
+use Rattle.avr_io.specs.Fault.{CountsNeverFall}
 use Rattle.avr_plan.specs.Plan.{Plan}
 use Rattle.stk_host.specs.Dialog.{Dialog}
 use Rattle.stk_host.specs.Play.{Progress}
 use Rattle.stk_host.specs.State.{HostState}
-use Rattle.avr_desk.specs.OutputEvents.{OutputEvent}
+use Rattle.avr_io.specs.OutputEvents.{OutputEvent}
 use Rattle.avr_session.specs.Standing.{Standing, NoFault}
 use Rattle.avr_session.specs.Actions.{Action, action_allocates, actions, plan_allocates}
 use Rattle.avr_session.specs.Concluding.{HostIsUsable}

@@ -1,11 +1,11 @@
 -- The messages of faults of the settings.
 use Rattle.std.specs.Prelude.{ℕ, List, [], ◌∷◌, Some, None, codes, decimal}
-use Rattle.avr_desk.specs.Record.{Bytes}
+use Rattle.avr_io.specs.Record.{Bytes}
 use Rattle.avr_plan.specs.declared.settings.SettingsFault.{SettingsFault}
 use Rattle.avr_plan.specs.declared.settings.SettingsFault.TheVariants.{NoPart, BadProgrammer, BadPort, NoChip, TooMany, BadUpdate, StandardTaken, Memory}
 use Rattle.avr_plan.specs.declared.update.UpdateFault.{UpdateFault}
 use Rattle.avr_plan.specs.declared.update.UpdateFault.TheVariants as update
-use Rattle.avr_desk.specs.Lines.{error, memory_pieces}
+use Rattle.avr_io.specs.Lines.{error, memory_pieces}
 
 -- The fault of the update with this number.
 abbrev pub in_update_pieces : ℕ → Bytes → List Bytes

@@ -1,12 +1,12 @@
 -- How a report ends, whole or at a failure of the desk: for contracts inside this crate.
 use Rattle.std.specs.Prelude.{List, map, ◌≡◌, ◌++◌, [], Result, Ok, Err, ⊤}
-use Rattle.avr_desk.specs.Fault as desk
-use Rattle.avr_desk.specs.Fault.{CountsNeverFall, HasSameCounts}
-use Rattle.avr_desk.specs.Record.{DeskState, ChangesRecord, after_err, Bytes}
-use Rattle.avr_desk.specs.OutputEvents.{OutputEvent, ReportsFailureAs, after_events}
+use Rattle.avr_io.specs.Fault as desk
+use Rattle.avr_io.specs.Fault.{CountsNeverFall, HasSameCounts}
+use Rattle.avr_io.specs.Record.{DeskState, ChangesRecord, after_err, Bytes}
+use Rattle.avr_io.specs.OutputEvents.{OutputEvent, ReportsFailureAs, after_events}
 use Rattle.stk_host.specs.Dialog.{Emitted}
-use Rattle.avr_desk.specs.declared.desk.Desk.{Ghosts}
-use Rattle.avr_desk.specs.declared.desk.DeskFault.{DeskFault}
+use Rattle.avr_io.specs.declared.desk.Desk.{Ghosts}
+use Rattle.avr_io.specs.declared.desk.DeskFault.{DeskFault}
 use Rattle.ghosts.specs.Preserves.{Preserves}
 use Rattle.avr_session.specs.Runs.{Cause, FileFailed, PrintingFailed, cause_line, StopsAt}
 

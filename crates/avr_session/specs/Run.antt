@@ -1,12 +1,12 @@
 -- A run, from settings to status.
 use Rattle.std.specs.Prelude.{ℕ, ◌≡◌, ◌⊎◌, [], None, Err}
 use Rattle.avr_plan.specs.declared.settings.Settings.{Settings}
-use Rattle.avr_desk.specs.Record.{DeskState}
+use Rattle.avr_io.specs.Record.{DeskState}
 use Rattle.avr_plan.specs.Plan.{Plan}
 use Rattle.avr_plan.specs.Planning.{LacksPart, planned}
 use Rattle.avr_plan.specs.AllocationPoints.{AtAllocatingUpdate}
-use Rattle.avr_desk.specs.StageRuns.{RunsStage, StageCompleted}
-use Rattle.avr_desk.specs.Stage.{Produced}
+use Rattle.avr_io.specs.StageRuns.{RunsStage, StageCompleted}
+use Rattle.avr_io.specs.Stage.{Produced}
 use Rattle.avr_session.specs.Actions.{actions, plan_allocates}
 use Rattle.avr_session.specs.Runs.{Devices, devices, start, before_fault, BrokeOff}
 use Rattle.avr_session.specs.Session.{session}

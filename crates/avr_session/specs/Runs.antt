@@ -1,17 +1,17 @@
 -- The result of a call over a link and a desk: its dialog ran whole, or it broke off.
 use Rattle.std.specs.Prelude.{Bool, true, false, ◌||◌, List, [], ◌∷◌, ◌++◌, ◌≡◌, ◌<◌, ◌≤◌, ◌⊎◌, length, nat_eq, None, codes}
 use Rattle.std.specs.List.{list_any, starts_with}
-use Rattle.avr_desk.specs.Record.{DeskState, ChangesRecord, after_err, Bytes}
-use Rattle.avr_desk.specs.Fault as desk
-use Rattle.avr_desk.specs.Fault.{CountsNeverFall, HasSameCounts, HasFailedAt}
-use Rattle.avr_desk.specs.declared.stream.Stream.TheVariants.{File}
+use Rattle.avr_io.specs.Record.{DeskState, ChangesRecord, after_err, Bytes}
+use Rattle.avr_io.specs.Fault as desk
+use Rattle.avr_io.specs.Fault.{CountsNeverFall, HasSameCounts, HasFailedAt}
+use Rattle.avr_io.specs.declared.stream.Stream.TheVariants.{File}
 use Rattle.stk_host.specs.Transcript as link
 use Rattle.stk_host.specs.Transcript.{Transcript, LinkState, NoneTaken, Grows}
 use Rattle.stk_host.specs.Dialog.{Dialog, Event, Frame, Emitted, outputs}
 use Rattle.stk_host.specs.Play.{Progress, Plays, Breaks, played_over}
-use Rattle.avr_desk.specs.Lines.{error, memory_line, not_created_pieces, not_written_pieces}
+use Rattle.avr_io.specs.Lines.{error, memory_line, not_created_pieces, not_written_pieces}
 use Rattle.avr_session.specs.Lines.{unsent_pieces, unreceived_pieces}
-use Rattle.avr_desk.specs.OutputEvents.{OutputEvent, PrintsLine, CreatesFile, WritesFile, WritesOutput, IsPartOfEvent, IsBytePrefixOf, ReportsLineAs, after_events}
+use Rattle.avr_io.specs.OutputEvents.{OutputEvent, PrintsLine, CreatesFile, WritesFile, WritesOutput, IsPartOfEvent, IsBytePrefixOf, ReportsLineAs, after_events}
 
 -- The state of a link and a desk.
 pub record Devices : Type 0 where

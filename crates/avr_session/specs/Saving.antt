@@ -1,13 +1,13 @@
 -- Bytes written to a file or to standard output: for contracts inside this crate.
 use Rattle.std.specs.Prelude.{◌≡◌, Result, Ok, Err, OnErr, OnOk, ⊤}
-use Rattle.avr_desk.specs.Fault.{CountsFailure, HasSameCounts, IsCall}
-use Rattle.avr_desk.specs.Record.{DeskState, ChangesRecord, after_err, Bytes}
-use Rattle.avr_desk.specs.Stream.{SendsPart, after_sent}
-use Rattle.avr_desk.specs.declared.stream.Stream.{Stream}
+use Rattle.avr_io.specs.Fault.{CountsFailure, HasSameCounts, IsCall}
+use Rattle.avr_io.specs.Record.{DeskState, ChangesRecord, after_err, Bytes}
+use Rattle.avr_io.specs.Stream.{SendsPart, after_sent}
+use Rattle.avr_io.specs.declared.stream.Stream.{Stream}
 use Rattle.avr_session.specs.Runs.{Cause, FileFailed, NotWritten}
 use Rattle.avr_session.specs.Reporting.{DeskStops}
-use Rattle.avr_desk.specs.declared.desk.Desk.{Ghosts}
-use Rattle.avr_desk.specs.declared.desk.DeskFault.{DeskFault}
+use Rattle.avr_io.specs.declared.desk.Desk.{Ghosts}
+use Rattle.avr_io.specs.declared.desk.DeskFault.{DeskFault}
 
 -- All of the text was written to the stream; or a prefix of it was, and then a call failed.
 pub record SendsText {D : Type 0} (desk : Ghosts D) (stream : Stream) (text : Bytes) (old new : D)

@@ -1,13 +1,13 @@
 -- The session of a run as one dialog: the frames on the link, and the output events at the desk.
 use Rattle.std.specs.Prelude.{ℕ, Bool, false, List, [], ◌∷◌, ◌++◌, length, Option, Result, Ok, Err, ⊤, codes, decimal, if◌then◌else◌}
 use Rattle.std.specs.Str.{bytes_eq}
-use Rattle.avr_desk.specs.Record.{Bytes}
+use Rattle.avr_io.specs.Record.{Bytes}
 use Rattle.avr_plan.specs.declared.settings.Switches.{Switches}
 use Rattle.avr_plan.specs.declared.update.Format.{Format}
 use Rattle.avr_image.specs.Image.{byte_count}
-use Rattle.avr_desk.specs.Lines.{spaced_digits}
-use Rattle.avr_desk.specs.Named.{is_dash}
-use Rattle.avr_desk.specs.OutputEvents.{OutputEvent, PrintsLine, CreatesFile, WritesFile, WritesOutput}
+use Rattle.avr_io.specs.Lines.{spaced_digits}
+use Rattle.avr_io.specs.Named.{is_dash}
+use Rattle.avr_io.specs.OutputEvents.{OutputEvent, PrintsLine, CreatesFile, WritesFile, WritesOutput}
 use Rattle.avr_part.specs.Mem.{name_of}
 use Rattle.avr_part.specs.Part.{Part}
 use Rattle.avr_part.specs.declared.part.Mem.{Mem}

@@ -1,11 +1,11 @@
 -- What the contract of a run states if no device failed.
 use Rattle.std.specs.Prelude.{ℕ, ◌++◌, ◌≡◌}
 use Rattle.ghosts.specs.Failures.{NoFailureCounted}
-use Rattle.avr_desk.specs.Record.{Record, DeskState, showing, Bytes}
+use Rattle.avr_io.specs.Record.{Record, DeskState, showing, Bytes}
 use Rattle.stk_host.specs.Transcript.{Transcript, LinkState}
 use Rattle.stk_host.specs.Dialog.{Dialog}
 use Rattle.stk_host.specs.Play.{Progress}
-use Rattle.avr_desk.specs.OutputEvents.{OutputEvent}
+use Rattle.avr_io.specs.OutputEvents.{OutputEvent}
 use Rattle.avr_session.specs.Runs.{Devices, start, RanWhole}
 
 -- A desk with this record and these counts; below, a link with this transcript.

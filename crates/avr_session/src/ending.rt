@@ -3,7 +3,7 @@ ghost use Rattle.std.specs.Prelude.{◌≡◌};
 ghost use Rattle.avr_session.specs.Concluding.{conclusion};
 ghost use Rattle.avr_session.specs.Outcomes.{outcome_status, outcome_of};
 
-use avr_desk::DeskFault;
+use avr_io::DeskFault;
 use stk_host::HostFault;
 
 #[derive(Clone, Copy)]

@@ -3,8 +3,8 @@ ghost use Rattle.avr_session.specs.FileText.{file_text, trimmed};
 ghost use Rattle.avr_session.specs.Saving.{SendsText};
 
 use arrayvec::ArrayVec;
-use avr_desk::{Desk, DeskFault, Stream, write_all};
 use avr_image::{Base, ListWriter, Pieces};
+use avr_io::{Desk, DeskFault, Stream, write_all};
 use avr_plan::Format;
 use avr_records::{Kind, Run, Writer};
 

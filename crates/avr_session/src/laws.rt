@@ -1,5 +1,5 @@
 ghost use Rattle.std.specs.Prelude.{◌≡◌, ℕ, false};
-ghost use Rattle.avr_desk.specs.Record.{Record};
+ghost use Rattle.avr_io.specs.Record.{Record};
 ghost use Rattle.stk_host.specs.Transcript.{LinkState};
 ghost use Rattle.avr_plan.specs.Plan.{Plan};
 ghost use Rattle.avr_session.specs.Actions.{plan_allocates};

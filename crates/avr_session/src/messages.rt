@@ -1,12 +1,12 @@
 //! The messages of faults: those of the host, and those of the settings.
 ghost use Rattle.std.specs.Prelude.{◌≡◌};
-ghost use Rattle.avr_desk.specs.OutputEvents.{ReportsLine};
+ghost use Rattle.avr_io.specs.OutputEvents.{ReportsLine};
 ghost use Rattle.avr_part.specs.Part as part;
 ghost use Rattle.avr_session.specs.Lines.{fault_pieces, other_signature, unreceived_pieces, unsent_pieces};
 ghost use Rattle.avr_session.specs.Refusal.{in_update_pieces, refusal_line, refusal_pieces, unknown_pieces, update_pieces};
 ghost use Rattle.ghosts.specs.Preserves.{Preserves};
 
-use avr_desk::{Desk, Message, Piece, memory_message};
+use avr_io::{Desk, Message, Piece, memory_message};
 use avr_part::{Mem, Part};
 use avr_plan::{SettingsFault, UpdateFault, read_only_message};
 use stk_host::HostFault;
@@ -149,5 +149,5 @@ pub fn refuse<D: Desk>(fault: &SettingsFault, desk: &mut D) -> u8
     ensures notice { ReportsLine (D.view desk.old) (D.view desk.new) (refusal_line fault.now) }
     ensures stays { Preserves D.started_as desk.old desk.new }
 {
-    avr_desk::refuse(desk, &settings_message(fault))
+    avr_io::refuse(desk, &settings_message(fault))
 }

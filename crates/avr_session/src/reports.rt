@@ -1,14 +1,14 @@
 ghost use Rattle.std.specs.Prelude.{◌≡◌, ◌∷◌, [], map};
-ghost use Rattle.avr_desk.specs.Lines.{text_of};
-ghost use Rattle.avr_desk.specs.OutputEvents.{PrintsLine};
+ghost use Rattle.avr_io.specs.Lines.{text_of};
+ghost use Rattle.avr_io.specs.OutputEvents.{PrintsLine};
 ghost use Rattle.avr_image.specs.Image.{byte_count};
 ghost use Rattle.avr_session.specs.Lines.{informs, warns, fault_line};
 ghost use Rattle.avr_session.specs.Reporting.{Prints};
 ghost use Rattle.avr_session.specs.Session.{done_text, fault_line_or, bytes_output, signature_output, warns_of_signature, opening_output};
 
 use crate::messages::{fault_message, other_signature_message};
-use avr_desk::{Desk, DeskFault, Piece, print_error, print_information, print_warning};
 use avr_image::Image;
+use avr_io::{Desk, DeskFault, Piece, print_error, print_information, print_warning};
 use avr_part::{Mem, Part};
 use avr_plan::Plan;
 use stk_host::HostFault;

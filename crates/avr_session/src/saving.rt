@@ -1,5 +1,5 @@
 ghost use Rattle.std.specs.Prelude.{◌≡◌, ◌≤◌, ◌<◌, ◌^◌, length, Ok};
-ghost use Rattle.avr_desk.specs.Fault.{CountsNeverFall};
+ghost use Rattle.avr_io.specs.Fault.{CountsNeverFall};
 ghost use Rattle.avr_session.specs.FileText.{file_text};
 ghost use Rattle.avr_session.specs.Reporting.{Outputs, ReadStops};
 ghost use Rattle.avr_session.specs.Saving.{SaveStops, SendsText, WritesAll};
@@ -9,9 +9,7 @@ ghost use Rattle.ghosts.specs.Preserves.{Preserves};
 
 use crate::file_text::{trimmed, write_text};
 use crate::reports::{Done, report_bytes, report_fault};
-use avr_desk::{
-    Desk, DeskFault, Stream, is_dash, not_created_message, not_written_message, refuse,
-};
+use avr_io::{Desk, DeskFault, Stream, is_dash, not_created_message, not_written_message, refuse};
 use avr_part::Mem;
 use avr_plan::{Format, Plan};
 use stk_host::HostFault;

@@ -1,7 +1,7 @@
 //! A session: its actions, each an operation of the host and its report, and the run from its start to its end. If an
 //! action ends in a fault, the fault's line is the last one reported.
 ghost use Rattle.std.specs.Prelude.{◌≡◌, None, Err, ◌∷◌, ◌≤◌, [], length, All};
-ghost use Rattle.avr_desk.specs.Fault.{CountsNeverFall};
+ghost use Rattle.avr_io.specs.Fault.{CountsNeverFall};
 ghost use Rattle.avr_session.specs.Standing.{NoFault, Faulty};
 ghost use Rattle.avr_session.specs.Actions.{actions, OpenSession, WriteImage, CompareImage, SaveMemory, writes_flash, is_erase_due, erase_actions, write_actions, task_actions, tasks_actions};
 ghost use Rattle.avr_session.specs.Held.{Does, IsReady, RunsSessionPart};
@@ -17,8 +17,8 @@ ghost use Rattle.avr_plan.specs.Plan.{IsFitted};
 use crate::ending::{End, Outcome, conclude, outcome_of};
 use crate::reports::{Done, report_bytes, report_image, report_opening, report_step, warn};
 use crate::saving::{Target, report_read};
-use avr_desk::{Desk, Piece};
 use avr_image::Image;
+use avr_io::{Desk, Piece};
 use avr_part::Mem;
 use avr_plan::{Plan, Switches, Task};
 use std::alloc::Global;

@@ -1,22 +1,22 @@
 use Rattle.std.proofs.Common.{◌≡◌, refl, arith, ℕ, List, ◌∷◌, ◌==◌, length, Bool, true, false, nat_le, inl, inr, Result, Ok, Err, rules}
 use Rattle.std.proofs.lemmas.Bool.Decides.{nat_tests}
-use Rattle.avr_desk.specs.Fault.{HasSameCounts}
-use Rattle.avr_desk.specs.Files.{EndsOrExceedsLimit, with_read}
-use Rattle.avr_desk.specs.Record.{DeskState, ChangesRecord, Bytes}
-use Rattle.avr_desk.specs.declared.record.Opening.{Opening}
-use Rattle.avr_desk.specs.declared.record.Opening.TheVariants.{Found}
-use Rattle.avr_desk.specs.declared.record.Reading.{Reading}
-use Rattle.avr_desk.specs.Lines.{error, too_long_line}
-use Rattle.avr_desk.specs.OutputEvents.{OutputEvent, Opens, ReportsLine}
+use Rattle.avr_io.specs.Fault.{HasSameCounts}
+use Rattle.avr_io.specs.Files.{EndsOrExceedsLimit, with_read}
+use Rattle.avr_io.specs.Record.{DeskState, ChangesRecord, Bytes}
+use Rattle.avr_io.specs.declared.record.Opening.{Opening}
+use Rattle.avr_io.specs.declared.record.Opening.TheVariants.{Found}
+use Rattle.avr_io.specs.declared.record.Reading.{Reading}
+use Rattle.avr_io.specs.Lines.{error, too_long_line}
+use Rattle.avr_io.specs.OutputEvents.{OutputEvent, Opens, ReportsLine}
 use Rattle.avr_part.specs.ChipFile.{chip_file_size, chip_from_file, state_from_file}
 use Rattle.avr_part.specs.Part.{Part}
 use Rattle.avr_part.specs.PartFile.{GivesPartUnlessOutOfMemory}
 use Rattle.avr_part.specs.State.{ChipState, fresh_state}
 use Rattle.avr_part.specs.declared.fault.PartFault.TheVariants.{BadChipFile}
-use Rattle.avr_desk.proofs.Stages.Openings.{runs_open, runs_content}
-use Rattle.avr_desk.proofs.Stages.Played.{completed_good_result, runs_bad_result}
-use Rattle.avr_desk.specs.StageRuns.{OnlyAtStart, RunsStage, StageCompleted}
-use Rattle.avr_desk.specs.Stage.{Produced, result_stage}
+use Rattle.avr_io.proofs.Stages.Openings.{runs_open, runs_content}
+use Rattle.avr_io.proofs.Stages.Played.{completed_good_result, runs_bad_result}
+use Rattle.avr_io.specs.StageRuns.{OnlyAtStart, RunsStage, StageCompleted}
+use Rattle.avr_io.specs.Stage.{Produced, result_stage}
 use Rattle.avr_tool.specs.declared.chip_files.TheConstants.{LARGEST_CHIP_FILE}
 use Rattle.avr_tool.specs.Lines.{length_pieces}
 use Rattle.avr_tool.specs.Loading.{AtOpened, chip_or_line, checked_chip, chip_given, chip_stage}

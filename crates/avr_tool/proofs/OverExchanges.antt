@@ -1,6 +1,6 @@
 -- A session that went along exchanges: `OverExchanges` and `EndsOverExchanges` hold of it.
 use Rattle.std.proofs.Common.{◌≡◌, ℕ, List, All, length, ap, ◌∙◌, subst, rules}
-use Rattle.avr_desk.specs.OutputEvents.{OutputEvent}
+use Rattle.avr_io.specs.OutputEvents.{OutputEvent}
 use Rattle.avr_part.specs.Part.{IsPart}
 use Rattle.avr_part.specs.Sound.{IsSoundChip}
 use Rattle.avr_plan.specs.Plan.{Plan, IsFitted}

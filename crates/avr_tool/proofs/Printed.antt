@@ -4,14 +4,14 @@ use Rattle.std.proofs.Common.{◌≡◌, ◌∙◌, ◌<◌, ◌≤◌, ◌+◌,
 use Rattle.std.specs.List.{concat}
 use Rattle.std.proofs.lemmas.List.{append_assoc, append-nil, take-append-drop}
 use Rattle.std.proofs.lemmas.List.Folds.{concat-append}
-use Rattle.avr_desk.specs.Fault.{CountsFailure, CountsNeverFall, HasFailedAt, HasSameCounts}
-use Rattle.avr_desk.specs.Record.{Bytes, DeskState, ChangesRecord}
-use Rattle.avr_desk.specs.Stream.{SendsPart, after_sent}
-use Rattle.avr_desk.specs.declared.desk.DeskFault.{DeskFault}
-use Rattle.avr_desk.specs.declared.desk.DeskFault.TheVariants.{Failed}
-use Rattle.avr_desk.specs.declared.stream.Stream.{Stream}
-use Rattle.avr_desk.specs.declared.stream.Stream.TheVariants.{Messages}
-use Rattle.avr_desk.proofs.Lines.SentBytes.{sent_next}
+use Rattle.avr_io.specs.Fault.{CountsFailure, CountsNeverFall, HasFailedAt, HasSameCounts}
+use Rattle.avr_io.specs.Record.{Bytes, DeskState, ChangesRecord}
+use Rattle.avr_io.specs.Stream.{SendsPart, after_sent}
+use Rattle.avr_io.specs.declared.desk.DeskFault.{DeskFault}
+use Rattle.avr_io.specs.declared.desk.DeskFault.TheVariants.{Failed}
+use Rattle.avr_io.specs.declared.stream.Stream.{Stream}
+use Rattle.avr_io.specs.declared.stream.Stream.TheVariants.{Messages}
+use Rattle.avr_io.proofs.Lines.SentBytes.{sent_next}
 use Rattle.avr_tool.specs.Texts.{HasParts, Parts, PrintsText, ReportsText}
 
 -- After some rounds of the loop `count` bytes of the text were printed

@@ -1,17 +1,17 @@
 -- The last use of a file is the open file again: what a call of the inner desk does to the record that is shown.
 use Rattle.std.proofs.Common.{◌≡◌, ◌≤◌, ℕ, Bool, true, List, [], ◌∷◌, ◌++◌, append-nil, take, length, Result, Ok, Err, OnOk, ◌&&◌, not, false, None, ap, refl, arith, rules}
 use Rattle.std.specs.Prelude.{⊤}
-use Rattle.avr_desk.specs.Record.{Record, DeskState, Bytes, ChangesRecord, all_uses, use_of, noted, written_on, is_to_read, is_to_write, after_open, after_create, after_read, after_write, with_replaced, with_tried}
-use Rattle.avr_desk.specs.declared.desk.DeskFault.{DeskFault}
-use Rattle.avr_desk.specs.declared.desk.DeskFault.TheVariants.{NotFound, Failed}
-use Rattle.avr_desk.specs.declared.record.FileUse.{FileUse}
-use Rattle.avr_desk.specs.declared.record.FileUse.TheVariants.{Opened}
-use Rattle.avr_desk.specs.declared.record.Open.{Open}
-use Rattle.avr_desk.specs.declared.record.Open.TheVariants.{ToWrite}
-use Rattle.avr_desk.specs.declared.record.Opening.TheVariants.{Absent}
+use Rattle.avr_io.specs.Record.{Record, DeskState, Bytes, ChangesRecord, all_uses, use_of, noted, written_on, is_to_read, is_to_write, after_open, after_create, after_read, after_write, with_replaced, with_tried}
+use Rattle.avr_io.specs.declared.desk.DeskFault.{DeskFault}
+use Rattle.avr_io.specs.declared.desk.DeskFault.TheVariants.{NotFound, Failed}
+use Rattle.avr_io.specs.declared.record.FileUse.{FileUse}
+use Rattle.avr_io.specs.declared.record.FileUse.TheVariants.{Opened}
+use Rattle.avr_io.specs.declared.record.Open.{Open}
+use Rattle.avr_io.specs.declared.record.Open.TheVariants.{ToWrite}
+use Rattle.avr_io.specs.declared.record.Opening.TheVariants.{Absent}
 use Rattle.avr_tool.specs.Noted.{Noted}
-use Rattle.avr_desk.specs.Stream.{SendsPart, SendsTaken}
-use Rattle.avr_desk.specs.declared.stream.Stream.TheVariants.{File}
+use Rattle.avr_io.specs.Stream.{SendsPart, SendsTaken}
+use Rattle.avr_io.specs.declared.stream.Stream.TheVariants.{File}
 use Rattle.avr_tool.specs.Unlocked.{reopened, open_after, record_shown, uses_shown, with_written, UnlockedState, unlocked}
 
 -- only the last use can have left a file open

@@ -1,14 +1,14 @@
 -- A fresh emulator that served, from settings to status.
 use Rattle.std.proofs.Common.{◌≡◌, ℕ, false, List, [], ap₂, Result}
 use Rattle.avr_plan.specs.declared.settings.Settings.{Settings}
-use Rattle.avr_desk.specs.Record.{DeskState, Bytes}
+use Rattle.avr_io.specs.Record.{DeskState, Bytes}
 use Rattle.avr_part.specs.Part.{Part}
 use Rattle.avr_part.specs.State as chips
 use Rattle.avr_plan.specs.Planning.{parts_stage, part_stage}
-use Rattle.avr_desk.specs.StageRuns.{OnlyAtStart, RunsStage, StageCompleted}
-use Rattle.avr_desk.specs.Stage.{Produced}
-use Rattle.avr_desk.proofs.Stages.Files.{never_allocates}
-use Rattle.avr_desk.proofs.Stages.Played.{runs_then}
+use Rattle.avr_io.specs.StageRuns.{OnlyAtStart, RunsStage, StageCompleted}
+use Rattle.avr_io.specs.Stage.{Produced}
+use Rattle.avr_io.proofs.Stages.Files.{never_allocates}
+use Rattle.avr_io.proofs.Stages.Played.{runs_then}
 use Rattle.stk_emu.specs.Programmer.{fresh_programmer}
 use Rattle.stk_emu.specs.Emulator.{EmulatorState}
 use Rattle.avr_tool.specs.ServedRun.{settings_part}

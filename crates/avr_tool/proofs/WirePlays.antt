@@ -1,10 +1,10 @@
 -- A session that ran over a wire went along the exchanges of its fates.
 use Rattle.std.proofs.Common.{◌≡◌, ℕ, [], List, All, length, sym, ap, ◌∙◌, inl, inr, rules}
 use Rattle.std.proofs.lemmas.List.{append-nil}
-use Rattle.avr_desk.specs.OutputEvents.{IsPartOfEvent, after_events}
+use Rattle.avr_io.specs.OutputEvents.{IsPartOfEvent, after_events}
 use Rattle.avr_part.specs.Sound.{IsSoundChip}
 use Rattle.avr_plan.specs.Plan.{Plan, IsFitted}
-use Rattle.avr_desk.specs.Record.{DeskState, ChangesRecord}
+use Rattle.avr_io.specs.Record.{DeskState, ChangesRecord}
 use Rattle.stk_frame.specs.Cut.{frames}
 use Rattle.stk_host.specs.Dialog.{Done, bytes_sent, played, outputs}
 use Rattle.stk_host.specs.Play.{InTurn, IsBytePrefixOf, Plays}

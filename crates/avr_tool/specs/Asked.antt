@@ -6,8 +6,8 @@ use Rattle.avr_plan.specs.Command.{avrstk, settings_from_arguments}
 use Rattle.avr_plan.specs.Settings.{GivesUnlessOutOfMemory, ReportsAnyway}
 use Rattle.avr_plan.specs.declared.settings.Settings.{Settings}
 use Rattle.avr_plan.specs.declared.settings.SettingsFault.{SettingsFault}
-use Rattle.avr_desk.specs.Record.{DeskState, Bytes}
-use Rattle.avr_desk.specs.OutputEvents.{ReportsLine}
+use Rattle.avr_io.specs.Record.{DeskState, Bytes}
+use Rattle.avr_io.specs.OutputEvents.{ReportsLine}
 use Rattle.avr_session.specs.Refusal.{refusal_line}
 use Rattle.avr_tool.specs.declared.command_line.NotAsked.{NotAsked}
 use Rattle.avr_tool.specs.declared.command_line.NotAsked.TheVariants.{Words, Refused}

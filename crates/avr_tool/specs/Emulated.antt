@@ -7,17 +7,17 @@ use Rattle.avr_tool.specs.Saving.{SavesAfterRun}
 use Rattle.avr_plan.specs.declared.settings.Settings.{Settings}
 use Rattle.avr_plan.specs.declared.planned.Task.{Task}
 use Rattle.avr_plan.specs.declared.planned.Task.TheVariants.{Read}
-use Rattle.avr_desk.specs.Fault.{CountsNeverFall}
-use Rattle.avr_desk.specs.Lines.{error, not_created_pieces}
-use Rattle.avr_desk.specs.OutputEvents.{ReportsFailureAs, ReportsLine}
-use Rattle.avr_desk.specs.Record.{DeskState, Bytes, released, with_none_held}
+use Rattle.avr_io.specs.Fault.{CountsNeverFall}
+use Rattle.avr_io.specs.Lines.{error, not_created_pieces}
+use Rattle.avr_io.specs.OutputEvents.{ReportsFailureAs, ReportsLine}
+use Rattle.avr_io.specs.Record.{DeskState, Bytes, released, with_none_held}
 use Rattle.avr_part.specs.ChipFile.{chip_file}
 use Rattle.avr_part.specs.Sound.{IsSoundChip}
 use Rattle.avr_part.specs.State.{ChipState as Chip}
 use Rattle.avr_plan.specs.Plan.{Plan, IsFitted}
 use Rattle.avr_plan.specs.Planning.{planned}
-use Rattle.avr_desk.specs.StageRuns.{StageCompleted}
-use Rattle.avr_desk.specs.Stage.{Produced}
+use Rattle.avr_io.specs.StageRuns.{StageCompleted}
+use Rattle.avr_io.specs.Stage.{Produced}
 use Rattle.ghosts.specs.Preserves.{Preserves}
 use Rattle.stk_host.specs.Transcript.{sent}
 use Rattle.stk_emu.specs.Programmer.{fresh_programmer}

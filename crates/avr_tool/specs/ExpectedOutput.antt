@@ -2,7 +2,7 @@
 -- then the line of a failed step.
 use Rattle.std.specs.Prelude.{◌≡◌, ◌⊎◌, List, [], ◌∷◌, ◌++◌}
 use Rattle.avr_plan.specs.declared.settings.Switches.{Switches}
-use Rattle.avr_desk.specs.OutputEvents.{OutputEvent, PrintsLine}
+use Rattle.avr_io.specs.OutputEvents.{OutputEvent, PrintsLine}
 use Rattle.avr_part.specs.Part.{Part}
 use Rattle.avr_plan.specs.Plan.{Plan}
 use Rattle.stk_host.specs.Operations.{host_fault}

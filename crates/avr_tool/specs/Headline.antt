@@ -4,17 +4,17 @@
 -- line) and specs/Emulated (over a chip file). docs/PROOFS.md lists what is not proved.
 use Rattle.std.specs.Prelude.{ℕ, ◌≡◌, ◌≤◌, ◌⊎◌, List, [], ◌∷◌, ◌++◌, map, length, Some, None}
 use Rattle.avr_plan.specs.declared.settings.Settings.{Settings}
-use Rattle.avr_desk.specs.Record.{DeskState, ChangesRecord, Bytes, after_err}
-use Rattle.avr_desk.specs.declared.record.Opening.{Opening}
-use Rattle.avr_desk.specs.declared.record.Opening.TheVariants.{Found}
-use Rattle.avr_desk.specs.Lines.{memory_line, not_opened_line, not_read_line}
-use Rattle.avr_desk.specs.StageRuns.{AllocatesThere, BreakCause, BreakFitsNext, LineNotPrinted, NotOpened, NotRead, NoMemoryForFile, opened_and_read_in_part}
-use Rattle.avr_desk.specs.OutputEvents.{OutputEvent, Opens, PrintsLine, IsPartOfEvent, IsBytePrefixOf, after_events}
+use Rattle.avr_io.specs.Record.{DeskState, ChangesRecord, Bytes, after_err}
+use Rattle.avr_io.specs.declared.record.Opening.{Opening}
+use Rattle.avr_io.specs.declared.record.Opening.TheVariants.{Found}
+use Rattle.avr_io.specs.Lines.{memory_line, not_opened_line, not_read_line}
+use Rattle.avr_io.specs.StageRuns.{AllocatesThere, BreakCause, BreakFitsNext, LineNotPrinted, NotOpened, NotRead, NoMemoryForFile, opened_and_read_in_part}
+use Rattle.avr_io.specs.OutputEvents.{OutputEvent, Opens, PrintsLine, IsPartOfEvent, IsBytePrefixOf, after_events}
 use Rattle.avr_plan.specs.Plan.{Plan}
 use Rattle.avr_plan.specs.Planning.{LacksPart, planned}
 use Rattle.avr_plan.specs.AllocationPoints.{AtAllocatingUpdate}
-use Rattle.avr_desk.specs.StageRuns.{StageBrokeOff}
-use Rattle.avr_desk.specs.Stage.{StageOutcome, Produced, Refused, NotReadToEnd}
+use Rattle.avr_io.specs.StageRuns.{StageBrokeOff}
+use Rattle.avr_io.specs.Stage.{StageOutcome, Produced, Refused, NotReadToEnd}
 use Rattle.avr_session.specs.Run.{LacksPlan, RunsSession, StopsSession, WithPlan}
 use Rattle.avr_session.specs.Actions.{actions}
 use Rattle.avr_session.specs.AllocationPoints.{AtAllocation}

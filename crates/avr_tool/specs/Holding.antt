@@ -1,10 +1,10 @@
 -- A chip file that one run locks before it loads the chip.
 use Rattle.std.specs.Prelude.{◌≡◌, ◌⊎◌, ℕ, Result, Ok, Err, ⊤}
-use Rattle.avr_desk.specs.Fault.{HasSameCounts}
-use Rattle.avr_desk.specs.Record.{DeskState, Record, ChangesRecord, Bytes, after_err, released, with_denied, with_held}
-use Rattle.avr_desk.specs.Lines.{error, not_written_line}
-use Rattle.avr_desk.specs.StageRuns.{RunsStage}
-use Rattle.avr_desk.specs.OutputEvents.{ReportsLineAs, ReportsFailureAs}
+use Rattle.avr_io.specs.Fault.{HasSameCounts}
+use Rattle.avr_io.specs.Record.{DeskState, Record, ChangesRecord, Bytes, after_err, released, with_denied, with_held}
+use Rattle.avr_io.specs.Lines.{error, not_written_line}
+use Rattle.avr_io.specs.StageRuns.{RunsStage}
+use Rattle.avr_io.specs.OutputEvents.{ReportsLineAs, ReportsFailureAs}
 use Rattle.avr_part.specs.Part.{Part}
 use Rattle.avr_part.specs.State.{ChipState as Chip}
 use Rattle.avr_tool.specs.Lines.{in_use_pieces}

@@ -1,11 +1,11 @@
 -- of the crates below, the definitions that contracts of public calls cite
 pub use Rattle.avr_session.specs.PlanSteps
-pub use Rattle.avr_desk.specs.Fault
+pub use Rattle.avr_io.specs.Fault
 pub use Rattle.avr_desk.specs.Memory
-pub use Rattle.avr_desk.specs.Named
-pub use Rattle.avr_desk.specs.StageRuns
-pub use Rattle.avr_desk.specs.Record
-pub use Rattle.avr_desk.specs.OutputEvents
+pub use Rattle.avr_io.specs.Named
+pub use Rattle.avr_io.specs.StageRuns
+pub use Rattle.avr_io.specs.Record
+pub use Rattle.avr_io.specs.OutputEvents
 pub use Rattle.avr_desk.specs.Shown
 pub use Rattle.avr_desk.specs.Truth
 pub use Rattle.avr_part.specs.ChipFile

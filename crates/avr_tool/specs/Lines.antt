@@ -1,7 +1,7 @@
 -- The messages about a port that cannot be opened, and about a chip file that is in use or has the wrong length. Those
--- about any file are in avr_desk.
+-- about any file are in avr_io.
 use Rattle.std.specs.Prelude.{ℕ, List, [], ◌∷◌, codes, decimal}
-use Rattle.avr_desk.specs.Record.{Bytes}
+use Rattle.avr_io.specs.Record.{Bytes}
 
 -- The port as it was given: `net:` and a name for `-P`, nothing and a name for `--serve`.
 abbrev pub unopened_pieces : Bytes → Bytes → List Bytes

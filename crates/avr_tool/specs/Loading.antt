@@ -1,15 +1,15 @@
 -- The chip loaded, as a function of what opening its file gives.
 use Rattle.std.specs.Prelude.{◌≡◌, ◌==◌, nat_le, [], ◌∷◌, length, Result, Ok, Err, if◌then◌else◌}
-use Rattle.avr_desk.specs.Record.{Bytes}
-use Rattle.avr_desk.specs.declared.record.Opening.{Opening}
-use Rattle.avr_desk.specs.declared.record.Opening.TheVariants.{Absent, Found}
-use Rattle.avr_desk.specs.Lines.{error, too_long_line}
+use Rattle.avr_io.specs.Record.{Bytes}
+use Rattle.avr_io.specs.declared.record.Opening.{Opening}
+use Rattle.avr_io.specs.declared.record.Opening.TheVariants.{Absent, Found}
+use Rattle.avr_io.specs.Lines.{error, too_long_line}
 use Rattle.avr_part.specs.ChipFile.{chip_file_size, state_from_file}
 use Rattle.avr_part.specs.Part.{Part}
 use Rattle.avr_part.specs.State.{ChipState, fresh_state}
-use Rattle.avr_desk.specs.StageRuns.{AllocationPoints}
-use Rattle.avr_desk.specs.OutputEvents.{Opens}
-use Rattle.avr_desk.specs.Stage.{Stage, ◌>>=◌, result_stage, open_stage, content_stage}
+use Rattle.avr_io.specs.StageRuns.{AllocationPoints}
+use Rattle.avr_io.specs.OutputEvents.{Opens}
+use Rattle.avr_io.specs.Stage.{Stage, ◌>>=◌, result_stage, open_stage, content_stage}
 use Rattle.avr_tool.specs.declared.chip_files.TheConstants.{LARGEST_CHIP_FILE}
 use Rattle.avr_tool.specs.Lines.{length_pieces}
 

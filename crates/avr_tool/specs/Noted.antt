@@ -1,7 +1,7 @@
 -- What a desk of six calls can't record.
 use Rattle.std.specs.Prelude.{ℕ, List, [], Option, None}
-use Rattle.avr_desk.specs.Record.{Bytes}
-use Rattle.avr_desk.specs.declared.record.Writing.{Writing}
+use Rattle.avr_io.specs.Record.{Bytes}
+use Rattle.avr_io.specs.declared.record.Writing.{Writing}
 
 -- The held file, the replacements that created their file, also failed ones, and how many releases were asked for.
 pub record Noted : Type 0 where

@@ -1,6 +1,6 @@
 -- What a run leaves in a chip, whatever the link did.
 use Rattle.std.specs.Prelude.{ℕ, suc, ◌≡◌, ◌≤◌, ◌-◌, List, take}
-use Rattle.avr_desk.specs.OutputEvents.{OutputEvent}
+use Rattle.avr_io.specs.OutputEvents.{OutputEvent}
 use Rattle.avr_plan.specs.Plan.{Plan}
 use Rattle.stk_emu.specs.Exchange.{Exchange}
 use Rattle.stk_emu.specs.Effect.{Item, Memories, effects}

@@ -3,8 +3,8 @@
 use Rattle.std.specs.List.{AllByRecursion}
 use Rattle.std.specs.Prelude.{ℕ, ◌*◌, ◌≡◌, ◌≤◌, ◌⊎◌, false, List, map, flat_map, sum_by, length}
 use Rattle.avr_plan.specs.declared.settings.Switches.{Switches}
-use Rattle.avr_desk.specs.Record.{DeskState, ChangesRecord}
-use Rattle.avr_desk.specs.OutputEvents.{OutputEvent, after_events}
+use Rattle.avr_io.specs.Record.{DeskState, ChangesRecord}
+use Rattle.avr_io.specs.OutputEvents.{OutputEvent, after_events}
 use Rattle.avr_part.specs.declared.part.Mem.{Mem}
 use Rattle.avr_plan.specs.Plan.{Plan}
 use Rattle.avr_session.specs.PlanSteps.{run_steps}

@@ -1,12 +1,12 @@
 -- A run over a port of the network, from settings to status.
 use Rattle.std.specs.Prelude.{ℕ, ◌≡◌, ◌⊎◌, [], Option, Some, None, codes}
 use Rattle.avr_plan.specs.declared.settings.Settings.{Settings}
-use Rattle.avr_desk.specs.Record.{DeskState, Bytes}
-use Rattle.avr_desk.specs.OutputEvents.{ReportsLine}
+use Rattle.avr_io.specs.Record.{DeskState, Bytes}
+use Rattle.avr_io.specs.OutputEvents.{ReportsLine}
 use Rattle.avr_session.specs.Run.{LacksPlan, RunsSession, WithPlan}
 use Rattle.avr_session.specs.Runs.{devices}
 use Rattle.stk_host.specs.Transcript.{LinkState}
-use Rattle.avr_desk.specs.Lines.{error}
+use Rattle.avr_io.specs.Lines.{error}
 use Rattle.avr_tool.specs.Lines.{unopened_pieces}
 
 -- The state of a link over which nothing has passed.

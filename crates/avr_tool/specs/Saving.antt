@@ -1,9 +1,9 @@
 -- Saving a chip file: it is replaced whole, or that failed.
 use Rattle.std.specs.Prelude.{◌≡◌, ◌⊎◌, ℕ, Result, Ok, Err, ⊤}
-use Rattle.avr_desk.specs.Fault.{HasSameCounts}
-use Rattle.avr_desk.specs.Record.{DeskState, ChangesRecord, Bytes, with_none_held, with_replaced, with_tried}
-use Rattle.avr_desk.specs.Lines.{memory_line, not_written_line}
-use Rattle.avr_desk.specs.OutputEvents.{ReportsLineAs, ReportsFailureAs}
+use Rattle.avr_io.specs.Fault.{HasSameCounts}
+use Rattle.avr_io.specs.Record.{DeskState, ChangesRecord, Bytes, with_none_held, with_replaced, with_tried}
+use Rattle.avr_io.specs.Lines.{memory_line, not_written_line}
+use Rattle.avr_io.specs.OutputEvents.{ReportsLineAs, ReportsFailureAs}
 use Rattle.avr_tool.specs.Holding.{FailsWith}
 
 -- The file was replaced by these bytes and no call of the desk failed. Or the file was unlocked, this was reported, and

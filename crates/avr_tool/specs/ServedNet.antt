@@ -1,13 +1,13 @@
 -- Serving an emulated programmer to a client at a port of this machine, from settings to status.
 use Rattle.std.specs.Prelude.{ℕ, ◌≡◌, ◌⊎◌, [], Option, Some, None, Ok, Err}
 use Rattle.avr_plan.specs.declared.settings.Settings.{Settings}
-use Rattle.avr_desk.specs.Record.{DeskState, Bytes}
-use Rattle.avr_desk.specs.OutputEvents.{ReportsLine}
+use Rattle.avr_io.specs.Record.{DeskState, Bytes}
+use Rattle.avr_io.specs.OutputEvents.{ReportsLine}
 use Rattle.avr_tool.specs.ServedRun.{ChecksPart, ServesPart}
 use Rattle.avr_tool.specs.declared.served_run.TheConstants.{READS}
 use Rattle.avr_part.specs.Part.{Part}
 use Rattle.avr_session.specs.Runs.{devices}
-use Rattle.avr_desk.specs.Lines.{error}
+use Rattle.avr_io.specs.Lines.{error}
 use Rattle.avr_tool.specs.Lines.{unopened_pieces}
 use Rattle.avr_tool.specs.OverNet.{new_link}
 use Rattle.stk_host.specs.Transcript.{LinkState}

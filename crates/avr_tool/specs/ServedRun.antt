@@ -3,16 +3,16 @@ use Rattle.std.specs.Prelude.{◌≡◌, ◌⊎◌, ℕ, false, List, [], ◌∷
 use Rattle.avr_tool.specs.Holding.{LocksAndLoads, WithChip}
 use Rattle.avr_tool.specs.Saving.{SavesAfterRun}
 use Rattle.avr_plan.specs.declared.settings.Settings.{Settings}
-use Rattle.avr_desk.specs.Fault.{CountsNeverFall}
-use Rattle.avr_desk.specs.Record.{DeskState, Bytes, released}
-use Rattle.avr_desk.specs.Lines.{error}
-use Rattle.avr_desk.specs.OutputEvents.{ReportsLine}
+use Rattle.avr_io.specs.Fault.{CountsNeverFall}
+use Rattle.avr_io.specs.Record.{DeskState, Bytes, released}
+use Rattle.avr_io.specs.Lines.{error}
+use Rattle.avr_io.specs.OutputEvents.{ReportsLine}
 use Rattle.avr_part.specs.ChipFile.{chip_file}
 use Rattle.avr_part.specs.Part.{Part}
 use Rattle.avr_part.specs.State as chips
 use Rattle.avr_plan.specs.Planning.{LacksPart, parts_stage, part_stage}
-use Rattle.avr_desk.specs.StageRuns.{OnlyAtStart, RunsStage, StageCompleted}
-use Rattle.avr_desk.specs.Stage.{Stage, Produced, ◌>>=◌}
+use Rattle.avr_io.specs.StageRuns.{OnlyAtStart, RunsStage, StageCompleted}
+use Rattle.avr_io.specs.Stage.{Stage, Produced, ◌>>=◌}
 use Rattle.avr_session.specs.Lines.{unreceived_pieces, unsent_pieces}
 use Rattle.avr_session.specs.Runs.{Devices, devices}
 use Rattle.stk_emu.specs.Programmer.{fresh_programmer}

@@ -2,7 +2,7 @@
 use Rattle.std.specs.Prelude.{ℕ, ◌≡◌, ◌⊎◌, [], Option, Some, None, MatchOption}
 use Rattle.std.specs.declared.io.Read.{Ghosts as Reads}
 use Rattle.std.specs.declared.io.Write.{Ghosts as Writes}
-use Rattle.avr_desk.specs.Record.{Bytes}
+use Rattle.avr_io.specs.Record.{Bytes}
 use Rattle.avr_tool.specs.declared.network.Callers.{Ghosts as Called}
 use Rattle.avr_tool.specs.declared.network.Network.{Ghosts as Networks}
 use Rattle.stk_host.specs.Links.{TranscriptIsTrueSince, StreamState, stream_state}

@@ -1,12 +1,12 @@
 -- Texts of `clap` and of the system, printed at a desk part by part. No clause states which text a value has.
 use Rattle.std.specs.Prelude.{◌≡◌, ◌⊎◌, ◌<◌, ◌+◌, ◌^◌, ℕ, ⊤, List, Result, Ok, Err, [], ◌∷◌, ◌++◌, codes, length}
 use Rattle.std.specs.List.{concat}
-use Rattle.avr_desk.specs.Fault.{CountsNeverFall, HasFailedAt, HasFailedToReport, HasSameCounts}
-use Rattle.avr_desk.specs.Record.{DeskState, Bytes, ChangesRecord, after_err}
-use Rattle.avr_desk.specs.OutputEvents.{IsBytePrefixOf}
-use Rattle.avr_desk.specs.Stream.{after_sent}
-use Rattle.avr_desk.specs.declared.desk.DeskFault.{DeskFault}
-use Rattle.avr_desk.specs.declared.stream.Stream.{Stream}
+use Rattle.avr_io.specs.Fault.{CountsNeverFall, HasFailedAt, HasFailedToReport, HasSameCounts}
+use Rattle.avr_io.specs.Record.{DeskState, Bytes, ChangesRecord, after_err}
+use Rattle.avr_io.specs.OutputEvents.{IsBytePrefixOf}
+use Rattle.avr_io.specs.Stream.{after_sent}
+use Rattle.avr_io.specs.declared.desk.DeskFault.{DeskFault}
+use Rattle.avr_io.specs.declared.stream.Stream.{Stream}
 
 -- Where a part of a text begins, and its bytes. The part after the text's end is empty.
 abbrev pub Parts : Type 1

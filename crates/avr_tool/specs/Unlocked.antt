@@ -1,14 +1,14 @@
 -- A desk of six calls in place of one that locks files and replaces them whole.
 use Rattle.std.specs.Prelude.{◌≡◌, ◌⊎◌, ◌≤◌, ◌+◌, ℕ, Bool, true, false, List, [], ◌∷◌, take, length, Result, Ok, Err, ⊤, if◌then◌else◌}
 use Rattle.ghosts.specs.Failures.{counted}
-use Rattle.avr_desk.specs.Record.{DeskState, Record, Bytes, ChangesRecord, showing, all_uses, after_create, after_write}
-use Rattle.avr_desk.specs.declared.desk.DeskFault.{DeskFault}
-use Rattle.avr_desk.specs.declared.desk.DeskFault.TheVariants.{NotFound, Failed}
-use Rattle.avr_desk.specs.declared.record.FileUse.{FileUse}
-use Rattle.avr_desk.specs.declared.record.FileUse.TheVariants.{Opened, Created}
-use Rattle.avr_desk.specs.declared.record.Open.{Open}
-use Rattle.avr_desk.specs.declared.record.Open.TheVariants.{Closed, ToRead, ToWrite}
-use Rattle.avr_desk.specs.declared.record.Opening.TheVariants.{Found}
+use Rattle.avr_io.specs.Record.{DeskState, Record, Bytes, ChangesRecord, showing, all_uses, after_create, after_write}
+use Rattle.avr_io.specs.declared.desk.DeskFault.{DeskFault}
+use Rattle.avr_io.specs.declared.desk.DeskFault.TheVariants.{NotFound, Failed}
+use Rattle.avr_io.specs.declared.record.FileUse.{FileUse}
+use Rattle.avr_io.specs.declared.record.FileUse.TheVariants.{Opened, Created}
+use Rattle.avr_io.specs.declared.record.Open.{Open}
+use Rattle.avr_io.specs.declared.record.Open.TheVariants.{Closed, ToRead, ToWrite}
+use Rattle.avr_io.specs.declared.record.Opening.TheVariants.{Found}
 use Rattle.avr_tool.specs.Noted.{Noted}
 
 -- `is_open`: the last use of a file is the open file; otherwise none is open. `is_broken`: a replacement failed, and the

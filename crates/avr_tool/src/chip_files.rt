@@ -1,17 +1,17 @@
 //! The chip file of a run: it is held, loaded and saved.
 ghost use Rattle.std.specs.Prelude.{◌≡◌, IfOk, ◌≤◌, true, Ok, length};
-ghost use Rattle.avr_desk.specs.Fault.{CountsNeverFall};
+ghost use Rattle.avr_io.specs.Fault.{CountsNeverFall};
 ghost use Rattle.avr_tool.specs.Holding.{LocksAndLoads};
 ghost use Rattle.ghosts.specs.Preserves.{Preserves};
 ghost use Rattle.avr_part.specs.State.{fresh_state};
-ghost use Rattle.avr_desk.specs.StageRuns.{OnlyAtStart, RunsStage};
-ghost use Rattle.avr_desk.specs.Stage.{result_stage};
+ghost use Rattle.avr_io.specs.StageRuns.{OnlyAtStart, RunsStage};
+ghost use Rattle.avr_io.specs.Stage.{result_stage};
 ghost use Rattle.avr_tool.specs.Loading.{AtOpened, chip_or_line, chip_stage};
 ghost use Rattle.avr_part.specs.ChipFile.{chip_file};
 ghost use Rattle.avr_tool.specs.Saving.{SavesChip, SavesAfterRun};
 
 use crate::messages::{in_use_message, length_message};
-use avr_desk::{
+use avr_io::{
     ChipDesk, Desk, FileFault, file_message, memory_message, not_written_message, read_file,
     refuse, too_long_message,
 };

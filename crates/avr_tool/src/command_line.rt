@@ -3,7 +3,7 @@ ghost use Rattle.std.specs.Prelude.{ℕ, ⊤, IfOk, List, OnErr, map, string_byt
 ghost use Rattle.avr_tool.specs.Asked.{GivesSettings, not_asked_number};
 ghost use Rattle.ghosts.specs.Preserves.{Preserves};
 
-use avr_desk::Desk;
+use avr_io::Desk;
 use avr_plan::{Settings, read_settings, read_words};
 use avr_session::refuse;
 use std::alloc::Global;

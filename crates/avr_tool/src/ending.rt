@@ -1,12 +1,12 @@
 ghost use Rattle.std.specs.Prelude.{◌≡◌, MatchOption, is_some, if◌then◌else◌};
-ghost use Rattle.avr_desk.specs.Fault.{CountsNeverFall};
-ghost use Rattle.avr_desk.specs.Lines.{error};
-ghost use Rattle.avr_desk.specs.OutputEvents.{ReportsLine};
+ghost use Rattle.avr_io.specs.Fault.{CountsNeverFall};
+ghost use Rattle.avr_io.specs.Lines.{error};
+ghost use Rattle.avr_io.specs.OutputEvents.{ReportsLine};
 ghost use Rattle.avr_tool.specs.ServedRun.{end_pieces};
 ghost use Rattle.ghosts.specs.Preserves.{Preserves};
 
 use crate::serving_link::Served;
-use avr_desk::{Desk, Message, refuse};
+use avr_io::{Desk, Message, refuse};
 use avr_session::{unreceived_message, unsent_message};
 
 /// Returns the message for how serving ended; the end of the link has none.

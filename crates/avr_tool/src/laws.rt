@@ -2,10 +2,10 @@
 
 ghost use Rattle.std.specs.Prelude.{◌≡◌, ◌⊎◌, ℕ, All};
 ghost use Rattle.avr_plan.specs.declared.settings.Settings.{Settings as AnySettings};
-ghost use Rattle.avr_desk.specs.Fault.{CountsNeverFall};
-ghost use Rattle.avr_desk.specs.StageRuns.{StageCompleted};
-ghost use Rattle.avr_desk.specs.Record.{DeskState};
-ghost use Rattle.avr_desk.specs.Stage.{Produced};
+ghost use Rattle.avr_io.specs.Fault.{CountsNeverFall};
+ghost use Rattle.avr_io.specs.StageRuns.{StageCompleted};
+ghost use Rattle.avr_io.specs.Record.{DeskState};
+ghost use Rattle.avr_io.specs.Stage.{Produced};
 ghost use Rattle.avr_part.specs.Sound.{IsSoundChip};
 ghost use Rattle.avr_plan.specs.Plan.{Plan, IsFitted};
 ghost use Rattle.avr_plan.specs.Planning.{planned};

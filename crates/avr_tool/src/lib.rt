@@ -60,9 +60,11 @@ pub use command_line::{CommandLine, NotAsked, asked};
 pub use laws::{a_run_is_one_function, a_session_over_a_wire, a_stop_is_a_prefix};
 // what a run reads and writes besides its link
 pub use avr_desk::{
-    Bytes, ChipDesk, Desk, DeskCall, DeskFault, FailingDesk, FileSystem, FileUse, MemDesk, Opening,
-    Piece, Reading, Stream, SystemDesk, WatchDesk, WatchedDesk, Writing, print_error,
-    print_information, print_warning, write_all,
+    DeskCall, FailingDesk, FileSystem, MemDesk, SystemDesk, WatchDesk, WatchedDesk,
+};
+pub use avr_io::{
+    Bytes, ChipDesk, Desk, DeskFault, FileUse, Opening, Piece, Reading, Stream, Writing,
+    print_error, print_information, print_warning, write_all,
 };
 // from settings to a status, over any link
 pub use avr_plan::{PartsFault, Plan, PlanFault, Task, TaskFault, plan, plan_or_fault};

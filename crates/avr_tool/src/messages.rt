@@ -1,8 +1,8 @@
-//! Messages about ports and chip files. Those about any file are in avr_desk.
+//! Messages about ports and chip files. Those about any file are in avr_io.
 ghost use Rattle.std.specs.Prelude.{◌≡◌};
 ghost use Rattle.avr_tool.specs.Lines.{in_use_pieces, length_pieces, unopened_pieces};
 
-use avr_desk::{Message, Piece};
+use avr_io::{Message, Piece};
 
 /// Reports a port that cannot be opened. It was given as `scheme` and `name`: `net:` and `HOST:PORT`, or nothing and
 /// a number.

@@ -1,6 +1,6 @@
 //! The network: connections to an address, and listeners at a port.
 ghost use Rattle.std.specs.Prelude.{ℕ, ⊤, IfOk, OnErr};
-ghost use Rattle.avr_desk.specs.Record.{Bytes};
+ghost use Rattle.avr_io.specs.Record.{Bytes};
 
 use ghosts::Inlet;
 use std::io;

@@ -4,7 +4,7 @@ ghost use Rattle.std.specs.Prelude.{◌≡◌, ◌≤◌, ◌==◌, ◌&&◌, �
 ghost use Rattle.avr_plan.specs.Settings.{updates_from, updates_of};
 ghost use Rattle.avr_plan.specs.declared.settings.SettingsFault.TheVariants.{TooMany};
 ghost use Rattle.avr_plan.specs.declared.update.Format.{Format as AnyFormat};
-ghost use Rattle.avr_desk.specs.Lines.{too_long_line};
+ghost use Rattle.avr_io.specs.Lines.{too_long_line};
 ghost use Rattle.avr_tool.specs.Loading.{chip_or_line, checked_chip};
 ghost use Rattle.avr_tool.specs.declared.served_run.TheConstants.{READS};
 ghost use Rattle.avr_part.specs.Part.{Part as PartData};

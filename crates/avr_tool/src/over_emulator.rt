@@ -1,6 +1,6 @@
 ghost use Rattle.std.specs.Prelude.{◌≡◌, IfOk};
 ghost use Rattle.std.specs.List.{list_any};
-ghost use Rattle.avr_desk.specs.Fault.{CountsNeverFall};
+ghost use Rattle.avr_io.specs.Fault.{CountsNeverFall};
 ghost use Rattle.avr_tool.specs.OverFaultyLink.{SessionOverWire};
 ghost use Rattle.avr_session.specs.Run.{RunsSession};
 ghost use Rattle.avr_session.specs.Runs.{devices};
@@ -14,7 +14,7 @@ ghost use Rattle.avr_tool.specs.Ports.{chip_file_of};
 
 use crate::chip_files::{hold_chip, save_after};
 use crate::ports::chip_file as file_of;
-use avr_desk::{ChipDesk, Desk, not_created_message, refuse};
+use avr_io::{ChipDesk, Desk, not_created_message, refuse};
 use avr_part::Chip;
 use avr_plan::{Plan, Settings, Task, plan};
 use avr_session::drive;

@@ -8,7 +8,7 @@ ghost use Rattle.ghosts.specs.Preserves.{Preserves};
 use crate::messages::unopened_message;
 use crate::network::Network;
 use crate::ports::{close, connect, place_of};
-use avr_desk::{Desk, refuse};
+use avr_io::{Desk, refuse};
 use avr_plan::{Settings, plan};
 use avr_session::drive;
 use std::alloc::Global;

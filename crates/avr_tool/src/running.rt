@@ -1,5 +1,5 @@
 ghost use Rattle.std.specs.Prelude.{◌⊎◌};
-ghost use Rattle.avr_desk.specs.Fault.{CountsNeverFall};
+ghost use Rattle.avr_io.specs.Fault.{CountsNeverFall};
 ghost use Rattle.avr_session.specs.Run.{RunsBetween};
 ghost use Rattle.avr_session.specs.Runs.{devices};
 ghost use Rattle.avr_tool.specs.Headline.{IsRun, IsStopped, RunsWired};
@@ -7,7 +7,7 @@ ghost use Rattle.stk_emu.specs.Wired.{IsFresh};
 ghost use Rattle.ghosts.specs.Preserves.{Preserves};
 
 use crate::over_emulator::drive_wired;
-use avr_desk::Desk;
+use avr_io::Desk;
 use avr_plan::{Settings, plan};
 use avr_session::drive;
 use std::alloc::Global;

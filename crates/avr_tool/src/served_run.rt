@@ -1,6 +1,6 @@
 ghost use Rattle.std.specs.Prelude.{◌≡◌, ◌≤◌, [], None, IfErr, false};
-ghost use Rattle.avr_desk.specs.Fault.{CountsNeverFall};
-ghost use Rattle.avr_desk.specs.StageRuns.{OnlyAtStart, RunsStage};
+ghost use Rattle.avr_io.specs.Fault.{CountsNeverFall};
+ghost use Rattle.avr_io.specs.StageRuns.{OnlyAtStart, RunsStage};
 ghost use Rattle.avr_plan.specs.Planning.{LacksPart};
 ghost use Rattle.avr_tool.specs.ServedRun.{ChecksPart, settings_part};
 ghost use Rattle.avr_tool.specs.ServedRun.{RunsServedFor, ServesChip, ServesPart};
@@ -12,7 +12,7 @@ use crate::chip_files::{hold_chip, save_after};
 use crate::ending::{report_end, status_of_served};
 use crate::ports::chip_file;
 use crate::serving_link::serve_link;
-use avr_desk::{ChipDesk, Desk};
+use avr_io::{ChipDesk, Desk};
 use avr_part::{Chip, Part};
 use avr_plan::{Settings, chosen_part, given_parts};
 use std::alloc::Global;

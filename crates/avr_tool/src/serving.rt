@@ -10,7 +10,7 @@ use crate::messages::unopened_message;
 use crate::network::{Callers, Network};
 use crate::ports::{accept, chip_file, close, listen, place_of};
 use crate::served_run::{READS, check_part, serve_part};
-use avr_desk::{ChipDesk, refuse};
+use avr_io::{ChipDesk, refuse};
 use avr_part::Part;
 use avr_plan::{Settings, port_number};
 use std::alloc::Global;

@@ -4,7 +4,7 @@ ghost use Rattle.avr_tool.specs.Texts.{AnyPart, PrintsText, ReportsText};
 ghost use Rattle.ghosts.specs.Preserves.{Preserves};
 
 use arrayvec::ArrayVec;
-use avr_desk::{Desk, DeskFault, Stream, write_all};
+use avr_io::{Desk, DeskFault, Stream, write_all};
 use std::fmt;
 use std::fmt::{Display, Write};
 

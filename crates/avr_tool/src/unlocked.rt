@@ -1,15 +1,15 @@
 //! Runs with a chip file at a desk that can neither lock a file nor replace it whole.
 ghost use Rattle.std.specs.Prelude.{◌≡◌, ◌+◌, ◌&&◌, not, false, OnOk, OnErr};
 ghost use Rattle.ghosts.specs.Failures.{counted};
-ghost use Rattle.avr_desk.specs.Fault.{CountsFailure, IsCall};
-ghost use Rattle.avr_desk.specs.Record.{ChangesRecord, Replaces, after_write};
-ghost use Rattle.avr_desk.specs.Stream.{SendsPart};
-ghost use Rattle.avr_desk.specs.declared.stream.Stream.TheVariants.{File};
+ghost use Rattle.avr_io.specs.Fault.{CountsFailure, IsCall};
+ghost use Rattle.avr_io.specs.Record.{ChangesRecord, Replaces, after_write};
+ghost use Rattle.avr_io.specs.Stream.{SendsPart};
+ghost use Rattle.avr_io.specs.declared.stream.Stream.TheVariants.{File};
 ghost use Rattle.avr_tool.specs.Noted.{nothing_noted};
 ghost use Rattle.avr_tool.specs.Unlocked.{WritesInPlace, open_after, unlocked};
 
 use crate::noted::{Note, Notes};
-use avr_desk::{ChipDesk, Desk, DeskFault, Stream, write_all};
+use avr_io::{ChipDesk, Desk, DeskFault, Stream, write_all};
 use std::marker::Model;
 
 /// Makes a [`ChipDesk`] of a [`Desk`], so that a desk of one's own needs only six calls for runs with a chip file, too.

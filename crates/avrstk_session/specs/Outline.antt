@@ -2,11 +2,11 @@
 use Rattle.std.specs.Prelude.{◌≡◌, ◌⊎◌, ◌+◌, ◌-◌, ◌*◌, ◌/◌, ◌^◌, ◌++◌, min, ℕ, zero, suc, List, [], ◌∷◌, map, Option, codes, decimal, if◌then◌else◌}
 use Rattle.std.specs.List.{concat}
 use Rattle.avr_plan.specs.declared.settings.Settings.{Settings}
-use Rattle.avr_desk.specs.Lines.{error, memory_pieces}
-use Rattle.avr_desk.specs.Record.{Bytes, DeskState, ChangesRecord}
-use Rattle.avr_desk.specs.OutputEvents.{ReportsLine}
-use Rattle.avr_desk.specs.Stream.{SendsPart, after_sent}
-use Rattle.avr_desk.specs.declared.stream.Stream.TheVariants.{Output}
+use Rattle.avr_io.specs.Lines.{error, memory_pieces}
+use Rattle.avr_io.specs.Record.{Bytes, DeskState, ChangesRecord}
+use Rattle.avr_io.specs.OutputEvents.{ReportsLine}
+use Rattle.avr_io.specs.Stream.{SendsPart, after_sent}
+use Rattle.avr_io.specs.declared.stream.Stream.TheVariants.{Output}
 use Rattle.avr_image.specs.Image.{holds_any}
 use Rattle.avr_part.specs.Part.{Part}
 use Rattle.avr_part.specs.declared.part.Mem.TheVariants.{Flash}

@@ -8,9 +8,9 @@ use Rattle.clap.specs.declared.error.kind.ErrorKind.TheVariants.{DisplayHelp, Ou
 use Rattle.avr_plan.specs.declared.settings.Port.{Port}
 use Rattle.avr_plan.specs.declared.settings.Port.TheVariants.{Emulated}
 use Rattle.avr_plan.specs.declared.settings.Settings.{Settings}
-use Rattle.avr_desk.specs.Lines.{error, memory_pieces}
-use Rattle.avr_desk.specs.Record.{Bytes, DeskState}
-use Rattle.avr_desk.specs.OutputEvents.{ReportsLine}
+use Rattle.avr_io.specs.Lines.{error, memory_pieces}
+use Rattle.avr_io.specs.Record.{Bytes, DeskState}
+use Rattle.avr_io.specs.OutputEvents.{ReportsLine}
 use Rattle.avr_tool.specs.Asked.{GivesSettings, IsRefused, WithSettings}
 use Rattle.avr_tool.specs.declared.command_line.NotAsked.TheVariants.{Words}
 use Rattle.avr_tool.specs.declared.command_line.CommandLine.{Ghosts as CommandLine}

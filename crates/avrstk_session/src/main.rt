@@ -18,9 +18,8 @@ ghost use Rattle.ghosts.specs.Preserves.{Preserves};
 mod mode;
 mod outline;
 
-use avr_desk::{
-    ChipDesk, Desk, FileSystem, Message, Stream, SystemDesk, memory_message, refuse, write_all,
-};
+use avr_desk::{FileSystem, SystemDesk};
+use avr_io::{ChipDesk, Desk, Message, Stream, memory_message, refuse, write_all};
 use avr_plan::{Plan, Port, Settings, plan};
 use avr_tool::{CommandLine, NotAsked, asked, check_part, serve};
 use clap::Error;

@@ -3,7 +3,7 @@ use Rattle.std.proofs.Common.{rules}
 use Rattle.std.specs.Prelude.{MatchResult, Result}
 use Rattle.ghosts.specs.Preserves.{Preserves}
 use Rattle.avr_desk.specs.Journal.{ChangesCalls, SystemCalls, with_calls, with_one_more_held, made}
-use Rattle.avr_desk.specs.Record.{Bytes}
+use Rattle.avr_io.specs.Record.{Bytes}
 
 -- After a success the system has made the file, and the hold that was taken for it is given back. After an error it has
 -- done nothing more.

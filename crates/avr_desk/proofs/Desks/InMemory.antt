@@ -6,15 +6,15 @@ use Rattle.std.proofs.lemmas.Grind.{common_steps}
 use Rattle.std.proofs.lemmas.List.{take-append-drop}
 use Rattle.ghosts.specs.Preserves.{Preserves}
 use Rattle.avr_desk.specs.Memory.{MemDeskState, Stock, contents, updated}
-use Rattle.avr_desk.specs.Named.{bytes_given}
-use Rattle.avr_desk.specs.Record.{Bytes, all_uses, files_among, noted, with_absent, with_open, with_replaced, written_on}
+use Rattle.avr_io.specs.Named.{bytes_given}
+use Rattle.avr_io.specs.Record.{Bytes, all_uses, files_among, noted, with_absent, with_open, with_replaced, written_on}
 use Rattle.avr_desk.proofs.FileUses.Uses.{files_used}
 use Rattle.avr_desk.specs.Truth.{IsReadPrefix, OpeningsAreTrue, HoldsTrue}
-use Rattle.avr_desk.specs.declared.record.FileUse.{FileUse}
-use Rattle.avr_desk.specs.declared.record.FileUse.TheVariants.{Opened, Created}
-use Rattle.avr_desk.specs.declared.record.Open.TheVariants.{ToRead, ToWrite}
-use Rattle.avr_desk.specs.declared.record.Reading.{Reading}
-use Rattle.avr_desk.specs.declared.record.Writing.{Writing}
+use Rattle.avr_io.specs.declared.record.FileUse.{FileUse}
+use Rattle.avr_io.specs.declared.record.FileUse.TheVariants.{Opened, Created}
+use Rattle.avr_io.specs.declared.record.Open.TheVariants.{ToRead, ToWrite}
+use Rattle.avr_io.specs.declared.record.Reading.{Reading}
+use Rattle.avr_io.specs.declared.record.Writing.{Writing}
 
 -- ---- two lists of uses
 

@@ -2,8 +2,8 @@
 use Rattle.std.proofs.Common.{◌≡◌, ◌⊎◌, ◌∙◌, inr, sym, ap, subst, refl, arith, ℕ, ◌==◌, ◌&&◌, ◌||◌, not, true, false, List, [], ◌∷◌, ◌++◌, append_assoc, append-nil, length, take, Option, None, Some, rules}
 use Rattle.std.specs.Prelude.{◌≤◌, IfErr, IfOk, Ok, Result}
 use Rattle.std.proofs.KnownBytes.{Appends-nil, Consumes-nil}
-use Rattle.avr_desk.specs.Record.{Bytes, DeskState, Record, after_read, all_files, all_uses, noted, nothing_kept, use_of, with_absent, with_none_held, with_open, with_replaced, with_tried, after_write}
-use Rattle.avr_desk.specs.declared.record.Open.TheVariants.{ToRead, ToWrite}
+use Rattle.avr_io.specs.Record.{Bytes, DeskState, Record, after_read, all_files, all_uses, noted, nothing_kept, use_of, with_absent, with_none_held, with_open, with_replaced, with_tried, after_write}
+use Rattle.avr_io.specs.declared.record.Open.TheVariants.{ToRead, ToWrite}
 use Rattle.std.proofs.lemmas.Bool.{or_parts}
 use Rattle.std.proofs.lemmas.Bool.Decides.{nat_tests}
 use Rattle.std.proofs.lemmas.Grind.{common_steps, flat_map-append}
@@ -16,25 +16,25 @@ use Rattle.std.specs.declared.io.ErrorKind.{ErrorKind}
 use Rattle.std.specs.declared.io.Read.{Ghosts as Reads}
 use Rattle.std.specs.declared.io.Write.{Ghosts as Writes}
 use Rattle.ghosts.specs.Preserves.{Preserves}
-use Rattle.avr_desk.specs.Named.{is_dash}
+use Rattle.avr_io.specs.Named.{is_dash}
 use Rattle.avr_desk.proofs.FileUses.Calls.{opened, calls_opened, calls_replaced, made_dash, opened_dash, opened_named}
 use Rattle.avr_desk.proofs.FileUses.Uses.{files_absent, files_opened, files_replaced}
 use Rattle.avr_desk.specs.Journal.{Counts, ChangesCalls, FileCall, Gives, ReleasesHeld, CrashMayAlsoLeave, CrashLeavesNoMore, Opens, with_calls, calls_of_record, with_one_more_held, made, no_calls}
-use Rattle.avr_desk.specs.Fault.{IsCall, WriteCounts}
-use Rattle.avr_desk.specs.Stream.{IsWrite, SendsTaken}
-use Rattle.avr_desk.specs.declared.stream.Stream.{Stream}
-use Rattle.avr_desk.specs.declared.desk.DeskFault.{DeskFault}
-use Rattle.avr_desk.specs.declared.desk.DeskFault.TheVariants.{Failed}
+use Rattle.avr_io.specs.Fault.{IsCall, WriteCounts}
+use Rattle.avr_io.specs.Stream.{IsWrite, SendsTaken}
+use Rattle.avr_io.specs.declared.stream.Stream.{Stream}
+use Rattle.avr_io.specs.declared.desk.DeskFault.{DeskFault}
+use Rattle.avr_io.specs.declared.desk.DeskFault.TheVariants.{Failed}
 use Rattle.avr_desk.specs.Handles.{CrashLeaves, IsTrueRecord, HandleGave, IsHeldBy, IsTrueOpen, IsTrueUse}
 use Rattle.avr_desk.specs.OpenFile.{OpenFileGives, GivesBytes, OpenFileGivesNothing, IsClosed, is_output}
 use Rattle.avr_desk.specs.Shown.{Shown, IsTrueSince, RecordsAll, has_dash, writes_to_output}
 use Rattle.avr_desk.specs.declared.file_system.FileSystem.{Ghosts}
-use Rattle.avr_desk.specs.declared.record.FileUse.{FileUse}
-use Rattle.avr_desk.specs.declared.record.FileUse.TheVariants.{Created, Opened}
-use Rattle.avr_desk.specs.declared.record.Opening.TheVariants.{Absent, Found}
-use Rattle.avr_desk.specs.declared.record.Open.{Open}
-use Rattle.avr_desk.specs.declared.record.Reading.{Reading}
-use Rattle.avr_desk.specs.declared.record.Writing.{Writing}
+use Rattle.avr_io.specs.declared.record.FileUse.{FileUse}
+use Rattle.avr_io.specs.declared.record.FileUse.TheVariants.{Created, Opened}
+use Rattle.avr_io.specs.declared.record.Opening.TheVariants.{Absent, Found}
+use Rattle.avr_io.specs.declared.record.Open.{Open}
+use Rattle.avr_io.specs.declared.record.Reading.{Reading}
+use Rattle.avr_io.specs.declared.record.Writing.{Writing}
 use Rattle.avr_desk.specs.declared.system.OpenFile.{OpenFile}
 use Rattle.avr_desk.specs.declared.system.OpenFile.TheVariants as open_file
 

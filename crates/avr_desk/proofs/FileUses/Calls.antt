@@ -2,10 +2,10 @@
 use Rattle.std.proofs.Common.{◌≡◌, ap, Bool, true, false, [], ◌∷◌, ◌++◌, flat_map, if◌then◌else◌, rules}
 use Rattle.std.proofs.lemmas.Grind.{flat_map-append}
 use Rattle.avr_desk.specs.Journal.{Gives, Makes, Opens, FileCall, calls_of, made}
-use Rattle.avr_desk.specs.Named.{is_dash}
-use Rattle.avr_desk.specs.Record.{Bytes, Record, all_uses, use_of, with_open, with_replaced}
-use Rattle.avr_desk.specs.declared.record.FileUse.{FileUse}
-use Rattle.avr_desk.specs.declared.record.Open.{Open}
+use Rattle.avr_io.specs.Named.{is_dash}
+use Rattle.avr_io.specs.Record.{Bytes, Record, all_uses, use_of, with_open, with_replaced}
+use Rattle.avr_io.specs.declared.record.FileUse.{FileUse}
+use Rattle.avr_io.specs.declared.record.Open.{Open}
 
 -- the calls of all uses once another file is open: those before, and the one that opened it
 pub calls_opened : (o : Open) (used : FileUse) (r : Record) → use_of o ≡ used ∷ []

@@ -2,11 +2,11 @@
 use Rattle.std.proofs.Common.{◌≡◌, ◌∙◌, arith, ap, List, [], ◌∷◌, ◌++◌, append-nil}
 use Rattle.std.proofs.lemmas.Bool.Decides.{nat_tests}
 use Rattle.std.proofs.lemmas.List.Elements.{filter_map-append}
-use Rattle.avr_desk.specs.Record.{Bytes, Record, all_files, all_openings, all_uses, files_among, openings_among, use_of, with_absent, with_open, with_replaced}
-use Rattle.avr_desk.specs.declared.record.FileUse.TheVariants.{Opened}
-use Rattle.avr_desk.specs.declared.record.Open.{Open}
-use Rattle.avr_desk.specs.declared.record.Opening.TheVariants.{Absent}
-use Rattle.avr_desk.specs.declared.record.Writing.{Writing}
+use Rattle.avr_io.specs.Record.{Bytes, Record, all_files, all_openings, all_uses, files_among, openings_among, use_of, with_absent, with_open, with_replaced}
+use Rattle.avr_io.specs.declared.record.FileUse.TheVariants.{Opened}
+use Rattle.avr_io.specs.declared.record.Open.{Open}
+use Rattle.avr_io.specs.declared.record.Opening.TheVariants.{Absent}
+use Rattle.avr_io.specs.declared.record.Writing.{Writing}
 
 -- ---- the open file is a use like any other
 

@@ -9,7 +9,7 @@ use Rattle.clap.specs.Words.{Row, first_of, matches_of}
 use Rattle.avr_part.specs.PartFile.{Bytes, ◌>>=◌}
 use Rattle.avr_plan.specs.Port.{port_number, port_of_option}
 use Rattle.avr_plan.specs.Settings.{Entries, checked_programmer, checked_streams, settings_of, run_settings, serve_settings, switches_of, updates_of}
-use Rattle.avr_desk.specs.Named.{is_dash}
+use Rattle.avr_io.specs.Named.{is_dash}
 use Rattle.avr_plan.specs.Standard.{is_port_taken, uses_input, uses_standard}
 use Rattle.avr_plan.specs.declared.settings.Port.{Port}
 use Rattle.avr_plan.specs.declared.settings.Port.TheVariants.{Stdio, Emulated, Served}

@@ -2,7 +2,7 @@
 -- weighs 1.
 use Rattle.std.proofs.Common.{◌≡◌, ℕ, zero, suc, ◌*◌, ◌-◌, List, [], ◌∷◌, map, flat_map, sum_by, length, subst, arith, rules}
 use Rattle.std.proofs.lemmas.List.Sums.{sum_by-append, sum_by-cons}
-use Rattle.avr_desk.specs.OutputEvents.{IsPartOfEvent}
+use Rattle.avr_io.specs.OutputEvents.{IsPartOfEvent}
 use Rattle.avr_plan.specs.Plan.{Plan}
 use Rattle.avr_session.specs.Session.{session}
 use Rattle.stk_frame.specs.Commands.{body}

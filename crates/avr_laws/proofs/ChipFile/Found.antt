@@ -7,15 +7,15 @@ use Rattle.avr_plan.specs.declared.settings.Settings.{Settings}
 use Rattle.avr_desk.proofs.Desks.InMemory.{all_true, true_behind}
 use Rattle.avr_desk.proofs.FileUses.Uses.{files_absent, files_used}
 use Rattle.avr_desk.specs.Memory.{MemDeskState, Stock, memory_state}
-use Rattle.avr_desk.specs.StageRuns.{StageCompleted}
-use Rattle.avr_desk.specs.Record.{Bytes, DeskState, all_files, all_uses, files_among}
-use Rattle.avr_desk.specs.OutputEvents.{after_opening}
-use Rattle.avr_desk.specs.Stage.{Produced, next_opening}
+use Rattle.avr_io.specs.StageRuns.{StageCompleted}
+use Rattle.avr_io.specs.Record.{Bytes, DeskState, all_files, all_uses, files_among}
+use Rattle.avr_io.specs.OutputEvents.{after_opening}
+use Rattle.avr_io.specs.Stage.{Produced, next_opening}
 use Rattle.avr_desk.specs.Truth.{OpeningsAreTrue, HoldsTrue, IsTrueOpening}
-use Rattle.avr_desk.specs.declared.record.FileUse.{FileUse}
-use Rattle.avr_desk.specs.declared.record.FileUse.TheVariants.{Opened, Created}
-use Rattle.avr_desk.specs.declared.record.Opening.{Opening}
-use Rattle.avr_desk.specs.declared.record.Writing.{Writing}
+use Rattle.avr_io.specs.declared.record.FileUse.{FileUse}
+use Rattle.avr_io.specs.declared.record.FileUse.TheVariants.{Opened, Created}
+use Rattle.avr_io.specs.declared.record.Opening.{Opening}
+use Rattle.avr_io.specs.declared.record.Writing.{Writing}
 use Rattle.avr_tool.specs.Emulated.{RunsOverEmulator}
 use Rattle.avr_part.specs.Part.{Part}
 use Rattle.avr_part.specs.State.{ChipState as Chip}

@@ -4,14 +4,14 @@ use Rattle.std.specs.Prelude.{MatchOption}
 use Rattle.std.specs.declared.io.Read.{Ghosts as Reads}
 use Rattle.std.specs.declared.io.Write.{Ghosts as Writes}
 use Rattle.avr_plan.specs.declared.settings.Settings.{Settings}
-use Rattle.avr_desk.specs.StageRuns.{RunsStage, AllocationPoints, StageCompleted}
-use Rattle.avr_desk.specs.Record.{Bytes, DeskState, Record}
-use Rattle.avr_desk.specs.Lines.{error}
-use Rattle.avr_desk.specs.OutputEvents.{OutputEvent, ReportsLine, after, after_events}
+use Rattle.avr_io.specs.StageRuns.{RunsStage, AllocationPoints, StageCompleted}
+use Rattle.avr_io.specs.Record.{Bytes, DeskState, Record}
+use Rattle.avr_io.specs.Lines.{error}
+use Rattle.avr_io.specs.OutputEvents.{OutputEvent, ReportsLine, after, after_events}
 use Rattle.avr_desk.specs.Shown.{IsNewDesk, Shown, RecordsAll, system_desk_view}
-use Rattle.avr_desk.specs.Stage.{Stage, StageOutcome}
+use Rattle.avr_io.specs.Stage.{Stage, StageOutcome}
 use Rattle.avr_desk.specs.declared.file_system.FileSystem.{Ghosts}
-use Rattle.avr_desk.specs.declared.record.Writing.{Writing}
+use Rattle.avr_io.specs.declared.record.Writing.{Writing}
 use Rattle.avr_tool.specs.Emulated.{RunsEmulator, TakesChip}
 use Rattle.avr_tool.specs.Holding.{LocksAndLoads, LoadsLocked}
 use Rattle.avr_laws.specs.Killed.{LeavesOldOrNew, chip_file_of_part, chip_file_of_run, chip_file_of_server}

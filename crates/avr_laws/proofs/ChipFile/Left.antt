@@ -4,8 +4,8 @@ use Rattle.avr_plan.specs.declared.settings.Settings.{Settings}
 use Rattle.std.proofs.lemmas.List.Sums.{fold-append}
 use Rattle.avr_desk.proofs.FileUses.Uses.{files_replaced}
 use Rattle.avr_desk.specs.Memory.{MemDeskState, Stock, memory_state}
-use Rattle.avr_desk.specs.Named.{is_dash}
-use Rattle.avr_desk.specs.Record.{Bytes, DeskState}
+use Rattle.avr_io.specs.Named.{is_dash}
+use Rattle.avr_io.specs.Record.{Bytes, DeskState}
 use Rattle.avr_tool.specs.Emulated.{IsSavedIfSent, RunsOverEmulator, new_wire}
 use Rattle.avr_part.specs.ChipFile.{chip_file}
 use Rattle.avr_part.specs.State.{ChipState as Chip}

@@ -4,9 +4,9 @@ use Rattle.std.proofs.lemmas.Bool.{cases_Bool}
 use Rattle.std.proofs.lemmas.List.Sums.{fold-append}
 use Rattle.avr_desk.proofs.FileUses.Uses.{files_replaced}
 use Rattle.avr_desk.specs.Memory.{Stock, content_of_name}
-use Rattle.avr_desk.specs.Named.{is_dash, newest, or_older}
-use Rattle.avr_desk.specs.Record.{Bytes, DeskState, all_files}
-use Rattle.avr_desk.specs.declared.record.Writing.{Writing}
+use Rattle.avr_io.specs.Named.{is_dash, newest, or_older}
+use Rattle.avr_io.specs.Record.{Bytes, DeskState, all_files}
+use Rattle.avr_io.specs.declared.record.Writing.{Writing}
 use Rattle.avr_tool.specs.Emulated.{IsSavedIfSent}
 use Rattle.avr_laws.specs.Kept.{named_files}
 

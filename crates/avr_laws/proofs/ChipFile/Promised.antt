@@ -3,12 +3,12 @@ use Rattle.std.proofs.Common.{◌≡◌, ◌∙◌, ap, subst, sym, refl, List, 
 use Rattle.avr_plan.specs.declared.settings.Settings.{Settings}
 use Rattle.avr_desk.proofs.FileUses.Uses.{files_used}
 use Rattle.avr_desk.specs.Memory.{MemDeskState, Stock, memory_state, content_of_name}
-use Rattle.avr_desk.specs.Named.{is_dash, newest}
-use Rattle.avr_desk.specs.Record.{Bytes, ChangesRecord, Record, all_files, nothing_kept}
-use Rattle.avr_desk.specs.OutputEvents.{after_events}
-use Rattle.avr_desk.specs.Stage.{Produced, NotReadToEnd, StageOutcome, StageResult}
+use Rattle.avr_io.specs.Named.{is_dash, newest}
+use Rattle.avr_io.specs.Record.{Bytes, ChangesRecord, Record, all_files, nothing_kept}
+use Rattle.avr_io.specs.OutputEvents.{after_events}
+use Rattle.avr_io.specs.Stage.{Produced, NotReadToEnd, StageOutcome, StageResult}
 use Rattle.avr_desk.specs.Truth.{HoldsTrue}
-use Rattle.avr_desk.specs.declared.record.Writing.{Writing}
+use Rattle.avr_io.specs.declared.record.Writing.{Writing}
 use Rattle.avr_tool.specs.Emulated.{RunsOverEmulator}
 use Rattle.avr_tool.proofs.Plans.Items.{items_by_tasks}
 use Rattle.avr_tool.specs.OverFaultyLink.{EndsOverExchanges, events_over}

@@ -2,7 +2,7 @@
 use Rattle.std.proofs.Common.{◌≡◌, ℕ, List, Option, Result, Ok, Err, rules}
 use Rattle.std.proofs.lemmas.Bool.Decides.{nat_tests}
 use Rattle.std.specs.Result.{result_map_both}
-use Rattle.avr_desk.specs.Record.{Bytes}
+use Rattle.avr_io.specs.Record.{Bytes}
 use Rattle.avr_plan.specs.ImageFile.{image_of_file}
 use Rattle.avr_records.specs.Reading.{image_in_text}
 use Rattle.avr_records.specs.declared.kind.Ending.{Ending}

@@ -3,7 +3,7 @@ use Rattle.std.proofs.Common.{◌≡◌, ◌⊎◌, ◌∙◌, inl, inr, refl, s
 use Rattle.avr_plan.specs.declared.settings.Port.{Port}
 use Rattle.avr_plan.specs.declared.settings.Port.TheVariants.{Stdio, Emulated, Network, Served}
 use Rattle.avr_plan.specs.declared.settings.Settings.{Settings}
-use Rattle.avr_desk.specs.Record.{Bytes, DeskState, Record}
+use Rattle.avr_io.specs.Record.{Bytes, DeskState, Record}
 use Rattle.avr_plan.specs.Plan.{Plan}
 use Rattle.avr_session.specs.Run.{RunsSession, WithPlan}
 use Rattle.avr_session.specs.Runs.{Devices, devices}

@@ -5,13 +5,13 @@ use Rattle.std.proofs.lemmas.Bool.Decides.{nat_tests}
 use Rattle.std.proofs.lemmas.List.Elements.{filter_map-append}
 use Rattle.avr_plan.specs.declared.settings.Settings.{Settings}
 use Rattle.avr_desk.proofs.FileUses.Uses.{files_used}
-use Rattle.avr_desk.proofs.Stages.Breaks.{openings_in, openings_shown}
-use Rattle.avr_desk.specs.Record.{Bytes, DeskState, ChangesRecord, Record, all_files, all_openings, with_replaced}
-use Rattle.avr_desk.specs.OutputEvents.{OutputEvent, Opens, after_events}
-use Rattle.avr_desk.specs.Stage.{Produced, StageResult, next_opening}
-use Rattle.avr_desk.specs.declared.record.Opening.{Opening}
-use Rattle.avr_desk.specs.declared.record.Opening.TheVariants.{Absent, Found}
-use Rattle.avr_desk.specs.declared.record.Writing.{Writing}
+use Rattle.avr_io.proofs.Stages.Breaks.{openings_in, openings_shown}
+use Rattle.avr_io.specs.Record.{Bytes, DeskState, ChangesRecord, Record, all_files, all_openings, with_replaced}
+use Rattle.avr_io.specs.OutputEvents.{OutputEvent, Opens, after_events}
+use Rattle.avr_io.specs.Stage.{Produced, StageResult, next_opening}
+use Rattle.avr_io.specs.declared.record.Opening.{Opening}
+use Rattle.avr_io.specs.declared.record.Opening.TheVariants.{Absent, Found}
+use Rattle.avr_io.specs.declared.record.Writing.{Writing}
 use Rattle.avr_part.specs.ChipFile.{chip_file}
 use Rattle.avr_part.specs.Part.{Part}
 use Rattle.avr_part.specs.State.{ChipState as Chip}

@@ -1,7 +1,7 @@
 -- A run that came to its end is the same over a longer tape.
 use Rattle.std.proofs.Common.{◌≡◌, ℕ, ap, refl, List, [], ◌∷◌, ◌++◌, Option, Some, None, rules}
 use Rattle.avr_plan.specs.declared.settings.Settings.{Settings}
-use Rattle.avr_desk.specs.declared.record.Opening.{Opening}
+use Rattle.avr_io.specs.declared.record.Opening.{Opening}
 use Rattle.avr_tool.proofs.StepData.LongerTape.{reading_extends}
 use Rattle.stk_frame.specs.Frame.{frame}
 use Rattle.stk_host.specs.Dialog.{Dialog, Done, Emit, Ask, Frame, Emitted, played, prepend_events, continue_with_reading, next}

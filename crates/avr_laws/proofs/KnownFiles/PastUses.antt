@@ -1,14 +1,14 @@
 -- Past uses of files stay, whatever is done at the desk from then on.
 use Rattle.std.proofs.lemmas.Grind.{common_steps}
 use Rattle.std.proofs.Common.{◌≡◌, ◌∙◌, ◌⊎◌, ap, subst, sym, refl, inl, inr, ℕ, Bool, List, [], ◌∷◌, ◌++◌, append_assoc, append-nil, map, rules, arith}
-use Rattle.avr_desk.specs.Record.{Bytes, DeskState, Record, all_uses, files_among, use_of, with_absent}
-use Rattle.avr_desk.specs.OutputEvents.{OutputEvent, Opens, PrintsLine, CreatesFile, after, after_events, after_opening}
-use Rattle.avr_desk.specs.declared.record.FileUse.{FileUse}
-use Rattle.avr_desk.specs.declared.record.FileUse.TheVariants.{Opened}
-use Rattle.avr_desk.specs.declared.record.Opening.{Opening}
-use Rattle.avr_desk.specs.declared.record.Opening.TheVariants.{Absent, Found}
-use Rattle.avr_desk.specs.declared.record.Open.TheVariants.{ToRead}
-use Rattle.avr_desk.specs.declared.record.Reading.{Reading}
+use Rattle.avr_io.specs.Record.{Bytes, DeskState, Record, all_uses, files_among, use_of, with_absent}
+use Rattle.avr_io.specs.OutputEvents.{OutputEvent, Opens, PrintsLine, CreatesFile, after, after_events, after_opening}
+use Rattle.avr_io.specs.declared.record.FileUse.{FileUse}
+use Rattle.avr_io.specs.declared.record.FileUse.TheVariants.{Opened}
+use Rattle.avr_io.specs.declared.record.Opening.{Opening}
+use Rattle.avr_io.specs.declared.record.Opening.TheVariants.{Absent, Found}
+use Rattle.avr_io.specs.declared.record.Open.TheVariants.{ToRead}
+use Rattle.avr_io.specs.declared.record.Reading.{Reading}
 use Rattle.avr_tool.specs.Emulated.{IsSavedIfSent}
 use Rattle.avr_laws.specs.OnlyReading.{OnlyReadsAndPrints}
 use Rattle.avr_session.specs.Runs.{BrokeOff, Devices, RunAllocationPoints, before_fault, start}

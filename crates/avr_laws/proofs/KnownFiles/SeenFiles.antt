@@ -1,17 +1,17 @@
 -- What planning saw of the files was so before the run.
 use Rattle.std.proofs.Common.{◌≡◌, ◌∙◌, ap, refl, List, [], ◌∷◌, ◌++◌, append-nil, rules}
 use Rattle.avr_plan.specs.declared.settings.Settings.{Settings}
-use Rattle.avr_desk.proofs.Stages.Breaks.{openings_in, openings_shown}
+use Rattle.avr_io.proofs.Stages.Breaks.{openings_in, openings_shown}
 use Rattle.avr_desk.proofs.FileUses.Uses.{absent_used, files_used, openings_used, files_opened, files_absent}
 use Rattle.avr_desk.specs.Memory.{Stock}
-use Rattle.avr_desk.specs.StageRuns.{StageCompleted}
-use Rattle.avr_desk.specs.Record.{after_err, DeskState, Record, all_files, all_openings, all_uses, files_among, nothing_kept, openings_among}
-use Rattle.avr_desk.specs.OutputEvents.{OutputEvent, Opens, PrintsLine, after_events, after_opening}
-use Rattle.avr_desk.specs.Stage.{StageOutcome, NotReadToEnd, events_with_refusal}
+use Rattle.avr_io.specs.StageRuns.{StageCompleted}
+use Rattle.avr_io.specs.Record.{after_err, DeskState, Record, all_files, all_openings, all_uses, files_among, nothing_kept, openings_among}
+use Rattle.avr_io.specs.OutputEvents.{OutputEvent, Opens, PrintsLine, after_events, after_opening}
+use Rattle.avr_io.specs.Stage.{StageOutcome, NotReadToEnd, events_with_refusal}
 use Rattle.avr_desk.specs.Truth.{OpeningsAreTrue, IsTrueOpening}
-use Rattle.avr_desk.specs.declared.record.FileUse.{FileUse}
-use Rattle.avr_desk.specs.declared.record.FileUse.TheVariants.{Opened, Created}
-use Rattle.avr_desk.specs.declared.record.Opening.{Opening}
+use Rattle.avr_io.specs.declared.record.FileUse.{FileUse}
+use Rattle.avr_io.specs.declared.record.FileUse.TheVariants.{Opened, Created}
+use Rattle.avr_io.specs.declared.record.Opening.{Opening}
 use Rattle.avr_laws.proofs.Plans.OnlyReading.{only_reads}
 use Rattle.avr_laws.specs.FilesRead.{AreTrueOpenings}
 use Rattle.avr_laws.specs.OnlyReading.{OnlyReadsAndPrints}

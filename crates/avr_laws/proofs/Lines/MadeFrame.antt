@@ -1,6 +1,6 @@
 -- A session over a link that forges a frame.
 use Rattle.std.proofs.Common.{◌≡◌, ℕ, List, [], refl, arith, Some}
-use Rattle.avr_desk.specs.OutputEvents.{OutputEvent}
+use Rattle.avr_io.specs.OutputEvents.{OutputEvent}
 use Rattle.avr_session.specs.Session.{session}
 use Rattle.stk_host.specs.Dialog.{Event, played}
 use Rattle.stk_host.specs.Operations.{handshake, opening, closing, operation}

@@ -4,10 +4,10 @@ use Rattle.std.proofs.lemmas.List.{take-append-le, take_all}
 use Rattle.avr_plan.specs.declared.settings.Port.{Port}
 use Rattle.avr_plan.specs.declared.settings.Port.TheVariants.{Stdio, Emulated, Network, Served}
 use Rattle.avr_plan.specs.declared.settings.Settings.{Settings}
-use Rattle.avr_desk.specs.Record.{Bytes, DeskState}
-use Rattle.avr_desk.specs.OutputEvents.{OutputEvent}
-use Rattle.avr_desk.specs.Stage.{Produced, Refused, NotReadToEnd, StageOutcome, StageResult}
-use Rattle.avr_desk.specs.declared.record.Opening.{Opening}
+use Rattle.avr_io.specs.Record.{Bytes, DeskState}
+use Rattle.avr_io.specs.OutputEvents.{OutputEvent}
+use Rattle.avr_io.specs.Stage.{Produced, Refused, NotReadToEnd, StageOutcome, StageResult}
+use Rattle.avr_io.specs.declared.record.Opening.{Opening}
 use Rattle.avr_plan.specs.Plan.{Plan, IsFitted}
 use Rattle.avr_plan.specs.Planning.{planned}
 use Rattle.avr_session.specs.Run.{RunsSession, WithPlan}

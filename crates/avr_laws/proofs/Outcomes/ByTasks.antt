@@ -2,7 +2,7 @@
 use Rattle.std.proofs.Common.{◌≡◌, ◌∙◌, ap, ap₂, sym, refl, Bool, false, List, [], ◌∷◌, ◌++◌, rules}
 use Rattle.std.specs.Prelude.{◌&&◌, not, if◌then◌else◌}
 use Rattle.avr_plan.specs.declared.settings.Switches.{Switches}
-use Rattle.avr_desk.specs.declared.record.Writing.{Writing}
+use Rattle.avr_io.specs.declared.record.Writing.{Writing}
 use Rattle.avr_part.specs.Part.{Part}
 use Rattle.avr_part.specs.declared.part.Mem.{Mem}
 use Rattle.avr_plan.specs.declared.planned.Task.{Task}
@@ -10,7 +10,7 @@ use Rattle.avr_plan.specs.declared.planned.Task.TheVariants as task
 use Rattle.avr_session.specs.Actions.{Action, CompareImage, EraseChip, SaveMemory, SkipAction, SkippedErase, SkippedWrite, WriteImage, actions, is_erase_due, tasks_actions}
 use Rattle.avr_session.specs.FileText.{file_text}
 use Rattle.avr_session.specs.Session.{bytes_to_save}
-use Rattle.avr_desk.specs.Record.{Bytes, Record}
+use Rattle.avr_io.specs.Record.{Bytes, Record}
 use Rattle.avr_plan.specs.Plan.{Plan}
 use Rattle.stk_emu.specs.Effect.{Erase, Image, Item, Memories, Write, effect, effects, memory_in}
 use Rattle.stk_emu.specs.StepData.{HoldsImage}

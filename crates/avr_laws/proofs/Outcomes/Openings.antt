@@ -3,11 +3,11 @@ use Rattle.std.proofs.Common.{◌≡◌, ℕ, List, [], ◌∷◌, ◌++◌, app
 use Rattle.avr_plan.specs.declared.settings.Settings.{Settings}
 use Rattle.avr_plan.specs.declared.settings.Switches.{Switches}
 use Rattle.avr_plan.specs.declared.update.Format.{Format}
-use Rattle.avr_desk.proofs.Stages.Breaks.{openings_in, openings_shown}
-use Rattle.avr_desk.specs.Record.{Bytes, DeskState, ChangesRecord, all_openings}
-use Rattle.avr_desk.specs.OutputEvents.{OutputEvent, Opens, IsPartOfEvent, after_events}
-use Rattle.avr_desk.specs.Stage.{Produced}
-use Rattle.avr_desk.specs.declared.record.Opening.{Opening}
+use Rattle.avr_io.proofs.Stages.Breaks.{openings_in, openings_shown}
+use Rattle.avr_io.specs.Record.{Bytes, DeskState, ChangesRecord, all_openings}
+use Rattle.avr_io.specs.OutputEvents.{OutputEvent, Opens, IsPartOfEvent, after_events}
+use Rattle.avr_io.specs.Stage.{Produced}
+use Rattle.avr_io.specs.declared.record.Opening.{Opening}
 use Rattle.avr_part.specs.Part.{Part}
 use Rattle.avr_part.specs.declared.part.Mem.{Mem}
 use Rattle.avr_plan.specs.Plan.{Plan}

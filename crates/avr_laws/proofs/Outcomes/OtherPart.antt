@@ -4,8 +4,8 @@ use Rattle.std.proofs.lemmas.Bool.{cases_Bool}
 use Rattle.std.proofs.lemmas.List.{map-append}
 use Rattle.std.specs.Prelude.{if◌then◌else◌}
 use Rattle.avr_plan.specs.declared.settings.Switches.{Switches}
-use Rattle.avr_desk.specs.OutputEvents.{OutputEvent, PrintsLine}
-use Rattle.avr_desk.specs.Record.{Bytes, Record}
+use Rattle.avr_io.specs.OutputEvents.{OutputEvent, PrintsLine}
+use Rattle.avr_io.specs.Record.{Bytes, Record}
 use Rattle.avr_part.specs.Part.{Part, size_of}
 use Rattle.avr_part.specs.declared.part.Mem.{Mem}
 use Rattle.avr_plan.specs.Plan.{Plan, IsFitted}

@@ -3,8 +3,8 @@ use Rattle.std.proofs.Common.{◌≡◌, append-nil, ℕ, true, Bool, List, [], 
 use Rattle.std.proofs.lemmas.List.Elements.{All-nil, All-cons}
 use Rattle.std.specs.Prelude.{All}
 use Rattle.avr_plan.specs.declared.settings.Settings.{Settings}
-use Rattle.avr_desk.specs.OutputEvents.{OutputEvent}
-use Rattle.avr_desk.specs.Stage.{Produced}
+use Rattle.avr_io.specs.OutputEvents.{OutputEvent}
+use Rattle.avr_io.specs.Stage.{Produced}
 use Rattle.avr_part.specs.Sound.{IsSoundChip}
 use Rattle.avr_plan.specs.Plan.{Plan}
 use Rattle.avr_plan.specs.Planning.{planned}

@@ -5,8 +5,8 @@ use Rattle.std.proofs.lemmas.Slice.Eq.{bytes_eq-Decides}
 use Rattle.std.specs.Prelude.{⊤, Result}
 use Rattle.std.specs.Str.{bytes_eq}
 use Rattle.avr_plan.specs.declared.settings.Switches.{Switches}
-use Rattle.avr_desk.specs.OutputEvents.{OutputEvent}
-use Rattle.avr_desk.specs.Record.{Bytes}
+use Rattle.avr_io.specs.OutputEvents.{OutputEvent}
+use Rattle.avr_io.specs.Record.{Bytes}
 use Rattle.avr_part.specs.Part.{Part}
 use Rattle.avr_plan.specs.Plan.{Plan}
 use Rattle.avr_session.specs.Actions.{Action, erase_actions, tasks_actions}

@@ -2,9 +2,9 @@
 use Rattle.std.proofs.Common.{◌≡◌, ℕ, length, All, List, [], ◌++◌, map, Some, refl, sym, ap, ◌∙◌, subst, rules}
 use Rattle.std.proofs.lemmas.List.{append-nil, take_all}
 use Rattle.avr_plan.specs.declared.settings.Settings.{Settings}
-use Rattle.avr_desk.specs.Record.{ChangesRecord}
-use Rattle.avr_desk.specs.OutputEvents.{OutputEvent, after_events}
-use Rattle.avr_desk.specs.Stage.{Produced, StageOutcome, events_with_refusal}
+use Rattle.avr_io.specs.Record.{ChangesRecord}
+use Rattle.avr_io.specs.OutputEvents.{OutputEvent, after_events}
+use Rattle.avr_io.specs.Stage.{Produced, StageOutcome, events_with_refusal}
 use Rattle.avr_plan.specs.Plan.{Plan, IsFitted}
 use Rattle.avr_plan.specs.Planning.{planned}
 use Rattle.avr_session.specs.Runs.{Devices}

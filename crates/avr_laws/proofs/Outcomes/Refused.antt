@@ -1,8 +1,8 @@
 -- Outcomes that no run over a wire has.
 use Rattle.std.proofs.Common.{◌≡◌, ◌<◌, ◌*◌, ℕ, List, [], ◌++◌, flat_map, map, sum_by, ap, sym, ◌∙◌, subst, refl, Option, Some, rules}
-use Rattle.avr_desk.specs.Record.{DeskState, ChangesRecord}
-use Rattle.avr_desk.specs.declared.record.Opening.{Opening}
-use Rattle.avr_desk.specs.OutputEvents.{after_events}
+use Rattle.avr_io.specs.Record.{DeskState, ChangesRecord}
+use Rattle.avr_io.specs.declared.record.Opening.{Opening}
+use Rattle.avr_io.specs.OutputEvents.{after_events}
 use Rattle.avr_plan.specs.Plan.{Plan}
 use Rattle.avr_session.specs.Runs.{devices}
 use Rattle.avr_session.specs.Session.{session}

@@ -5,14 +5,14 @@ use Rattle.std.proofs.lemmas.Bool.{cases_Bool}
 use Rattle.std.proofs.lemmas.List.Elements.{filter-append}
 use Rattle.avr_plan.specs.declared.settings.Switches.{Switches}
 use Rattle.avr_desk.proofs.FileUses.Uses.{files_absent, files_opened, files_used}
-use Rattle.avr_desk.proofs.Stages.Outputs.{after_append}
-use Rattle.avr_desk.specs.Named.{is_dash}
-use Rattle.avr_desk.specs.Record.{Bytes, DeskState, ChangesRecord, Record, all_files, all_uses, files_among}
-use Rattle.avr_desk.specs.OutputEvents.{OutputEvent, Opens, PrintsLine, CreatesFile, WritesFile, WritesOutput, after, after_events}
-use Rattle.avr_desk.specs.declared.record.Open.TheVariants.{ToRead}
-use Rattle.avr_desk.specs.declared.record.Opening.{Opening}
-use Rattle.avr_desk.specs.declared.record.Opening.TheVariants.{Absent, Found}
-use Rattle.avr_desk.specs.declared.record.Writing.{Writing}
+use Rattle.avr_io.proofs.Stages.Outputs.{after_append}
+use Rattle.avr_io.specs.Named.{is_dash}
+use Rattle.avr_io.specs.Record.{Bytes, DeskState, ChangesRecord, Record, all_files, all_uses, files_among}
+use Rattle.avr_io.specs.OutputEvents.{OutputEvent, Opens, PrintsLine, CreatesFile, WritesFile, WritesOutput, after, after_events}
+use Rattle.avr_io.specs.declared.record.Open.TheVariants.{ToRead}
+use Rattle.avr_io.specs.declared.record.Opening.{Opening}
+use Rattle.avr_io.specs.declared.record.Opening.TheVariants.{Absent, Found}
+use Rattle.avr_io.specs.declared.record.Writing.{Writing}
 use Rattle.avr_part.specs.Part.{Part}
 use Rattle.avr_plan.specs.Plan.{Plan}
 use Rattle.avr_session.specs.Actions.{SkippedErase, Action, OpenSession, CompareImage, SaveMemory, SkipAction, actions}

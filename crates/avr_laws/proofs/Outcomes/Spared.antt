@@ -1,7 +1,7 @@
 -- Without -F a chip of another signature is left as it was, whatever the status.
 use Rattle.std.proofs.Common.{◌≡◌, ◌∙◌, ℕ, All, false, List, [], ◌++◌, length, refl, sym, subst, Ok, Err, Result, rules}
-use Rattle.avr_desk.specs.OutputEvents.{OutputEvent}
-use Rattle.avr_desk.specs.Record.{Bytes}
+use Rattle.avr_io.specs.OutputEvents.{OutputEvent}
+use Rattle.avr_io.specs.Record.{Bytes}
 use Rattle.avr_part.specs.Part.{Part, IsPart}
 use Rattle.avr_plan.specs.Plan.{Plan, IsFitted}
 use Rattle.avr_session.specs.Session.{ending, opening_output, reported, session, standing, status_of, unless_fault}

@@ -1,6 +1,6 @@
 -- A run that ended anywhere, and then one with status 0, leave what one run leaves.
 use Rattle.std.proofs.Common.{◌≡◌, ℕ, true, false, List, [], All, refl, subst, sym, rules}
-use Rattle.avr_desk.specs.Record.{Record}
+use Rattle.avr_io.specs.Record.{Record}
 use Rattle.avr_part.specs.Part.{Part, IsPart}
 use Rattle.avr_part.specs.Sound.{IsSoundChip}
 use Rattle.avr_part.specs.declared.part.Mem.{Mem}

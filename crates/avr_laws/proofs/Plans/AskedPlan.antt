@@ -11,11 +11,11 @@ use Rattle.avr_plan.specs.declared.update.Format.TheVariants as format
 use Rattle.avr_plan.specs.declared.update.Op.{Op}
 use Rattle.avr_plan.specs.declared.update.Op.TheVariants as op
 use Rattle.avr_plan.specs.declared.update.Update.{Update}
-use Rattle.avr_desk.specs.Record.{Bytes}
-use Rattle.avr_desk.specs.OutputEvents.{OutputEvent, Opens, PrintsLine}
-use Rattle.avr_desk.specs.Stage.{Stage, Produced, ◌>>=◌, file_stage, output_stage, result_stage}
-use Rattle.avr_desk.specs.declared.record.Opening.{Opening}
-use Rattle.avr_desk.specs.declared.record.Opening.TheVariants.{Absent, Found}
+use Rattle.avr_io.specs.Record.{Bytes}
+use Rattle.avr_io.specs.OutputEvents.{OutputEvent, Opens, PrintsLine}
+use Rattle.avr_io.specs.Stage.{Stage, Produced, ◌>>=◌, file_stage, output_stage, result_stage}
+use Rattle.avr_io.specs.declared.record.Opening.{Opening}
+use Rattle.avr_io.specs.declared.record.Opening.TheVariants.{Absent, Found}
 use Rattle.avr_part.specs.Mem.{is_writable}
 use Rattle.avr_part.specs.Part.{Part, size_of}
 use Rattle.avr_part.specs.PartFile.{parts_of}

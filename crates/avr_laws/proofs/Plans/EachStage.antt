@@ -7,9 +7,9 @@ use Rattle.avr_plan.specs.declared.update.Format.TheVariants as format
 use Rattle.avr_plan.specs.declared.update.Op.{Op}
 use Rattle.avr_plan.specs.declared.update.Op.TheVariants as op
 use Rattle.avr_plan.specs.declared.update.Update.{Update}
-use Rattle.avr_desk.specs.Lines.{error}
-use Rattle.avr_desk.specs.Record.{Bytes}
-use Rattle.avr_desk.specs.Stage.{Stage, ◌>>=◌, output_stage, result_stage, file_stage}
+use Rattle.avr_io.specs.Lines.{error}
+use Rattle.avr_io.specs.Record.{Bytes}
+use Rattle.avr_io.specs.Stage.{Stage, ◌>>=◌, output_stage, result_stage, file_stage}
 use Rattle.avr_part.specs.BuiltIn.{part_of_id}
 use Rattle.avr_part.specs.Mem.{is_writable}
 use Rattle.avr_part.specs.Part.{Part}

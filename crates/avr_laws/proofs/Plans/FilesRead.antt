@@ -5,11 +5,11 @@ use Rattle.std.proofs.lemmas.List.{take-append-le, take-append-drop, length-take
 use Rattle.avr_plan.specs.declared.settings.Settings.{Settings}
 use Rattle.avr_plan.specs.declared.update.Format.{Format}
 use Rattle.avr_desk.specs.Memory.{Stock, content_of_name}
-use Rattle.avr_desk.specs.Record.{Bytes}
-use Rattle.avr_desk.specs.OutputEvents.{OutputEvent, Opens, PrintsLine}
-use Rattle.avr_desk.specs.Stage.{Stage, StageResult, Produced, NotReadToEnd, all_events_of, with_events_before, ◌>>=◌, output_stage, result_stage, renamed_opening, content_stage, file_stage}
+use Rattle.avr_io.specs.Record.{Bytes}
+use Rattle.avr_io.specs.OutputEvents.{OutputEvent, Opens, PrintsLine}
+use Rattle.avr_io.specs.Stage.{Stage, StageResult, Produced, NotReadToEnd, all_events_of, with_events_before, ◌>>=◌, output_stage, result_stage, renamed_opening, content_stage, file_stage}
 use Rattle.avr_desk.specs.Truth.{IsTrueOpening}
-use Rattle.avr_desk.specs.declared.record.Opening.{Opening}
+use Rattle.avr_io.specs.declared.record.Opening.{Opening}
 use Rattle.avr_laws.proofs.Limits.{LARGEST_IMAGE_FILE, LARGEST_PART_FILE}
 use Rattle.avr_plan.proofs.Files.Images.{kind-prefix}
 use Rattle.avr_laws.proofs.Plans.EachStage.{whole_plan}

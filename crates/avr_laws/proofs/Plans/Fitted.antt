@@ -13,9 +13,9 @@ use Rattle.avr_plan.specs.declared.update.Update.{Update}
 use Rattle.avr_image.specs.declared.fault.ImageFault.{ImageFault}
 use Rattle.avr_image.specs.Values.{all_ok, onto_ok, fitting, byte_of_value, value_of}
 use Rattle.avr_image.proofs.Lemmas.{laid_size, from_zero_is_a_span}
-use Rattle.avr_desk.specs.Record.{Bytes}
-use Rattle.avr_desk.specs.Stage.{Stage, Produced, ◌>>=◌, result_stage, open_stage, file_stage, content_stage, output_stage}
-use Rattle.avr_desk.specs.declared.record.Opening.{Opening}
+use Rattle.avr_io.specs.Record.{Bytes}
+use Rattle.avr_io.specs.Stage.{Stage, Produced, ◌>>=◌, result_stage, open_stage, file_stage, content_stage, output_stage}
+use Rattle.avr_io.specs.declared.record.Opening.{Opening}
 use Rattle.avr_part.specs.Mem.{is_writable}
 use Rattle.avr_part.specs.Part.{Part, size_of}
 use Rattle.avr_records.specs.declared.kind.Ending.{Ending}

@@ -2,15 +2,15 @@
 use Rattle.std.proofs.Common.{◌≡◌, ◌∙◌, ap, subst, List, [], ◌∷◌, ◌++◌, append-nil, refl, rules}
 use Rattle.avr_plan.specs.declared.settings.Settings.{Settings}
 use Rattle.avr_desk.proofs.FileUses.Uses.{openings_used}
-use Rattle.avr_desk.proofs.Stages.Breaks.{openings_in, openings_shown}
+use Rattle.avr_io.proofs.Stages.Breaks.{openings_in, openings_shown}
 use Rattle.avr_desk.specs.Memory.{Stock, content_of_name}
-use Rattle.avr_desk.specs.Record.{DeskState, ChangesRecord, Record, all_openings, all_uses, openings_among}
-use Rattle.avr_desk.specs.OutputEvents.{OutputEvent, Opens, after_events}
-use Rattle.avr_desk.specs.StageRuns.{StageCompleted}
-use Rattle.avr_desk.specs.Stage.{Produced, StageResult}
+use Rattle.avr_io.specs.Record.{DeskState, ChangesRecord, Record, all_openings, all_uses, openings_among}
+use Rattle.avr_io.specs.OutputEvents.{OutputEvent, Opens, after_events}
+use Rattle.avr_io.specs.StageRuns.{StageCompleted}
+use Rattle.avr_io.specs.Stage.{Produced, StageResult}
 use Rattle.avr_desk.specs.Truth.{IsTrueOpening}
-use Rattle.avr_desk.specs.declared.record.Opening.{Opening}
-use Rattle.avr_desk.specs.declared.record.Opening.TheVariants.{Absent, Found}
+use Rattle.avr_io.specs.declared.record.Opening.{Opening}
+use Rattle.avr_io.specs.declared.record.Opening.TheVariants.{Absent, Found}
 use Rattle.avr_plan.specs.Plan.{Plan}
 use Rattle.avr_plan.specs.Planning.{planned}
 use Rattle.avr_laws.proofs.Plans.AskedPlan.{AreRead, IsReadBy, plan_asked}

@@ -1,14 +1,14 @@
 -- Planning only reads and reports, stage by stage.
 use Rattle.std.proofs.Common.{ℕ, List, [], ◌∷◌, ◌++◌, Result, rules, arith}
 use Rattle.avr_plan.specs.declared.settings.Settings.{Settings}
-use Rattle.avr_desk.specs.declared.record.Opening.{Opening}
-use Rattle.avr_desk.specs.Record.{Bytes}
-use Rattle.avr_desk.specs.OutputEvents.{OutputEvent, Opens, PrintsLine}
+use Rattle.avr_io.specs.declared.record.Opening.{Opening}
+use Rattle.avr_io.specs.Record.{Bytes}
+use Rattle.avr_io.specs.OutputEvents.{OutputEvent, Opens, PrintsLine}
 use Rattle.avr_laws.proofs.Limits.{LARGEST_IMAGE_FILE, LARGEST_PART_FILE}
 use Rattle.avr_laws.proofs.Plans.EachStage.{whole_plan}
 use Rattle.avr_laws.specs.OnlyReading.{OnlyReadsAndPrints}
 use Rattle.avr_plan.specs.Planning.{checked_parts, checked_image, planned}
-use Rattle.avr_desk.specs.Stage.{Stage, StageOutcome, Refused, events_with_refusal, all_events_of, continued_stage, file_stage}
+use Rattle.avr_io.specs.Stage.{Stage, StageOutcome, Refused, events_with_refusal, all_events_of, continued_stage, file_stage}
 
 -- a stage that only reads and reports
 abbrev Reads : {A : Type 0} → Stage A → Type 0

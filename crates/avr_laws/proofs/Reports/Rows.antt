@@ -4,9 +4,9 @@ use Rattle.std.proofs.lemmas.Grind.{common_steps}
 use Rattle.std.proofs.Common.{◌≡◌, ℕ, List, [], ◌∷◌, ◌++◌, Some, None, take, ap, arith, ◌⊎◌, rules}
 use Rattle.std.proofs.lemmas.List.{append-nil, reverse-append, take-append-le}
 use Rattle.std.specs.Prelude.{codes, reverse, slice_index}
-use Rattle.avr_desk.specs.Record.{Bytes}
-use Rattle.avr_desk.specs.Lines.{information}
-use Rattle.avr_desk.specs.OutputEvents.{OutputEvent, PrintsLine, CreatesFile, WritesFile, WritesOutput}
+use Rattle.avr_io.specs.Record.{Bytes}
+use Rattle.avr_io.specs.Lines.{information}
+use Rattle.avr_io.specs.OutputEvents.{OutputEvent, PrintsLine, CreatesFile, WritesFile, WritesOutput}
 use Rattle.avr_part.specs.declared.part.Mem.{Mem}
 use Rattle.avr_part.specs.declared.part.Mem.TheVariants.{Eeprom}
 use Rattle.avr_plan.specs.Plan.{Plan}

@@ -3,7 +3,7 @@
 use Rattle.std.proofs.Common.{◌≡◌, ap, arith, refl, rules, ℕ, zero, suc, All, List, [], ◌∷◌, take, append-nil, Some}
 use Rattle.std.proofs.lemmas.List.Elements.{All-cons, All-nil}
 use Rattle.std.specs.Prelude.{slice_index}
-use Rattle.avr_desk.specs.Record.{Bytes, Record}
+use Rattle.avr_io.specs.Record.{Bytes, Record}
 use Rattle.avr_part.specs.BuiltIn.{m328p}
 use Rattle.avr_part.specs.Part.{IsPart}
 use Rattle.avr_part.specs.State.{fresh_state}

@@ -4,8 +4,8 @@ use Rattle.std.proofs.lemmas.List.{append_cancel_left}
 use Rattle.std.specs.Prelude.{codes, replicate}
 use Rattle.avr_plan.specs.declared.update.Format.TheVariants.{Raw}
 use Rattle.avr_plan.specs.declared.planned.Task.{Task}
-use Rattle.avr_desk.specs.Record.{Bytes, Record, all_uses, openings_among}
-use Rattle.avr_desk.specs.declared.record.Opening.{Opening}
+use Rattle.avr_io.specs.Record.{Bytes, Record, all_uses, openings_among}
+use Rattle.avr_io.specs.declared.record.Opening.{Opening}
 use Rattle.avr_image.specs.Image.{from_zero}
 use Rattle.avr_part.specs.BuiltIn.{m328p}
 use Rattle.avr_part.specs.Part.{Part}

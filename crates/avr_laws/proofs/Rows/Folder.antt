@@ -18,13 +18,13 @@ use Rattle.std.specs.declared.io.Write.{Ghosts as Writes}
 use Rattle.std.proofs.lemmas.List.Elements.{All-cons, All-nil}
 use Rattle.avr_desk.specs.Handles.{CrashLeaves, IsTrueRecord, IsTrueUse}
 use Rattle.avr_desk.specs.declared.file_system.FileSystem.{Ghosts as Systems}
-use Rattle.avr_desk.specs.declared.record.FileUse.TheVariants.{Created}
-use Rattle.avr_desk.specs.declared.record.Writing.{Writing}
+use Rattle.avr_io.specs.declared.record.FileUse.TheVariants.{Created}
+use Rattle.avr_io.specs.declared.record.Writing.{Writing}
 use Rattle.avr_desk.specs.declared.system.OpenFile.TheVariants.{Nothing}
 use Rattle.std.specs.declared.io.Error.{Error}
 use Rattle.std.specs.declared.io.ErrorKind.TheVariants as ErrorKind
 use Rattle.avr_desk.specs.Journal.{FileCall, SystemCalls, Gives, Opens, AddsCalls, ChangesCalls, Counts, CrashLeavesNoMore, CrashMayAlsoLeave, IsUncounted, TakesHold, made, with_calls, with_one_more_held}
-use Rattle.avr_desk.specs.Record.{Bytes, Record, nothing_kept}
+use Rattle.avr_io.specs.Record.{Bytes, Record, nothing_kept}
 use Rattle.avr_desk.specs.declared.folder.Folder.{Ghosts}
 use Rattle.ghosts.specs.Preserves.{Preserves}
 use Rattle.avr_laws.proofs.Memories.Bytes.{bytes_same}

@@ -4,7 +4,7 @@ use Rattle.std.proofs.Common.{◌≡◌, ◌∙◌, ap, arith, ℕ, List, [], �
 use Rattle.std.specs.Prelude.{⊤, IfOk, OnOk, replicate}
 use Rattle.avr_part.specs.BuiltIn.{m328p}
 use Rattle.avr_part.specs.declared.part.Mem.TheVariants.{Flash, Eeprom, Lock}
-use Rattle.avr_desk.specs.OutputEvents.{OutputEvent, PrintsLine}
+use Rattle.avr_io.specs.OutputEvents.{OutputEvent, PrintsLine}
 use Rattle.stk_frame.specs.Commands.{body}
 use Rattle.stk_frame.specs.Frame.{frame}
 use Rattle.stk_frame.specs.HostCommands.{erase, program_eeprom_block, read_lock}

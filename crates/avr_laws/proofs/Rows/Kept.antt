@@ -3,10 +3,10 @@ use Rattle.std.proofs.Common.{◌≡◌, ◌∙◌, ap, sym, arith, ℕ, Bool, f
 use Rattle.std.proofs.lemmas.Bool.{false≢true}
 use Rattle.std.specs.Prelude.{codes, slice_index}
 use Rattle.avr_plan.specs.declared.update.Format.TheVariants.{Raw}
-use Rattle.avr_desk.specs.Record.{Bytes, Record, all_uses, files_among}
-use Rattle.avr_desk.specs.declared.record.Opening.{Opening}
-use Rattle.avr_desk.specs.declared.record.Opening.TheVariants.{Found}
-use Rattle.avr_desk.specs.declared.record.Writing.{Writing}
+use Rattle.avr_io.specs.Record.{Bytes, Record, all_uses, files_among}
+use Rattle.avr_io.specs.declared.record.Opening.{Opening}
+use Rattle.avr_io.specs.declared.record.Opening.TheVariants.{Found}
+use Rattle.avr_io.specs.declared.record.Writing.{Writing}
 use Rattle.avr_part.specs.declared.part.Mem.TheVariants.{Lfuse}
 use Rattle.avr_plan.specs.Plan.{Plan}
 use Rattle.avr_plan.specs.declared.planned.Task.TheVariants.{Read}

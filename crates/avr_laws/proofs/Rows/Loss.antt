@@ -1,7 +1,7 @@
 -- The worked run over a bad link meets all premises of the promise, and ends with status 0.
 use Rattle.std.proofs.Common.{◌≡◌, arith, rules, [], ◌∷◌, refl, Some}
 use Rattle.hex.specs.Hex.{decode_pairs}
-use Rattle.avr_desk.specs.Record.{all_openings}
+use Rattle.avr_io.specs.Record.{all_openings}
 use Rattle.std.proofs.lemmas.List.Elements.{All-cons, All-nil}
 use Rattle.avr_part.specs.Part.{IsPart}
 use Rattle.avr_part.specs.Sound.{IsSoundChip}

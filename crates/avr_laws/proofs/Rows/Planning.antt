@@ -10,11 +10,11 @@ use Rattle.avr_plan.specs.declared.update.Format.TheVariants.{Ihex, Immediate}
 use Rattle.avr_plan.specs.declared.update.Op.TheVariants as op
 use Rattle.avr_plan.specs.declared.update.Update.{Update}
 use Rattle.ghosts.specs.Failures.{NoFailureCounted}
-use Rattle.avr_desk.specs.Record.{DeskState, Record, after_err, showing, Bytes}
-use Rattle.avr_desk.specs.declared.record.Opening.{Opening}
-use Rattle.avr_desk.specs.declared.record.Opening.TheVariants.{Found}
-use Rattle.avr_desk.specs.Lines.{error, memory_line, not_opened_line}
-use Rattle.avr_desk.specs.OutputEvents.{OutputEvent, Opens, PrintsLine, ReportsLineAs, ReportsFailureAs, after_events}
+use Rattle.avr_io.specs.Record.{DeskState, Record, after_err, showing, Bytes}
+use Rattle.avr_io.specs.declared.record.Opening.{Opening}
+use Rattle.avr_io.specs.declared.record.Opening.TheVariants.{Found}
+use Rattle.avr_io.specs.Lines.{error, memory_line, not_opened_line}
+use Rattle.avr_io.specs.OutputEvents.{OutputEvent, Opens, PrintsLine, ReportsLineAs, ReportsFailureAs, after_events}
 use Rattle.avr_part.specs.BuiltIn.{m328p}
 use Rattle.avr_part.specs.declared.part.Mem.TheVariants.{Eeprom, Flash}
 use Rattle.avr_records.specs.declared.kind.Ending.{Ending}
@@ -23,11 +23,11 @@ use Rattle.avr_plan.specs.Lines.{no_part_pieces}
 use Rattle.avr_plan.specs.Plan.{Plan}
 use Rattle.avr_plan.specs.Planning.{planned, file_image_stage, checked_image}
 use Rattle.avr_plan.specs.AllocationPoints.{AtAllocatingUpdate, op_allocates}
-use Rattle.avr_desk.specs.StageRuns.{OnlyAtStart, RunsStage}
-use Rattle.avr_desk.specs.Stage.{Stage, Produced, Refused, result_stage, file_stage, ◌>>=◌}
+use Rattle.avr_io.specs.StageRuns.{OnlyAtStart, RunsStage}
+use Rattle.avr_io.specs.Stage.{Stage, Produced, Refused, result_stage, file_stage, ◌>>=◌}
 use Rattle.avr_plan.specs.declared.planned.Task.{Task}
 use Rattle.avr_plan.specs.declared.planned.Task.TheVariants.{Write}
-use Rattle.avr_desk.proofs.Stages.Breaks.{Begins, begins_then, begins_file, unopened, opened_is_reported, ReportsOne, refused_once}
+use Rattle.avr_io.proofs.Stages.Breaks.{Begins, begins_then, begins_file, unopened, opened_is_reported, ReportsOne, refused_once}
 
 -- the limits of an image's file and of a part file
 limits : (LARGEST_IMAGE_FILE ≡ 4194304) × (LARGEST_PART_FILE ≡ 65536)

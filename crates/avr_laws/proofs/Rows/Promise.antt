@@ -21,15 +21,15 @@ use Rattle.avr_plan.specs.declared.update.Format.TheVariants.{Immediate}
 use Rattle.avr_plan.specs.declared.update.Op.TheVariants as op
 use Rattle.avr_desk.specs.Handles.{IsTrueUse}
 use Rattle.avr_desk.specs.Journal.{SystemCalls, Opens, calls_of_record, no_calls}
-use Rattle.avr_desk.specs.OutputEvents.{after_events}
-use Rattle.avr_desk.specs.Record.{Bytes, DeskState, Record, all_openings, nothing_kept, showing, with_absent, with_replaced}
+use Rattle.avr_io.specs.OutputEvents.{after_events}
+use Rattle.avr_io.specs.Record.{Bytes, DeskState, Record, all_openings, nothing_kept, showing, with_absent, with_replaced}
 use Rattle.avr_desk.specs.Shown.{IsNewDesk, Shown}
 use Rattle.avr_desk.specs.declared.file_system.FileSystem.{Ghosts}
-use Rattle.avr_desk.specs.declared.record.FileUse.{FileUse}
-use Rattle.avr_desk.specs.declared.record.FileUse.TheVariants.{Opened, Created}
-use Rattle.avr_desk.specs.declared.record.Opening.{Opening}
-use Rattle.avr_desk.specs.declared.record.Opening.TheVariants.{Absent, Found}
-use Rattle.avr_desk.specs.declared.record.Writing.{Writing}
+use Rattle.avr_io.specs.declared.record.FileUse.{FileUse}
+use Rattle.avr_io.specs.declared.record.FileUse.TheVariants.{Opened, Created}
+use Rattle.avr_io.specs.declared.record.Opening.{Opening}
+use Rattle.avr_io.specs.declared.record.Opening.TheVariants.{Absent, Found}
+use Rattle.avr_io.specs.declared.record.Writing.{Writing}
 use Rattle.avr_desk.specs.declared.system.OpenFile.TheVariants.{Nothing}
 use Rattle.avr_part.specs.BuiltIn.{built_in_parts, has_id, m328p}
 use Rattle.avr_part.specs.Part.{Part, IsPart}

@@ -6,12 +6,12 @@ use Rattle.avr_plan.specs.declared.settings.Settings.{Settings}
 use Rattle.avr_plan.specs.declared.settings.Switches.{Switches}
 use Rattle.avr_plan.specs.declared.update.Format.TheVariants.{Raw}
 use Rattle.avr_plan.specs.declared.update.Op.TheVariants as op
-use Rattle.avr_desk.specs.Named.{newest}
-use Rattle.avr_desk.specs.Record.{Bytes}
-use Rattle.avr_desk.specs.declared.record.Writing.{Writing}
-use Rattle.avr_desk.specs.Stage.{Produced}
-use Rattle.avr_desk.specs.declared.record.Opening.{Opening}
-use Rattle.avr_desk.specs.declared.record.Opening.TheVariants.{Found}
+use Rattle.avr_io.specs.Named.{newest}
+use Rattle.avr_io.specs.Record.{Bytes}
+use Rattle.avr_io.specs.declared.record.Writing.{Writing}
+use Rattle.avr_io.specs.Stage.{Produced}
+use Rattle.avr_io.specs.declared.record.Opening.{Opening}
+use Rattle.avr_io.specs.declared.record.Opening.TheVariants.{Found}
 use Rattle.avr_part.specs.BuiltIn.{m328p}
 use Rattle.avr_part.specs.ChipFile.{chip_file}
 use Rattle.avr_part.specs.Part.{Part, IsPart}

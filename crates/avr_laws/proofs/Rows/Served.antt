@@ -1,10 +1,10 @@
 -- The limit of a chip file. Then worked outcomes that contracts refuse: of holding, of saving, and of
 -- replies to a frame with a command that no programmer knows.
 use Rattle.std.proofs.Common.{◌≡◌, refl, ap, ℕ, List, [], ◌∷◌, length, Ok, Err, arith, rules}
-use Rattle.avr_desk.specs.Record.{Bytes, DeskState, Record, after_err, nothing_kept, showing, with_held, with_replaced}
+use Rattle.avr_io.specs.Record.{Bytes, DeskState, Record, after_err, nothing_kept, showing, with_held, with_replaced}
 use Rattle.avr_laws.proofs.Limits.{LARGEST_CHIP_FILE}
 use Rattle.avr_tool.specs.Holding.{LocksFile}
-use Rattle.avr_desk.specs.Lines.{error}
+use Rattle.avr_io.specs.Lines.{error}
 use Rattle.avr_tool.specs.Lines.{in_use_pieces}
 use Rattle.avr_tool.specs.Saving.{SavesChip}
 use Rattle.stk_host.specs.declared.link.Item.TheVariants.{End}

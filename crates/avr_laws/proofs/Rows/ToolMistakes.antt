@@ -16,14 +16,14 @@ use Rattle.avr_part.specs.BuiltIn.{m328p}
 use Rattle.avr_part.specs.ChipFile.{chip_file}
 use Rattle.avr_part.specs.Part.{Part}
 use Rattle.avr_part.specs.State.{ChipState as Chip, fresh_state}
-use Rattle.avr_desk.specs.OutputEvents.{CreatesFile, after, after_opening}
-use Rattle.avr_desk.specs.Lines.{error}
-use Rattle.avr_desk.specs.Record.{Bytes, DeskState, Record, after_err, all_uses, nothing_kept, showing, with_absent, with_held, with_none_held, with_replaced}
-use Rattle.avr_desk.specs.declared.record.FileUse.TheVariants.{Opened, Created}
-use Rattle.avr_desk.specs.declared.record.Open.TheVariants.{Closed}
-use Rattle.avr_desk.specs.declared.record.Opening.{Opening}
-use Rattle.avr_desk.specs.declared.record.Opening.TheVariants.{Absent, Found}
-use Rattle.avr_desk.specs.declared.record.Writing.{Writing}
+use Rattle.avr_io.specs.OutputEvents.{CreatesFile, after, after_opening}
+use Rattle.avr_io.specs.Lines.{error}
+use Rattle.avr_io.specs.Record.{Bytes, DeskState, Record, after_err, all_uses, nothing_kept, showing, with_absent, with_held, with_none_held, with_replaced}
+use Rattle.avr_io.specs.declared.record.FileUse.TheVariants.{Opened, Created}
+use Rattle.avr_io.specs.declared.record.Open.TheVariants.{Closed}
+use Rattle.avr_io.specs.declared.record.Opening.{Opening}
+use Rattle.avr_io.specs.declared.record.Opening.TheVariants.{Absent, Found}
+use Rattle.avr_io.specs.declared.record.Writing.{Writing}
 use Rattle.avr_plan.specs.Command.{avrstk, options, settings_from_arguments}
 use Rattle.avr_plan.specs.Lines.{no_part_pieces}
 use Rattle.avr_plan.specs.Plan.{Plan}

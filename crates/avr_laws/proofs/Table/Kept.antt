@@ -1,6 +1,6 @@
 -- With status 0 the plan is kept, at any programmer that keeps the rows that a sheet vouches for.
 use Rattle.std.proofs.Common.{◌≡◌, ◌⊎◌, ℕ, inl, inr, refl, subst, arith, []}
-use Rattle.avr_desk.specs.Stage.{Produced}
+use Rattle.avr_io.specs.Stage.{Produced}
 use Rattle.avr_part.specs.declared.part.Mem.{Mem}
 use Rattle.avr_part.specs.Part.{Part}
 use Rattle.avr_plan.specs.Plan.{Plan}

@@ -3,11 +3,11 @@ use Rattle.std.proofs.Common.{◌≡◌, ◌∙◌, sym, ap, arith, ℕ, ◌+◌
 use Rattle.std.proofs.Math.Seq.{take-append-add}
 use Rattle.std.proofs.lemmas.Bool.Decides.{nat_tests}
 use Rattle.std.proofs.lemmas.List.{take-take, take-append-le}
-use Rattle.avr_desk.proofs.FileUses.Pieces.{read_next, read_piece}
+use Rattle.avr_io.proofs.FilePieces.{read_next, read_piece}
 use Rattle.avr_plan.specs.declared.update.Format.{Format}
-use Rattle.avr_desk.specs.Files.{FileBreaks, after_reading}
-use Rattle.avr_desk.specs.Record.{DeskState, ChangesRecord, after_open, after_read, Bytes}
-use Rattle.avr_desk.specs.declared.files.FileFault.TheVariants.{NotRead}
+use Rattle.avr_io.specs.Files.{FileBreaks, after_reading}
+use Rattle.avr_io.specs.Record.{DeskState, ChangesRecord, after_open, after_read, Bytes}
+use Rattle.avr_io.specs.declared.files.FileFault.TheVariants.{NotRead}
 use Rattle.avr_records.specs.Detect.{format_of_file}
 use Rattle.avr_records.specs.declared.kind.Found.{Found}
 use Rattle.avr_plan.specs.ImageFile.{ImageOrBadFile, image_of_file, fault_of_long_file, kind_of}

@@ -1,7 +1,7 @@
 -- What the first bytes of a file decide about the whole.
 use Rattle.std.proofs.Common.{◌≡◌, ◌∙◌, sym, ap, refl, ℕ, [], ◌++◌, Some, None, Err, append-nil, rules}
 use Rattle.avr_image.specs.Raw as raw_file
-use Rattle.avr_desk.specs.Record.{Bytes}
+use Rattle.avr_io.specs.Record.{Bytes}
 use Rattle.avr_records.proofs.Readers.Fed.{reads_sound}
 use Rattle.avr_records.specs.Closed.{ended_lines_fault}
 use Rattle.avr_records.specs.Reading.{ok_unless}

@@ -4,7 +4,7 @@ use Rattle.std.proofs.lemmas.Bool.{cases_Bool}
 use Rattle.std.proofs.lemmas.List.{length-replicate}
 use Rattle.avr_plan.specs.declared.update.Format.{Format}
 use Rattle.avr_image.proofs.Lemmas.{laid_size, from_zero_is_a_span}
-use Rattle.avr_desk.specs.Record.{Bytes}
+use Rattle.avr_io.specs.Record.{Bytes}
 use Rattle.avr_records.specs.declared.kind.Ending.{Ending}
 use Rattle.avr_records.specs.declared.kind.Found.{Found}
 use Rattle.avr_plan.specs.ImageFile.{image_of_file, image_within, kind_of}

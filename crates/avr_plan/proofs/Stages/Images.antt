@@ -2,22 +2,22 @@
 use Rattle.std.proofs.Common.{◌≡◌, sym, ap, ℕ, false, List, Option, Ok, Err, rules}
 use Rattle.avr_plan.specs.declared.settings.Switches.{Switches}
 use Rattle.avr_plan.specs.declared.update.Format.{Format}
-use Rattle.avr_desk.specs.Fault.{CountsNeverFall, HasSameCounts}
-use Rattle.avr_desk.specs.Files.{FileBreaks}
-use Rattle.avr_desk.specs.Lines.{error, memory_line}
-use Rattle.avr_desk.specs.declared.files.FileFault.TheVariants as file_fault
-use Rattle.avr_desk.specs.Record.{DeskState, Bytes}
-use Rattle.avr_desk.specs.OutputEvents.{ReportsLine}
+use Rattle.avr_io.specs.Fault.{CountsNeverFall, HasSameCounts}
+use Rattle.avr_io.specs.Files.{FileBreaks}
+use Rattle.avr_io.specs.Lines.{error, memory_line}
+use Rattle.avr_io.specs.declared.files.FileFault.TheVariants as file_fault
+use Rattle.avr_io.specs.Record.{DeskState, Bytes}
+use Rattle.avr_io.specs.OutputEvents.{ReportsLine}
 use Rattle.avr_records.specs.declared.kind.Ending.{Ending}
-use Rattle.avr_desk.proofs.Lines.ReportedAs.{follows_same}
-use Rattle.avr_desk.proofs.Stages.Files.{runs_read_file, completed_read_file, runs_file_fault, never_allocates}
-use Rattle.avr_desk.proofs.Stages.Played.{runs_then, runs_first_only, runs_bad_result, completed_then, completed_good_result}
+use Rattle.avr_io.proofs.Lines.ReportedAs.{follows_same}
+use Rattle.avr_io.proofs.Stages.Files.{runs_read_file, completed_read_file, runs_file_fault, never_allocates}
+use Rattle.avr_io.proofs.Stages.Played.{runs_then, runs_first_only, runs_bad_result, completed_then, completed_good_result}
 use Rattle.avr_plan.specs.declared.image_file.TheConstants.{LARGEST_IMAGE_FILE}
 use Rattle.avr_plan.specs.ImageReading.{CountsReadFault, MatchRead, ReadsImage}
 use Rattle.avr_plan.specs.Lines.{bad_file_pieces, image_pieces}
 use Rattle.avr_plan.specs.Planning.{file_image_stage, checked_image, or_line, warning_events}
-use Rattle.avr_desk.specs.StageRuns.{OnlyAtStart, RunsStage, StageCompleted}
-use Rattle.avr_desk.specs.Stage.{Stage, Produced, ◌>>=◌, result_stage, output_stage, file_stage}
+use Rattle.avr_io.specs.StageRuns.{OnlyAtStart, RunsStage, StageCompleted}
+use Rattle.avr_io.specs.Stage.{Stage, Produced, ◌>>=◌, result_stage, output_stage, file_stage}
 use Rattle.avr_plan.specs.declared.intake.BadFile.{BadFile}
 use Rattle.avr_plan.specs.declared.image_file.ReadFault.{ReadFault}
 use Rattle.avr_plan.specs.declared.image_file.ReadFault.TheVariants as fault_of

@@ -1,23 +1,23 @@
 -- The parts of a part file.
 use Rattle.std.proofs.Common.{◌≡◌, ◌∙◌, sym, ap, refl, arith, ℕ, List, length, Bool, true, false, nat_le, Ok, Err, inl, inr, subst, rules}
 use Rattle.std.proofs.lemmas.Bool.Decides.{nat_tests}
-use Rattle.avr_desk.specs.Fault.{HasSameCounts}
-use Rattle.avr_desk.specs.Files.{EndsOrExceedsLimit, with_read}
-use Rattle.avr_desk.specs.declared.files.FileFault.TheVariants as file_fault
-use Rattle.avr_desk.specs.Record.{DeskState, ChangesRecord, Bytes}
-use Rattle.avr_desk.specs.Lines.{error, too_long_line}
-use Rattle.avr_desk.specs.OutputEvents.{ReportsLine}
+use Rattle.avr_io.specs.Fault.{HasSameCounts}
+use Rattle.avr_io.specs.Files.{EndsOrExceedsLimit, with_read}
+use Rattle.avr_io.specs.declared.files.FileFault.TheVariants as file_fault
+use Rattle.avr_io.specs.Record.{DeskState, ChangesRecord, Bytes}
+use Rattle.avr_io.specs.Lines.{error, too_long_line}
+use Rattle.avr_io.specs.OutputEvents.{ReportsLine}
 use Rattle.avr_part.specs.Part.{Part}
 use Rattle.avr_part.specs.PartFile.{NamedFault, ReadsUnlessOutOfMemory, of_file, parts_of}
 use Rattle.avr_part.specs.declared.fault.PartFault.TheVariants.{Memory}
-use Rattle.avr_desk.proofs.Stages.Files.{runs_read_file, completed_read_file, runs_file_fault}
-use Rattle.avr_desk.proofs.Lines.ReportedAs.{follows_same}
-use Rattle.avr_desk.proofs.Stages.Played.{completed_good_result, runs_bad_result}
+use Rattle.avr_io.proofs.Stages.Files.{runs_read_file, completed_read_file, runs_file_fault}
+use Rattle.avr_io.proofs.Lines.ReportedAs.{follows_same}
+use Rattle.avr_io.proofs.Stages.Played.{completed_good_result, runs_bad_result}
 use Rattle.avr_plan.specs.declared.part_choice.TheConstants.{LARGEST_PART_FILE}
 use Rattle.avr_plan.specs.Lines.{part_file_pieces}
 use Rattle.avr_plan.specs.Planning.{checked_parts, or_line}
-use Rattle.avr_desk.specs.StageRuns.{OnlyAtStart, RunsStage, StageCompleted}
-use Rattle.avr_desk.specs.Stage.{Produced, file_stage}
+use Rattle.avr_io.specs.StageRuns.{OnlyAtStart, RunsStage, StageCompleted}
+use Rattle.avr_io.specs.Stage.{Produced, file_stage}
 
 -- A part file past its limit was refused.
 pub long_parts_refused : (file bytes : Bytes) (ended : Bool) (old mid new : DeskState) (status : ℕ)

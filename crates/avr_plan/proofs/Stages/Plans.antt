@@ -1,17 +1,17 @@
 -- The stages of a plan, one after another.
 use Rattle.std.proofs.Common.{◌≡◌, ap, append-nil, ℕ, false, List, [], ◌++◌, Ok, Err, rules}
 use Rattle.avr_plan.specs.declared.settings.Settings.{Settings}
-use Rattle.avr_desk.specs.Record.{DeskState}
+use Rattle.avr_io.specs.Record.{DeskState}
 use Rattle.avr_part.specs.Part.{Part}
-use Rattle.avr_desk.specs.OutputEvents.{OutputEvent}
-use Rattle.avr_desk.specs.declared.record.Opening.{Opening}
-use Rattle.avr_desk.proofs.Stages.Files.{never_allocates}
-use Rattle.avr_desk.proofs.Stages.Played.{runs_then, runs_first_only, completed_then}
+use Rattle.avr_io.specs.OutputEvents.{OutputEvent}
+use Rattle.avr_io.specs.declared.record.Opening.{Opening}
+use Rattle.avr_io.proofs.Stages.Files.{never_allocates}
+use Rattle.avr_io.proofs.Stages.Played.{runs_then, runs_first_only, completed_then}
 use Rattle.avr_plan.specs.Plan.{Plan}
 use Rattle.avr_plan.specs.Planning.{parts_stage, part_stage, tasks_stage, planned}
-use Rattle.avr_desk.specs.StageRuns.{OnlyAtStart, RunsStage, AllocationPoints, StageCompleted}
+use Rattle.avr_io.specs.StageRuns.{OnlyAtStart, RunsStage, AllocationPoints, StageCompleted}
 use Rattle.avr_plan.specs.AllocationPoints.{AtAllocatingUpdate, AtAllocatingTask}
-use Rattle.avr_desk.specs.Stage.{Stage, Produced, continued_stage, ◌>>=◌, result_stage}
+use Rattle.avr_io.specs.Stage.{Stage, Produced, continued_stage, ◌>>=◌, result_stage}
 use Rattle.avr_plan.specs.declared.planned.Task.{Task}
 
 -- The plan of this part and these tasks.

@@ -1,8 +1,8 @@
 -- The last line about a refused plan, seen from an earlier state.
 use Rattle.std.proofs.Common.{rules}
 use Rattle.avr_plan.specs.declared.update.Update.{Update}
-use Rattle.avr_desk.specs.Fault.{HasSameCounts}
-use Rattle.avr_desk.specs.Record.{DeskState}
+use Rattle.avr_io.specs.Fault.{HasSameCounts}
+use Rattle.avr_io.specs.Record.{DeskState}
 use Rattle.avr_plan.specs.PlanFaults.{ReportsTaskFault}
 use Rattle.avr_plan.specs.declared.plan_fault.TaskFault.{TaskFault}
 

@@ -4,16 +4,16 @@ use Rattle.avr_plan.specs.declared.settings.Switches.{Switches}
 use Rattle.avr_plan.specs.declared.update.Format.{Format}
 use Rattle.avr_plan.specs.declared.update.Format.TheVariants.{Immediate}
 use Rattle.avr_plan.specs.declared.update.Update.{Update}
-use Rattle.avr_desk.specs.Record.{DeskState, Bytes}
-use Rattle.avr_desk.specs.OutputEvents.{OutputEvent}
-use Rattle.avr_desk.specs.declared.record.Opening.{Opening}
+use Rattle.avr_io.specs.Record.{DeskState, Bytes}
+use Rattle.avr_io.specs.OutputEvents.{OutputEvent}
+use Rattle.avr_io.specs.declared.record.Opening.{Opening}
 use Rattle.avr_part.specs.Part.{Part}
 use Rattle.avr_part.specs.declared.part.Mem.{Mem}
-use Rattle.avr_desk.proofs.Stages.Played.{runs_then, runs_first_only, runs_with_more_allocations}
+use Rattle.avr_io.proofs.Stages.Played.{runs_then, runs_first_only, runs_with_more_allocations}
 use Rattle.avr_plan.specs.Planning.{file_image_stage, image_stage, task_stage, tasks_stage}
-use Rattle.avr_desk.specs.StageRuns.{OnlyAtStart, RunsStage, StageCompleted}
+use Rattle.avr_io.specs.StageRuns.{OnlyAtStart, RunsStage, StageCompleted}
 use Rattle.avr_plan.specs.AllocationPoints.{AtAllocatingTask, has_immediate_values, op_allocates}
-use Rattle.avr_desk.specs.Stage.{Produced}
+use Rattle.avr_io.specs.Stage.{Produced}
 use Rattle.avr_plan.specs.declared.planned.Task.{Task}
 
 -- If the values are not on the command line, the stage of an image is that of its file.

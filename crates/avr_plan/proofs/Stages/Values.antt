@@ -2,18 +2,18 @@
 use Rattle.std.proofs.Common.{◌≡◌, sym, ap, ℕ, true, List, Option, Ok, Err, inl, inr, rules}
 use Rattle.avr_plan.specs.declared.settings.Switches.{Switches}
 use Rattle.avr_plan.specs.declared.update.Format.TheVariants.{Immediate}
-use Rattle.avr_desk.specs.Record.{DeskState, Bytes}
+use Rattle.avr_io.specs.Record.{DeskState, Bytes}
 use Rattle.avr_image.specs.Fault.{OrOutOfMemory}
 use Rattle.avr_image.specs.Values.{image_of_values}
 use Rattle.avr_image.specs.declared.fault.ImageFault.{ImageFault}
-use Rattle.avr_desk.specs.Lines.{error, memory_line}
-use Rattle.avr_desk.specs.OutputEvents.{ReportsLine}
+use Rattle.avr_io.specs.Lines.{error, memory_line}
+use Rattle.avr_io.specs.OutputEvents.{ReportsLine}
 use Rattle.avr_part.specs.declared.part.Mem.{Mem}
-use Rattle.avr_desk.proofs.Stages.Played.{completed_good_result, runs_bad_result, runs_without_memory}
+use Rattle.avr_io.proofs.Stages.Played.{completed_good_result, runs_bad_result, runs_without_memory}
 use Rattle.avr_plan.specs.Lines.{values_pieces}
 use Rattle.avr_plan.specs.Planning.{image_stage, or_line}
-use Rattle.avr_desk.specs.StageRuns.{OnlyAtStart, RunsStage, StageCompleted}
-use Rattle.avr_desk.specs.Stage.{Produced}
+use Rattle.avr_io.specs.StageRuns.{OnlyAtStart, RunsStage, StageCompleted}
+use Rattle.avr_io.specs.Stage.{Produced}
 
 -- An optional byte for each address.
 abbrev Image : Type 0

@@ -2,7 +2,7 @@
 use Rattle.std.proofs.Common.{◌≡◌, ℕ, true, false, List, [], ◌∷◌, ◌++◌, map, refl, ap, ◌∙◌, subst, append-nil, Option, Some, None, Result, rules}
 use Rattle.std.proofs.lemmas.Bool.{or_parts}
 use Rattle.std.proofs.lemmas.List.Folds.{list_any-append}
-use Rattle.avr_desk.specs.Record.{DeskState, Bytes}
+use Rattle.avr_io.specs.Record.{DeskState, Bytes}
 use Rattle.avr_plan.specs.declared.settings.Switches.{Switches}
 use Rattle.avr_plan.specs.declared.update.Format.{Format}
 use Rattle.avr_part.specs.Part.{Part}
@@ -12,7 +12,7 @@ use Rattle.stk_host.specs.Tape.{Tape, Reading, on_tape, answer}
 use Rattle.stk_host.specs.Play.{Progress}
 use Rattle.stk_host.specs.Transcript.{heard}
 use Rattle.stk_host.specs.Dialog.{Dialog, Done, Emit, Ask, ◌>>=◌, lifted, Event, Emitted, Played, played, continue_with_reading, next, outputs}
-use Rattle.avr_desk.specs.OutputEvents.{OutputEvent, PrintsLine}
+use Rattle.avr_io.specs.OutputEvents.{OutputEvent, PrintsLine}
 use Rattle.avr_session.specs.Standing.{Standing, NoFault}
 use Rattle.avr_session.specs.Actions.{Action, OpenSession}
 use Rattle.avr_session.specs.Lines.{fault_line}

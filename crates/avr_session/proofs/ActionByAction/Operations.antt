@@ -1,7 +1,7 @@
 -- An operation of the host and its report, as an action of a session.
 use Rattle.std.proofs.Common.{◌≡◌, ℕ, ◌≤◌, Bool, true, List, [], length, ◌∷◌, Result, Ok, Err, inl, inr, ◌⊎◌, rules}
-use Rattle.avr_desk.specs.Record.{DeskState}
-use Rattle.avr_desk.specs.declared.desk.DeskFault.{DeskFault}
+use Rattle.avr_io.specs.Record.{DeskState}
+use Rattle.avr_io.specs.declared.desk.DeskFault.{DeskFault}
 use Rattle.avr_part.specs.Part.{Part}
 use Rattle.stk_host.specs.declared.fault.HostFault.{HostFault}
 use Rattle.stk_host.specs.declared.fault.HostFault.TheVariants.{SendFailed, Memory, RecvFailed}
@@ -10,7 +10,7 @@ use Rattle.stk_host.specs.Transcript.{LinkState}
 use Rattle.stk_host.specs.Dialog.{Dialog, Done, played}
 use Rattle.stk_host.specs.Play.{Progress, RunsOverLink, BreaksOverLink}
 use Rattle.stk_host.proofs.Dialogs.Lifted.{outputs_raised}
-use Rattle.avr_desk.specs.OutputEvents.{OutputEvent, PrintsLine, ReportsLine}
+use Rattle.avr_io.specs.OutputEvents.{OutputEvent, PrintsLine, ReportsLine}
 use Rattle.avr_session.specs.Concluding.{conclusion, standing_after}
 use Rattle.avr_session.specs.Lines.{fault_line}
 use Rattle.avr_session.specs.Session.{standing, reported, opening_output}
@@ -18,7 +18,7 @@ use Rattle.avr_session.specs.AllocationPoints.{AtStartOnly}
 use Rattle.avr_session.specs.Runs.{Cause, AllocationFailed, devices, Terms, cause_line, CauseOccurred}
 use Rattle.avr_session.specs.Performing.{Runs}
 use Rattle.avr_session.specs.Reporting.{PrintStops, OutputsOrStops, Reports}
-use Rattle.avr_desk.proofs.Lines.ReportedAs.{same_here}
+use Rattle.avr_io.proofs.Lines.ReportedAs.{same_here}
 use Rattle.avr_session.proofs.ActionByAction.Reports.{reported_some}
 use Rattle.avr_session.proofs.Runs.Calls.{came_lifted, came_emitted, came_on, ran_from, broke_quietly, broke_output, broke_operation, broke_lacking, broken_cause, StopsReport, ReportedBy}
 

@@ -1,6 +1,6 @@
 -- Parts of a session, one after another.
 use Rattle.std.proofs.Common.{◌≡◌, ◌++◌, List, [], None, Ok, Err, Result, rules}
-use Rattle.avr_desk.specs.declared.desk.Desk.{Ghosts as Desks}
+use Rattle.avr_io.specs.declared.desk.Desk.{Ghosts as Desks}
 use Rattle.stk_host.specs.declared.link.Link.{Ghosts as Links}
 use Rattle.avr_session.specs.Actions.{Action}
 use Rattle.avr_session.specs.Held.{Does}

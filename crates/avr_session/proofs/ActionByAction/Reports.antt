@@ -2,16 +2,16 @@
 use Rattle.std.proofs.lemmas.Grind.{common_steps}
 use Rattle.std.proofs.Common.{◌≡◌, ◌≤◌, ℕ, arith, List, [], ◌∷◌, ◌++◌, Result, Ok, Err, refl, sym, IfErr, nat_lt, false, rules}
 use Rattle.std.proofs.lemmas.Bool.Decides.{nat_tests}
-use Rattle.avr_desk.specs.Record.{DeskState, ChangesRecord, after_err}
-use Rattle.avr_desk.specs.Fault.{CountsFailure, CountsNeverFall, HasFailedAt, HasFailedToReport, HasSameCounts}
-use Rattle.avr_desk.specs.declared.desk.Desk.{Ghosts}
-use Rattle.avr_desk.specs.declared.desk.DeskFault.{DeskFault}
-use Rattle.avr_desk.specs.declared.desk.DeskFault.TheVariants.{Failed}
-use Rattle.avr_desk.specs.declared.stream.Stream.TheVariants.{File, Messages}
+use Rattle.avr_io.specs.Record.{DeskState, ChangesRecord, after_err}
+use Rattle.avr_io.specs.Fault.{CountsFailure, CountsNeverFall, HasFailedAt, HasFailedToReport, HasSameCounts}
+use Rattle.avr_io.specs.declared.desk.Desk.{Ghosts}
+use Rattle.avr_io.specs.declared.desk.DeskFault.{DeskFault}
+use Rattle.avr_io.specs.declared.desk.DeskFault.TheVariants.{Failed}
+use Rattle.avr_io.specs.declared.stream.Stream.TheVariants.{File, Messages}
 use Rattle.stk_host.specs.Dialog.{outputs}
-use Rattle.avr_desk.specs.OutputEvents.{OutputEvent, PrintsLine, IsBytePrefixOf, IsPrinted, ReportsLine, after_events}
-use Rattle.avr_desk.proofs.Stages.Outputs.{kept_append}
-use Rattle.avr_desk.proofs.Lines.ReportedAs.{follows_on, same_on, message_failures_since}
+use Rattle.avr_io.specs.OutputEvents.{OutputEvent, PrintsLine, IsBytePrefixOf, IsPrinted, ReportsLine, after_events}
+use Rattle.avr_io.proofs.Stages.Outputs.{kept_append}
+use Rattle.avr_io.proofs.Lines.ReportedAs.{follows_on, same_on, message_failures_since}
 use Rattle.avr_session.specs.Runs.{cause_line, Cause, FileFailed, PrintingFailed, FileTrouble}
 use Rattle.avr_session.specs.Reporting.{OutputsPrefix, OutputsPrefixAndReports, OutputsOrStops, Reports, Outputs, PrintStops, Prints, DeskStops}
 use Rattle.avr_session.specs.Saving.{SaveStops}

@@ -1,16 +1,16 @@
 -- Files that are created and written.
 use Rattle.std.proofs.Common.{◌≡◌, ℕ, true, List, [], ◌∷◌, map, bytes_eq, codes, Result, Ok, Err, ◌∙◌, refl, rules}
 use Rattle.std.proofs.lemmas.Slice.Eq.{bytes_eq-Decides}
-use Rattle.avr_desk.specs.Record.{DeskState, ChangesRecord, after_create}
-use Rattle.avr_desk.specs.Fault.{CountsFailure, CountsNeverFall, HasFailedAt, HasSameCounts}
-use Rattle.avr_desk.specs.Stream.{SendsPart}
-use Rattle.avr_desk.specs.declared.stream.Stream.{Stream}
-use Rattle.avr_desk.specs.declared.stream.Stream.TheVariants.{File, Output, Messages}
-use Rattle.avr_desk.specs.declared.desk.DeskFault.{DeskFault}
+use Rattle.avr_io.specs.Record.{DeskState, ChangesRecord, after_create}
+use Rattle.avr_io.specs.Fault.{CountsFailure, CountsNeverFall, HasFailedAt, HasSameCounts}
+use Rattle.avr_io.specs.Stream.{SendsPart}
+use Rattle.avr_io.specs.declared.stream.Stream.{Stream}
+use Rattle.avr_io.specs.declared.stream.Stream.TheVariants.{File, Output, Messages}
+use Rattle.avr_io.specs.declared.desk.DeskFault.{DeskFault}
 use Rattle.stk_host.specs.Dialog.{Emitted}
-use Rattle.avr_desk.specs.OutputEvents.{OutputEvent, CreatesFile, WritesFile, WritesOutput, ReportsLine, after_events}
-use Rattle.avr_desk.proofs.Stages.Outputs.{kept_none}
-use Rattle.avr_desk.proofs.Lines.ReportedAs.{follows_on}
+use Rattle.avr_io.specs.OutputEvents.{OutputEvent, CreatesFile, WritesFile, WritesOutput, ReportsLine, after_events}
+use Rattle.avr_io.proofs.Stages.Outputs.{kept_none}
+use Rattle.avr_io.proofs.Lines.ReportedAs.{follows_on}
 use Rattle.avr_session.specs.Runs.{Cause, FileFailed, NotCreated, NotWritten, cause_line}
 use Rattle.avr_session.specs.Reporting.{OutputsPrefix, OutputsOrStops, Reports, DeskStops}
 use Rattle.avr_session.specs.Session.{saving_output}

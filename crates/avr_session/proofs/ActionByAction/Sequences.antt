@@ -3,9 +3,9 @@ use Rattle.std.proofs.Common.{◌≡◌, ℕ, Bool, true, false, ◌||◌, ◌++
 use Rattle.std.proofs.Math.Bool.{or-false}
 use Rattle.std.specs.List.{list_any}
 use Rattle.std.proofs.lemmas.List.Folds.{list_any-append}
-use Rattle.avr_desk.specs.Fault.{CountsNeverFall}
-use Rattle.avr_desk.specs.Record.{DeskState}
-use Rattle.avr_desk.specs.declared.desk.DeskFault.{DeskFault}
+use Rattle.avr_io.specs.Fault.{CountsNeverFall}
+use Rattle.avr_io.specs.Record.{DeskState}
+use Rattle.avr_io.specs.declared.desk.DeskFault.{DeskFault}
 use Rattle.avr_plan.specs.declared.settings.Switches.{Switches}
 use Rattle.avr_part.specs.Part.{Part}
 use Rattle.stk_host.specs.declared.fault.HostFault.{HostFault}
@@ -19,7 +19,7 @@ use Rattle.stk_host.proofs.Transcripts.Laws.{got_append}
 use Rattle.std.specs.Result.{result_and}
 use Rattle.stk_host.specs.Calls.{Calls}
 use Rattle.stk_host.specs.Dialog.{Dialog, Done, ◌>>=◌, played, outputs}
-use Rattle.avr_desk.specs.OutputEvents.{OutputEvent, PrintsLine, ReportsLine}
+use Rattle.avr_io.specs.OutputEvents.{OutputEvent, PrintsLine, ReportsLine}
 use Rattle.avr_plan.specs.Plan.{Plan}
 use Rattle.avr_session.specs.Standing.{Standing, NoFault, Over}
 use Rattle.avr_session.specs.declared.ending.End.{End}
@@ -35,8 +35,8 @@ use Rattle.avr_session.specs.Run.{StopsSession}
 use Rattle.avr_session.specs.Stopping.{RanToStatus}
 use Rattle.avr_session.specs.AllocationPoints.{AtStartOnly, AtAllocation}
 use Rattle.avr_session.specs.Performing.{has_fault, PerformsOnTerms, Performing, DoesPlanActions, EndsSession, PlaysSession, Runs}
-use Rattle.avr_desk.proofs.Stages.Outputs.{kept_none}
-use Rattle.avr_desk.proofs.Lines.ReportedAs.{follows_here, same_here}
+use Rattle.avr_io.proofs.Stages.Outputs.{kept_none}
+use Rattle.avr_io.proofs.Lines.ReportedAs.{follows_here, same_here}
 use Rattle.avr_session.proofs.Runs.Calls.{none_failed_here, came_here, came_emitted, came_part, ran_from, ran_on, stops_in, broke_on, broke_part, broke_output, LacksLater, StopsReport, ReportedBy}
 use Rattle.avr_session.proofs.ActionByAction.FaultsReported.{ReportsFault, fault_reported, prefix_reports_none, actions_report}
 use Rattle.avr_session.proofs.ActionByAction.Actions.{actions_dialog_one, actions_dialog_append}

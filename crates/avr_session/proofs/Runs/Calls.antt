@@ -2,8 +2,8 @@
 use Rattle.std.proofs.Common.{◌≡◌, ℕ, ◌≤◌, true, ◌||◌, List, [], ◌∷◌, ◌++◌, None, append_assoc, append-nil, length, map, refl, sym, ap, ◌∙◌, subst, rules}
 use Rattle.std.proofs.Math.Bool.{or_assoc}
 use Rattle.std.proofs.lemmas.List.Folds.{list_any-append}
-use Rattle.avr_desk.specs.Fault.{HasSameCounts}
-use Rattle.avr_desk.specs.Record.{Record, DeskState, ChangesRecord, after_err}
+use Rattle.avr_io.specs.Fault.{HasSameCounts}
+use Rattle.avr_io.specs.Record.{Record, DeskState, ChangesRecord, after_err}
 use Rattle.stk_host.specs.declared.fault.HostFault.{HostFault}
 use Rattle.stk_host.specs.declared.fault.HostFault.TheVariants.{SendFailed, RecvFailed}
 use Rattle.stk_host.specs.Tape.{Tape, on_tape}
@@ -15,9 +15,9 @@ use Rattle.stk_host.proofs.Transcripts.Laws.{grows_none, grows_on}
 use Rattle.stk_host.proofs.Transcripts.InDialogs.{continued, played_bind, leads_here, leads_on, leads_bind, leads_emit, leads_from, breaks_on, breaks_bind}
 use Rattle.stk_host.proofs.Dialogs.Lifted.{raised, plays_lifted, by_lifted, outputs_raised}
 use Rattle.stk_host.proofs.Transcripts.Laws.{got_append}
-use Rattle.avr_desk.specs.OutputEvents.{OutputEvent, IsPartOfEvent, after_events}
-use Rattle.avr_desk.proofs.Stages.Outputs.{kept_on, kept_none, after_append}
-use Rattle.avr_desk.proofs.Lines.ReportedAs.{follows_on, follows_same, same_here, same_on}
+use Rattle.avr_io.specs.OutputEvents.{OutputEvent, IsPartOfEvent, after_events}
+use Rattle.avr_io.proofs.Stages.Outputs.{kept_on, kept_none, after_append}
+use Rattle.avr_io.proofs.Lines.ReportedAs.{follows_on, follows_same, same_here, same_on}
 use Rattle.avr_session.specs.Session.{emits}
 use Rattle.avr_session.specs.Runs.{Devices, devices, NoDeviceFailed, Cause, SendingFailed, ReceivingFailed, AllocationFailed, reports_fault, StopsAt, RunAllocationPoints, Terms, StopsAfterOutput, RanWhole, BrokeOff}
 use Rattle.avr_session.specs.Reporting.{IsOfDesk, OutputsPrefix, OutputsPrefixAndReports}

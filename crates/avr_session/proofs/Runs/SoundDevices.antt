@@ -1,11 +1,11 @@
 -- If no device failed, a run was complete, or its messages report that allocation failed.
 use Rattle.std.proofs.Common.{◌≡◌, ℕ, Bool, false, rules}
-use Rattle.avr_desk.specs.Record.{Record}
+use Rattle.avr_io.specs.Record.{Record}
 use Rattle.avr_plan.specs.Plan.{Plan}
 use Rattle.stk_host.specs.Play.{Progress}
 use Rattle.stk_host.specs.Transcript.{LinkState}
 use Rattle.stk_host.specs.Dialog.{Dialog}
-use Rattle.avr_desk.specs.OutputEvents.{OutputEvent}
+use Rattle.avr_io.specs.OutputEvents.{OutputEvent}
 use Rattle.avr_session.specs.Actions.{plan_allocates}
 use Rattle.avr_session.specs.Runs.{AllocationFailed, Devices, devices, cause_line, before_fault, RunAllocationPoints, BrokeOff}
 use Rattle.avr_session.specs.Run.{RunsSession}

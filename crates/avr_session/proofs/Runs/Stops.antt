@@ -1,14 +1,14 @@
 -- Where a run stops: what is before it and what follows it changes nothing.
 use Rattle.std.proofs.Common.{ℕ, ◌≡◌, ◌∙◌, List, [], ◌∷◌, ◌++◌, map, refl, sym, ap, subst, append_assoc, take, inl, inr, codes, rules}
 use Rattle.std.proofs.lemmas.List.{take-append-drop}
-use Rattle.avr_desk.specs.Record.{DeskState, ChangesRecord, Bytes}
-use Rattle.avr_desk.specs.Stream.{SendsPart}
-use Rattle.avr_desk.specs.declared.stream.Stream.TheVariants.{File, Output, Messages}
+use Rattle.avr_io.specs.Record.{DeskState, ChangesRecord, Bytes}
+use Rattle.avr_io.specs.Stream.{SendsPart}
+use Rattle.avr_io.specs.declared.stream.Stream.TheVariants.{File, Output, Messages}
 use Rattle.stk_host.specs.Dialog.{Event, Emitted, outputs}
 use Rattle.stk_host.specs.Transcript.{Transcript, NoneTaken}
 use Rattle.stk_host.proofs.Transcripts.Laws.{none_append, none_behind}
-use Rattle.avr_desk.specs.OutputEvents.{OutputEvent, PrintsLine, CreatesFile, WritesFile, WritesOutput, after_events}
-use Rattle.avr_desk.proofs.Stages.Outputs.{kept_append}
+use Rattle.avr_io.specs.OutputEvents.{OutputEvent, PrintsLine, CreatesFile, WritesFile, WritesOutput, after_events}
+use Rattle.avr_io.proofs.Stages.Outputs.{kept_append}
 use Rattle.avr_session.specs.Runs.{Cause, SendingFailed, ReceivingFailed, FileFailed, PrintingFailed, NotWritten, StopsInOutput, StopsAt}
 use Rattle.avr_session.specs.Reporting.{IsOfDesk, OutputsPrefix}
 

@@ -3,7 +3,7 @@ use Rattle.std.proofs.Common.{◌≡◌, ℕ, List, [], ◌++◌, refl, sym, ◌
 use Rattle.std.proofs.lemmas.List.{append-nil}
 use Rattle.std.specs.Prelude.{⊤}
 use Rattle.avr_plan.specs.declared.settings.Switches.{Switches}
-use Rattle.avr_desk.specs.OutputEvents.{OutputEvent}
+use Rattle.avr_io.specs.OutputEvents.{OutputEvent}
 use Rattle.avr_part.specs.Part.{Part, IsPart}
 use Rattle.avr_plan.specs.Plan.{Plan, IsFitted}
 use Rattle.avr_session.specs.Actions.{OpenSession, actions}

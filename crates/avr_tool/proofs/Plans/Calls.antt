@@ -5,7 +5,7 @@ use Rattle.std.proofs.lemmas.Bool.{cond-true}
 use Rattle.std.proofs.lemmas.List.{append-nil}
 use Rattle.std.specs.Prelude.{⊤, ◌≤◌}
 use Rattle.avr_plan.specs.declared.settings.Switches.{Switches}
-use Rattle.avr_desk.specs.OutputEvents.{OutputEvent}
+use Rattle.avr_io.specs.OutputEvents.{OutputEvent}
 use Rattle.avr_part.specs.declared.part.Mem.{Mem}
 use Rattle.avr_part.specs.Mem.{is_writable}
 use Rattle.avr_part.specs.Part.{Part, IsPart, size_of}

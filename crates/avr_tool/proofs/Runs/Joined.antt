@@ -2,17 +2,17 @@
 use Rattle.std.proofs.Common.{◌≡◌, ℕ, ◌⊎◌, inl, inr, List, [], ◌∷◌, ◌++◌, map, Bool, refl, sym, ap, ◌∙◌, subst, arith, append_assoc, append-nil, rules}
 use Rattle.avr_plan.specs.declared.settings.Settings.{Settings}
 use Rattle.avr_plan.specs.declared.update.Update.{Update}
-use Rattle.avr_desk.specs.Fault.{CountsNeverFall}
-use Rattle.avr_desk.specs.Record.{DeskState, Bytes}
-use Rattle.avr_desk.specs.OutputEvents.{OutputEvent, PrintsLine, CreatesFile, IsPartOfEvent, IsBytePrefixOf, ReportsLineAs}
-use Rattle.avr_desk.proofs.Stages.Outputs.{kept_append, after_append}
-use Rattle.avr_desk.proofs.Lines.ReportedAs.{follows_on, follows_same, same_on}
+use Rattle.avr_io.specs.Fault.{CountsNeverFall}
+use Rattle.avr_io.specs.Record.{DeskState, Bytes}
+use Rattle.avr_io.specs.OutputEvents.{OutputEvent, PrintsLine, CreatesFile, IsPartOfEvent, IsBytePrefixOf, ReportsLineAs}
+use Rattle.avr_io.proofs.Stages.Outputs.{kept_append, after_append}
+use Rattle.avr_io.proofs.Lines.ReportedAs.{follows_on, follows_same, same_on}
 use Rattle.avr_plan.specs.Plan.{Plan}
 use Rattle.avr_plan.specs.Planning.{planned}
-use Rattle.avr_desk.specs.declared.record.Opening.{Opening}
+use Rattle.avr_io.specs.declared.record.Opening.{Opening}
 use Rattle.stk_host.specs.Play.{IsPrefixOfEvents}
-use Rattle.avr_desk.specs.StageRuns.{StageCompleted, StageRefused, RestOfStage, BreakCause, LineNotPrinted, NoMemory, ReportsBreakAs}
-use Rattle.avr_desk.specs.Stage.{Produced, StageOutcome, StageResult, events_with_refusal}
+use Rattle.avr_io.specs.StageRuns.{StageCompleted, StageRefused, RestOfStage, BreakCause, LineNotPrinted, NoMemory, ReportsBreakAs}
+use Rattle.avr_io.specs.Stage.{Produced, StageOutcome, StageResult, events_with_refusal}
 use Rattle.stk_host.specs.Dialog.{Event, Played, Emitted, played, prepend_events, bytes_sent, outputs}
 use Rattle.stk_host.specs.Transcript.{LinkState, Transcript, heard, Grows}
 use Rattle.stk_host.specs.Tape.{Tape}

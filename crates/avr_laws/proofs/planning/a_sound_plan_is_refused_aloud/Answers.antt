@@ -1,4 +1,4 @@
-use Rattle.avr_desk.proofs.Stages.Breaks.{sound_refusal}
+use Rattle.avr_io.proofs.Stages.Breaks.{sound_refusal}
 use Rattle.avr_plan.specs.Planning.{planned}
 use Rattle.avr_plan.specs.AllocationPoints.{AtAllocatingUpdate}
 use Rattle.avr_laws.proofs.planning.a_sound_plan_is_refused_aloud.Goals as goal

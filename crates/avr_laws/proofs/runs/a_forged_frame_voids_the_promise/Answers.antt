@@ -4,7 +4,7 @@ use Rattle.stk_emu.specs.Programmer.{fresh_programmer}
 use Rattle.avr_laws.specs.Worked.{forged_replies, fuse_plan}
 use Rattle.stk_host.specs.Tape.{Tape}
 use Rattle.stk_host.specs.Dialog.{Played, bytes_sent, played}
-use Rattle.avr_desk.specs.OutputEvents.{OutputEvent}
+use Rattle.avr_io.specs.OutputEvents.{OutputEvent}
 use Rattle.std.proofs.Common.{Option, Some, ap, refl, ℕ, ◌≡◌, []}
 use Rattle.avr_plan.specs.Plan.{IsFitted}
 use Rattle.std.proofs.lemmas.List.Elements.{All-cons, All-nil}

@@ -1,6 +1,6 @@
 use Rattle.std.proofs.Common.{◌≡◌, ◌≤◌, ◌-◌, length, false}
-use Rattle.avr_desk.specs.Fault.{HasSameCounts}
-use Rattle.avr_desk.specs.Files.{after_reading}
+use Rattle.avr_io.specs.Fault.{HasSameCounts}
+use Rattle.avr_io.specs.Files.{after_reading}
 use Rattle.ghosts.specs.Preserves.{Preserves}
 use Rattle.avr_plan.proofs.image_file.read_first_bytes.Given as goal
 

@@ -1,6 +1,6 @@
 use Rattle.std.proofs.Common.{arith, rules}
 use Rattle.std.proofs.lemmas.List.{length-take-le}
-use Rattle.avr_desk.proofs.Lines.ReportedAs.{same_on}
+use Rattle.avr_io.proofs.Lines.ReportedAs.{same_on}
 use Rattle.avr_plan.proofs.Files.Images.{going_on, rest_ends, rest_long}
 use Rattle.avr_plan.proofs.image_file.read_rest.Goals as goal
 

@@ -1,5 +1,5 @@
 use Rattle.std.proofs.Common.{◌≤◌, ◌+◌}
-use Rattle.avr_desk.specs.Fault.{HasSameCounts}
+use Rattle.avr_io.specs.Fault.{HasSameCounts}
 use Rattle.avr_plan.specs.Intake.{record_bytes_fed}
 use Rattle.ghosts.specs.Preserves.{Preserves}
 use Rattle.avr_plan.proofs.Files.Images.{FedSoFar}

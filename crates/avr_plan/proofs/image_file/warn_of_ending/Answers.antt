@@ -1,6 +1,6 @@
 use Rattle.std.proofs.Common.{[], ◌∷◌, codes, rules}
-use Rattle.avr_desk.proofs.Stages.Played.{completed_silently, completed_output, runs_output_in_part}
-use Rattle.avr_desk.specs.Lines.{warning}
+use Rattle.avr_io.proofs.Stages.Played.{completed_silently, completed_output, runs_output_in_part}
+use Rattle.avr_io.specs.Lines.{warning}
 use Rattle.avr_plan.proofs.image_file.warn_of_ending.Goals as goal
 
 pub returns-then-not-warns-clause-goes : goal.returns-then-not-warns-clause-goes

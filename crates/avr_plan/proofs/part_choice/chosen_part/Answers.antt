@@ -1,9 +1,9 @@
 use Rattle.std.proofs.Common.{sym, ap, false}
-use Rattle.avr_desk.specs.StageRuns.{OnlyAtStart}
-use Rattle.avr_desk.specs.Lines.{error}
+use Rattle.avr_io.specs.StageRuns.{OnlyAtStart}
+use Rattle.avr_io.specs.Lines.{error}
 use Rattle.avr_plan.specs.Lines.{no_part_pieces}
 use Rattle.avr_plan.specs.Planning.{or_line}
-use Rattle.avr_desk.proofs.Stages.Played.{completed_good_result, runs_bad_result}
+use Rattle.avr_io.proofs.Stages.Played.{completed_good_result, runs_bad_result}
 use Rattle.avr_plan.proofs.part_choice.chosen_part.Goals as goal
 
 pub returns-in-Ok-clause-goes : goal.returns-in-Ok-clause-goes

@@ -1,10 +1,10 @@
 use Rattle.std.proofs.Common.{refl, Ok, [], false, rules}
-use Rattle.avr_desk.specs.StageRuns.{OnlyAtStart}
+use Rattle.avr_io.specs.StageRuns.{OnlyAtStart}
 use Rattle.avr_plan.specs.declared.part_choice.TheConstants.{LARGEST_PART_FILE}
 use Rattle.avr_plan.proofs.Stages.Parts.{part_file_read, bad_parts_refused, long_parts_refused}
-use Rattle.avr_desk.proofs.Stages.Files.{runs_file_fault}
-use Rattle.avr_desk.proofs.Stages.Openings.{breaks_as}
-use Rattle.avr_desk.proofs.Stages.Played.{completed_good_result}
+use Rattle.avr_io.proofs.Stages.Files.{runs_file_fault}
+use Rattle.avr_io.proofs.Stages.Openings.{breaks_as}
+use Rattle.avr_io.proofs.Stages.Played.{completed_good_result}
 use Rattle.avr_plan.specs.Planning.{checked_parts}
 use Rattle.avr_plan.proofs.part_choice.given_parts.Goals as goal
 

@@ -1,6 +1,6 @@
 use Rattle.std.proofs.Common.{refl, rules, Ok}
-use Rattle.avr_desk.proofs.Stages.Played.{completed_good_result, runs_first_only, runs_to_refusal, runs_without_memory}
-use Rattle.avr_desk.specs.Stage.{result_stage}
+use Rattle.avr_io.proofs.Stages.Played.{completed_good_result, runs_first_only, runs_to_refusal, runs_without_memory}
+use Rattle.avr_io.specs.Stage.{result_stage}
 use Rattle.avr_plan.specs.Planning.{update_image}
 use Rattle.avr_plan.specs.declared.planned.Task.TheVariants.{Write, Verify}
 use Rattle.avr_plan.proofs.planning.update_task.Goals as goal

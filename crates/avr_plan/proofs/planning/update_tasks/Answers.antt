@@ -5,7 +5,7 @@ use Rattle.std.proofs.lemmas.List.{drop_more, drop_all}
 use Rattle.std.proofs.lemmas.List.Elements.{All-append}
 use Rattle.std.proofs.lemmas.Option.{slice_get-get_or}
 use Rattle.avr_plan.specs.declared.update.Update.{Update}
-use Rattle.avr_desk.proofs.Stages.Played.{completed_without_events}
+use Rattle.avr_io.proofs.Stages.Played.{completed_without_events}
 use Rattle.avr_plan.proofs.Stages.Tasks.{next_task_made, next_task_refused, all_one}
 use Rattle.avr_plan.proofs.planning.update_tasks.Goals as goal
 

@@ -1,10 +1,10 @@
 use Rattle.std.proofs.Common.{◌≡◌, ℕ, List, [], drop, length, Result, All}
-use Rattle.avr_desk.specs.Fault.{HasSameCounts}
-use Rattle.avr_desk.specs.Record.{DeskState}
+use Rattle.avr_io.specs.Fault.{HasSameCounts}
+use Rattle.avr_io.specs.Record.{DeskState}
 use Rattle.avr_plan.specs.Plan.{IsFitted}
 use Rattle.avr_plan.specs.Planning.{tasks_stage}
 use Rattle.avr_plan.specs.AllocationPoints.{AtAllocatingTask}
-use Rattle.avr_desk.specs.StageRuns.{RunsStage}
+use Rattle.avr_io.specs.StageRuns.{RunsStage}
 use Rattle.avr_plan.specs.declared.planned.Task.{Task}
 use Rattle.ghosts.specs.Preserves.{Preserves}
 use Rattle.avr_plan.proofs.planning.update_tasks.Given as goal

@@ -1,11 +1,11 @@
 use Rattle.std.proofs.Common.{◌∙◌, ap, sym, subst, refl, arith, ◌≡◌, ◌<◌, ◌≤◌, ◌+◌, ℕ, List, [], ◌∷◌, ◌++◌, length, append_assoc, append-nil, Result, Ok, Err, IsOk, OnOk, OnErr, IsTrue, Bool, true, false, rules}
 use Rattle.std.proofs.lemmas.Result.{err_from_is_err_and}
-use Rattle.avr_desk.specs.Fault.{HasSameCounts}
-use Rattle.avr_desk.specs.Record.{ChangesRecord, Record, showing}
-use Rattle.avr_desk.specs.Stream.{after_sent, SendsPart}
-use Rattle.avr_desk.specs.declared.desk.DeskFault.{DeskFault}
-use Rattle.avr_desk.specs.declared.stream.Stream.{Stream}
-use Rattle.avr_desk.proofs.Lines.SentBytes.{sent_next, sent_next_part, sent_none}
+use Rattle.avr_io.specs.Fault.{HasSameCounts}
+use Rattle.avr_io.specs.Record.{ChangesRecord, Record, showing}
+use Rattle.avr_io.specs.Stream.{after_sent, SendsPart}
+use Rattle.avr_io.specs.declared.desk.DeskFault.{DeskFault}
+use Rattle.avr_io.specs.declared.stream.Stream.{Stream}
+use Rattle.avr_io.proofs.Lines.SentBytes.{sent_next, sent_next_part, sent_none}
 use Rattle.ghosts.specs.Preserves.{Preserves}
 use Rattle.avr_session.proofs.file_text.write_pieces.Goals as goal
 use Rattle.avr_session.proofs.file_text.write_pieces.Goals.{then-len-remaining_capacity+in_ok-write_all, else-len-remaining_capacity}

@@ -1,7 +1,7 @@
 use Rattle.std.proofs.Common.{◌≡◌, ◌++◌, List, ℕ, length}
-use Rattle.avr_desk.specs.Fault.{HasSameCounts}
-use Rattle.avr_desk.specs.Record.{ChangesRecord}
-use Rattle.avr_desk.specs.Stream.{after_sent}
+use Rattle.avr_io.specs.Fault.{HasSameCounts}
+use Rattle.avr_io.specs.Record.{ChangesRecord}
+use Rattle.avr_io.specs.Stream.{after_sent}
 use Rattle.ghosts.specs.Preserves.{Preserves}
 use Rattle.avr_session.proofs.file_text.write_pieces.Given as goal
 

@@ -1,7 +1,7 @@
 use Rattle.std.proofs.Common.{[], ◌∷◌, rules}
 use Rattle.std.proofs.lemmas.Result.{err_from_is_err_and}
 use Rattle.stk_host.specs.declared.fault.HostFault.TheVariants.{WrongSignature}
-use Rattle.avr_desk.specs.OutputEvents.{PrintsLine}
+use Rattle.avr_io.specs.OutputEvents.{PrintsLine}
 use Rattle.avr_session.specs.Lines.{fault_line}
 use Rattle.avr_session.proofs.ActionByAction.Reports.{reports_then, prints_until}
 use Rattle.avr_session.proofs.reports.report_opening.Goals as goal

@@ -1,7 +1,7 @@
 use Rattle.std.proofs.Common.{◌∙◌, sym, [], ◌∷◌, refl, rules}
-use Rattle.avr_desk.specs.OutputEvents.{WritesFile}
-use Rattle.avr_desk.specs.declared.stream.Stream.TheVariants.{File}
-use Rattle.avr_desk.proofs.Lines.ReportedAs.{failed_by, follows_on}
+use Rattle.avr_io.specs.OutputEvents.{WritesFile}
+use Rattle.avr_io.specs.declared.stream.Stream.TheVariants.{File}
+use Rattle.avr_io.proofs.Lines.ReportedAs.{failed_by, follows_on}
 use Rattle.avr_session.specs.FileText.{file_text}
 use Rattle.avr_session.specs.Runs.{NotCreated, cause_line}
 use Rattle.avr_session.specs.Saving.{SaveStops}

@@ -1,6 +1,6 @@
 use Rattle.std.proofs.Common.{rules}
 use Rattle.avr_session.specs.Runs.{cause_line}
-use Rattle.avr_desk.proofs.Lines.ReportedAs.{failed_by}
+use Rattle.avr_io.proofs.Lines.ReportedAs.{failed_by}
 use Rattle.avr_session.proofs.ActionByAction.Saves.{failed_at_file, writes_some}
 use Rattle.avr_session.proofs.saving.write_file.Goals as goal
 

@@ -1,6 +1,6 @@
 -- The clauses of `chip_of`, at each exit where no search finds the proof.
 use Rattle.std.proofs.Common.{rules}
-use Rattle.avr_desk.proofs.Stages.Played.{runs_without_memory}
+use Rattle.avr_io.proofs.Stages.Played.{runs_without_memory}
 use Rattle.avr_tool.proofs.Chips.{chip_given_by_bytes, wrong_length_refused}
 use Rattle.avr_tool.proofs.chip_files.chip_of.Goals as goal
 

@@ -1,6 +1,6 @@
 -- The clauses of `fresh_chip`, at each exit where no search finds the proof.
 use Rattle.std.proofs.Common.{rules}
-use Rattle.avr_desk.proofs.Stages.Played.{runs_without_memory}
+use Rattle.avr_io.proofs.Stages.Played.{runs_without_memory}
 use Rattle.avr_tool.proofs.Chips.{fresh_chip_given}
 use Rattle.avr_tool.proofs.chip_files.fresh_chip.Goals as goal
 

@@ -1,8 +1,8 @@
 -- The clauses of `load_chip`, at each exit where no search finds the proof.
 use Rattle.std.proofs.Common.{refl, true, rules}
-use Rattle.avr_desk.specs.StageRuns.{OnlyAtStart}
-use Rattle.avr_desk.specs.declared.record.Opening.TheVariants.{Absent}
-use Rattle.avr_desk.proofs.Stages.Openings.{breaks_as, runs_open, runs_until_break}
+use Rattle.avr_io.specs.StageRuns.{OnlyAtStart}
+use Rattle.avr_io.specs.declared.record.Opening.TheVariants.{Absent}
+use Rattle.avr_io.proofs.Stages.Openings.{breaks_as, runs_open, runs_until_break}
 use Rattle.avr_tool.specs.Loading.{AtOpened, chip_given}
 use Rattle.avr_tool.proofs.Chips.{opened_at, ended_file_checked, long_file_refused}
 use Rattle.avr_tool.proofs.chip_files.load_chip.Goals as goal

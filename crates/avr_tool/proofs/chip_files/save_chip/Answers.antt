@@ -1,14 +1,14 @@
 -- The clauses of `save_chip`, at each exit where no search finds the proof.
 use Rattle.std.proofs.Common.{◌≡◌, ℕ, Err, rules}
 use Rattle.std.specs.Prelude.{⊤}
-use Rattle.avr_desk.specs.Fault.{CountsFailure}
-use Rattle.avr_desk.specs.Record.{DeskState, Replaces, released, Bytes}
-use Rattle.avr_desk.specs.declared.desk.DeskFault.{DeskFault}
-use Rattle.avr_desk.specs.declared.desk.DeskFault.TheVariants.{Failed}
-use Rattle.avr_desk.specs.declared.stream.Stream.TheVariants.{File}
-use Rattle.avr_desk.proofs.Lines.ReportedAs.{failure_reported}
-use Rattle.avr_desk.specs.Lines.{not_written_line}
-use Rattle.avr_desk.specs.OutputEvents.{ReportsLine}
+use Rattle.avr_io.specs.Fault.{CountsFailure}
+use Rattle.avr_io.specs.Record.{DeskState, Replaces, released, Bytes}
+use Rattle.avr_io.specs.declared.desk.DeskFault.{DeskFault}
+use Rattle.avr_io.specs.declared.desk.DeskFault.TheVariants.{Failed}
+use Rattle.avr_io.specs.declared.stream.Stream.TheVariants.{File}
+use Rattle.avr_io.proofs.Lines.ReportedAs.{failure_reported}
+use Rattle.avr_io.specs.Lines.{not_written_line}
+use Rattle.avr_io.specs.OutputEvents.{ReportsLine}
 use Rattle.avr_tool.specs.Saving.{SavesChip}
 use Rattle.avr_tool.proofs.chip_files.save_chip.Goals as goal
 

@@ -1,6 +1,6 @@
 -- The clauses of `find_part`, at each exit where no search finds the proof.
 use Rattle.std.proofs.Common.{rules}
-use Rattle.avr_desk.proofs.Stages.Played.{runs_first_only}
+use Rattle.avr_io.proofs.Stages.Played.{runs_first_only}
 use Rattle.avr_tool.proofs.ServedRuns.{part_found_in_parts}
 use Rattle.avr_tool.proofs.served_run.find_part.Goals as goal
 

@@ -11,7 +11,7 @@ use denote.Steps.{nothing}
 use denote.Triple.Entry.{alive}
 use denote.Triple.Walked.{says, Stays, walk_of, ends_at}
 use Rattle.ghosts.proofs.Walks.{no_fields, made_of_nothing}
-use Rattle.avr_desk.specs.Record.{nothing_kept}
+use Rattle.avr_io.specs.Record.{nothing_kept}
 use Rattle.avr_desk.specs.contracts.journal.Journal.{the_row as R}
 use Rattle.avr_desk.specs.contracts.journal.Journal.new as f
 use Rattle.avr_desk.proofs.journal.Journal.new.Statement.{statement}

@@ -1,0 +1,4 @@
+-- in the order in which to read; the list beside a folder says what the folder holds
+pub mod Lines
+pub mod FilePieces
+pub mod Stages
