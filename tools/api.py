@@ -15,7 +15,8 @@ sys.path.append(str(Path(__file__).resolve().parent.parent / "tests"))
 from rattle import EXPORT, MORE, TOP  # noqa: E402
 from reach import FILES, File, named_in  # noqa: E402
 
-CRATES = "avr_image avr_records avr_part stk_frame stk_host stk_emu avr_io avr_desk avr_plan avr_session avr_tool".split()
+CRATES = "avr_image avr_records avr_part stk_frame stk_host stk_emu avr_io".split()
+CRATES += "avr_desk avr_plan avr_session avr_tool".split()
 
 # an item at the left margin, with its comment and attributes: all of a type or an impl, of a function what precedes its
 # body
