@@ -1,7 +1,7 @@
 #!/usr/bin/env bash
 # Installs the built program, avrstk-serial, avrstk-serve, the part file, the man pages and the completions, or removes
 # them again. The program is the proved one, or else the one without proofs, and then a line reports that. But if the
-# environment variable AVRSTK names a program, that one is installed, and no line reports whether it is proved. The
+# environment variable AVRSTK names another, that one is installed, and no line reports whether it is proved. The
 # documents are installed as a site, if Sphinx, MyST, furo, sphinx-copybutton and mandoc are there to make it. With
 # --with-c the library for C is installed too, which needs rt of Rattle's kit and ar: archive, header, pkg-config's
 # file, and the shared library if there is a C compiler.
@@ -158,7 +158,7 @@ remove() {
     [ ! -L "$manifest" ] || fail "$manifest is a link, and no manifest of this script: nothing is removed"
     if [ ! -f "$manifest" ]; then
         [ ! -e "$prefix/bin/avrstk" ] || fail "$prefix/bin/avrstk is there, but no file $manifest: nothing is removed"
-        echo "there is no file $manifest: nothing is removed"
+        echo "no file $manifest was found: nothing is removed"
         return 0
     fi
     mapfile -t names <"$manifest"
@@ -214,9 +214,23 @@ session_of() {
     done
 }
 
-# (if no program is built, ./avrstk reports it)
-built=${AVRSTK:-$("$top/avrstk" --which)}
-[ -f "$built" ] || fail "$built is not a file"
+# Prints the path of the program itself: ./avrstk of a clone, and an installed avrstk, are scripts that run it.
+program_of() {
+    local folder
+    folder=$(dirname "$(readlink -f "$1")")
+    if [ -e "$folder/crates.txt" ]; then
+        # (if no program is built, the script reports it)
+        "$folder/avrstk" --which
+    elif [ -f "$folder/../lib/avrstk/avrstk" ]; then
+        echo "$folder/../lib/avrstk/avrstk"
+    else
+        echo "$1"
+    fi
+}
+
+named=${AVRSTK:-$top/avrstk}
+[ -f "$named" ] || fail "$named is not a file"
+built=$(program_of "$named")
 session=$(session_of "$built")
 if [ -z "$session" ] && [ -d "$top/crates/avrstk_session" ]; then
     echo "avrstk_session is not beside $built: avrstk-serve needs it"
@@ -266,7 +280,7 @@ if [ -f "$top/tools/site.py" ]; then
             add 644 "$site/$file" "$html/$file"
         done < <(cd "$site" && find . -type f -printf '%P\n' | LC_ALL=C sort)
     else
-        echo "no site of the documents is installed: check python3, mandoc, Sphinx, MyST, furo and sphinx-copybutton"
+        echo "no site of the documents was made: check python3, mandoc, Sphinx, MyST, furo and sphinx-copybutton"
     fi
 fi
 library=(lib/libavr_records.a include/avr_records.h lib/pkgconfig/avr_records.pc lib/libavr_records.so "lib/$shared")

@@ -82,7 +82,8 @@ _avrstk_value() {
             esac ;;
         -U) _avrstk_update ;;
         -b) [ "$script" = avrstk ] || _avrstk_behind "" "9600 19200 38400 57600 115200 250000" ;;
-        --parts | --chip | --backup | --restore | --json | --counter | --rows | -l | -C) _avrstk_behind "" ;;
+        --parts | --chip | --pty | --log | --backup | --restore | --json | --counter | --rows | -l | -C)
+            _avrstk_behind "" ;;
         --late) _avrstk_behind "" "CHIP_ERASE: PROGRAM_FLASH: READ_FLASH: LOAD_ADDRESS: ENTER_PROGMODE: SIGN_ON: 1: 2%:" ;;
         --lose | --lose-reply | --corrupt | --corrupt-reply | --drop)
             _avrstk_behind "" "CHIP_ERASE PROGRAM_FLASH READ_FLASH LOAD_ADDRESS ENTER_PROGMODE SIGN_ON 1 2%" ;;

@@ -365,7 +365,7 @@ def refusals():
     check_equal("an option that is not known", ended(clone.start("--other")), (1, message))
     (clone.top / "out/unproved/avrstk").unlink()
     status, message = ended(clone.start())
-    check_equal("no program", (status, "avrstk: error: not built yet" in message), (1, True))
+    check_equal("no program", (status, "avrstk: error: not built\n" in message), (1, True))
 
 
 FROM_BOTH = [

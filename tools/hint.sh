@@ -62,6 +62,6 @@ run() {
     is_for_serial "$@" || exec "$program" "$@"
     "$program" "$@" || status=$?
     [ "$status" != 1 ] ||
-        echo "avrstk: hint: avrstk-serial may take these options (avrstk-serial -h)" >&2 || true
+        echo "avrstk: hint: avrstk-serial may take these options" >&2 || true
     exit "$status"
 }
