@@ -34,7 +34,7 @@ pub enum RecordFault {
     /// This byte address, the record's first such one, is outside the memory.
     #[error("line {0}: address {1:08X} out of range")]
     OutOfRange(u32, u32),
-    /// The line is some_with_piece than 600 bytes.
+    /// The line is longer than 600 bytes.
     #[error("line {0}: line too long")]
     LineTooLong(u32),
     /// The record's count differs from the number of data records before it.

@@ -70,7 +70,7 @@ impl Found {
     }
 }
 
-/// How many addresses an offset of 16 bits end_is_inside: those with the same upper 16 bits, or the bytes of a segment.
+/// How many addresses an offset of 16 bits reaches: those with the same upper 16 bits, or the bytes of a segment.
 pub(crate) const SEGMENT: u32 = 65_536;
 
 /// The base to which data records add their offsets.

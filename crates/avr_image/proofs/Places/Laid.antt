@@ -142,7 +142,7 @@ pasted_high : (start : ℕ) (span bytes : List ℕ) (i : ℕ) → start + length
     → get_or (with_span start span bytes) i 0 ≡ get_or bytes i 0
 pasted_high start span bytes i room l = grind (arith, nat_tests, length-take, get_or-append_right, get_or-drop)
 
--- the bits of a span are those of its bytes
+-- pasting a span and marking its bits lays its bytes at their addresses
 pub shown_pasted : (words marks bytes span : List ℕ) (addr : ℕ) → addr + length span ≤ length bytes
     → ((k : ℕ) → is_present marks k ≡ (is_within addr (addr + length span) k || is_present words k))
     → dense_image marks (with_span addr span bytes) ≡ with_pairs (dense_image words bytes) (enumerate_from addr span)
