@@ -41,8 +41,8 @@ class Report:
         self.begun = time.monotonic()
         self.lines: list[str] = []
         self.runs: list[Outcome] = []
-        # how many lines there were before the last run
-        self.before = 0
+        # how many lines there were before the last run, and how often --retry ran a command again
+        self.before = self.retries = 0
         self.stage = "arguments"
         self.fault: str | None = None
 
@@ -54,6 +54,7 @@ class Report:
         """Notes that a run of avrstk begins."""
         self.runs.append(outcome)
         self.before = len(self.lines)
+        self.retries += outcome.words.tries > 1
 
     def last_lines(self) -> list[str]:
         """Returns the lines of avrstk's last run."""
@@ -77,7 +78,8 @@ class Report:
             return "interrupted"
         if error == self.fault:
             return self.stage
-        if error == "no answer" and self.sent() <= {SIGN_ON, LEAVE} and self.signature() is None:
+        is_silent = error.startswith("no answer") or any(run.is_noisy for run in self.runs[-1:])
+        if is_silent and self.sent() <= {SIGN_ON, LEAVE} and self.signature() is None:
             return "silent"
         return next((kind for begin, kind in KINDS.items() if re.match(begin, error)), "arguments")
 
@@ -145,7 +147,7 @@ class Report:
             "updates": [self.update(words, update) for update in words.updates],
             "commands": sum(run.sent for run in self.runs),
             "repeated": sum(run.repeated for run in self.runs),
-            "retries": max(0, words.tries - 1),
+            "retries": self.retries,
             **self.outcome(words, status, number),
         }
 
