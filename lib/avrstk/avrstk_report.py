@@ -4,7 +4,7 @@ from __future__ import annotations
 
 from avrstk_common import NAME, Fault, print_line, show, version
 from avrstk_hints import CHANGING, LEAVE, NO_SIGNATURES, SIGN_ON, Outcome
-from avrstk_words import Update, Words
+from avrstk_words import MEMORIES, Update, Words
 
 import contextlib
 import hashlib
@@ -28,6 +28,8 @@ KINDS = {
     r"no answer( in 4096 bytes)?$|link (ended|cannot be \w+)$|command \w\w: bad answer$": "line",
     r"port .*[^:] cannot be opened$": "device",
     r"out of memory$": "interrupted",
+    # (values that a memory has no place for)
+    rf"({'|'.join(MEMORIES)}): address \w+ out of range$": "arguments",
     r".*: (cannot be |in use by |not a regular |longer than |line \d+: |\d+ bytes, )": "file",
     r".*: (bad |line too long|no record mark|address )": "file",
 }
