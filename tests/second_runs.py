@@ -250,7 +250,7 @@ def advised(given, plan, text):
     """Returns the command that a hint advises for a programmer; None if it advises none. `plan` is the whole command,
     which has what was left out, too."""
     changes = "with -D, without -e|without its first \\d+ -U|without --each|with another number"
-    changes += "|with another programmer or chip"
+    changes += "|with another programmer"
     again = re.search(f"run the same command again((?:,? (?:{changes}))*)$", text)
     erase = ERASE.search(text)
     if erase:

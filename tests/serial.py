@@ -847,6 +847,13 @@ def retries():
         check_equal(f"{each}: {hint}", found, (int(hint != ""), again + [hint] * (hint != "")))
         check(f"{each}: the chip", is_flashed == (hint == ""), own)
 
+    wrong = board_of("reply 18 1800E100")
+    programmer = Boards(wrong, wrong)
+    *_, own = run(["-p", "m328p", "-U", "lfuse:w:0xE2:m", "--retry", "1", "-P", str(programmer.device)])
+    programmer.end()
+    # (it is refused for some commands that erase)
+    check("an erase without --retry", ", the lock last, without --retry. The erase clears" in own[-1], own)
+
     def spoiled(reply):
         room.put("counter", b"x\n")
         return reply
@@ -1070,6 +1077,11 @@ def backups_that_fail():
     for board, words, why in fails:
         status, own = status_and_lines(words, board)
         check(f"{words}: {why}", status == 1 and own[-1].startswith(why) and not (room.folder / "gone").exists(), own)
+    programmer = Boards({}, board_of("reply 12 12C0"))
+    own = run(["-p", "m328p", "-P", str(programmer.device), "--restore", "a backup"])[3]
+    programmer.end()
+    again = "run the same command again; if it fails again, try another programmer or chip"
+    check_equal("a refused erase", own, [f"the chip may be erased or partly written: {again}"])
     cut = hex_of([(0, bytes(512))])
     for file, text, why, words in [
         ("lock.txt", b"0xfc", "none/lock.txt is of a locked chip", []),
@@ -1494,7 +1506,7 @@ def each_once(words, *_):
 
 
 def stays(words, case, found):
-    """Decides by the data sheet whether the part lacks the bits that differ."""
+    """Decides by the data sheet whether the part can change the bits that differ."""
     memory, _, held, _ = found[1].split(":")
     has = {"efuse": 0x07, "lock": 0x3F}[memory] if "lacks" in case else 0xFF
     given = next(word for word in words if word.startswith(f"{memory}:")).split(":")[2]
@@ -1699,13 +1711,20 @@ def elf_files_with_faults():
     print(summary, flush=True)
 
 
+# advice to run the same command again, with its changes
+AGAIN = (
+    r"run the same command again(?: (with -D, without -e))?(?:,? without its first (\d+) -U)?"
+    r"((?:,? without --each(?:, --\w+)*)?(?:, without --retry)?)$"
+)
+
+
 def repeated(words, _, found):
-    """Follows a hint to run the same command again, without an erase, or without the first updates."""
-    again = re.search(
-        r"run the same command again(?: (with -D, without -e))?(?:,? without its first (\d+) -U)?$", found.string
-    )
+    """Follows a hint to run the same command again, without an erase, the first updates, or other options."""
+    again = re.search(AGAIN, found.string)
     count = int(again[2] or 0) if again else 0
     at = [at for at, word in enumerate(words) if word == "-U"][:count]
+    options = re.findall(r"--\w+", again[3]) if again else []
+    at += [place for place, word in enumerate(words) if word in options]
     kept = [word for place, word in enumerate(words) if place not in at and place - 1 not in at]
     return [*without(kept, "-e"), "-D"] if again and again[1] else kept
 
@@ -1753,7 +1772,7 @@ FOLLOWED = [
     (r"may refuse this: use a programmer\. If this is one, ", on_this_device(lambda *_: None)),
     (r"^a Mega's bootloader erases pages from 0 on: give one image", another_file),
     (
-        r"check -p and the image",
+        r"check -p and the (image|values)",
         lambda words, case, _: other_part(words, case["part"], "blink.hex") if "part" in case else None,
     ),
     (
@@ -1785,20 +1804,20 @@ FOLLOWED = [
     (r"^with --parts, -p takes a part as that file names it, or (m328p)", changed("^(m9|ATmega328P)$", r"\1")),
     (r"^only bits that \S+ can't change differ: give (\S+)", lambda words, _, found: valued(words, found[1])),
     (r"^only bits that \S+ can't change differ: (since .*), with (\S+)$", repeated_with),
-    (r"^give (\S+) if the part lacks the bits that differ; else (.*)", stays),
+    (r"^give (\S+) if the part can't change the bits that differ; else (.*)", stays),
     (r"give -e and all that is to be written(, with another number)?, each memory once, the lock last", each_once),
     (
-        r"^no valid reply to SIGN_ON; the chip is unchanged\. Check: .*, else stk500v2$",
+        r"^no valid reply to SIGN_ON; the chip is unchanged\. Check: .*; the default is stk500v2$",
         lambda words, case, found: [word for before, word in zip(["", *words], words) if "-c" not in (before, word)]
         if "-c" in words
         else mended(words, case, found),
     ),
     (r"^check the output's name", changed(":(/dev/full|-):h", ":read.txt:h")),
     (r"^ended by SIG|^a signature of 00 or FF|^check the (cable|wires|speed)|power-cycle the board", mended),
-    (r"run the same command again(?: with -D, without -e)?(?:,? without its first \d+ -U)?$", repeated),
+    (AGAIN, repeated),
     (
         r"reads as something else than [^;]*$|differ: check -p$|^try another programmer or chip$"
-        r"|, with another programmer or chip$"
+        r"|, with another programmer$"
         r"|^the signature is that of no part|is not supported: .* Use avrdude",
         lambda *_: None,
     ),
@@ -2264,9 +2283,24 @@ def report_of_last_run():
         found = report_of("report.json")
         check_equal(f"{last}: the error", (found["error"], found["kind"], found["retries"]), (error, kind, 1))
         check_equal(f"{last}: the counts", [update["written"] for update in found["updates"]], counts)
+    report_of_retries()
     run([*words[:4], *words[6:]], env=stand_in("sys.stderr.flush()\nos.kill(os.getpid(), 9)\n"))
     check_equal("avrstk was ended", report_of("report.json")["kind"], "interrupted")
     board.end()
+
+
+def report_of_retries():
+    """A session before the run that is made again is a retry. A run without a number, which isn't made, is none."""
+    room.put("one.csv", b"serial\n1\n")
+    numbers = ["--each", "eeprom@0={n}", "--rows", "one.csv", "--counter", "one.next", "--from", "1"]
+    for boards_of_run, words, count in [
+        ([silent(1), {}, {}], ["-p", "auto", "-U", "lfuse:w:0xE2:m"], 1),
+        ([silent(0x15)], ["-p", "m328p", *numbers], 0),
+    ]:
+        programmer = Boards(*boards_of_run)
+        run([*words, "-P", str(programmer.device), "--retry", "1", "--json", "again.json"])
+        programmer.end()
+        check_equal(f"{words}: its retries", report_of("again.json")["retries"], count)
 
 
 def report_of_lost_lines():

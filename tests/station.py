@@ -212,7 +212,7 @@ def refused():
     """A refused command opens no device and takes no number; its line comes once."""
     texts = {"counter": "7\n", "bad": "seven\n", "cut": "7", "full": f"{10**15}\n"}
     texts |= {"rows.csv": "serial,mac\nA1,0102\nA2,0304\n", "empty.csv": "serial\n", "odd.csv": "serial,mac\nA1\n"}
-    texts |= {"blank.csv": "\n\n"}
+    texts |= {"blank.csv": "\n\n", "own.toml": (TOP / "parts/classic.toml").read_text()}
     os.mkfifo(room.folder / "pipe")
     for name, text in texts.items():
         room.put(name, text.encode())

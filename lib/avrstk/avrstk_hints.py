@@ -31,8 +31,9 @@ CABLE = "check the cable, the wires and the power; {state}"
 DAMAGED = "build or download the file again, and don't edit it"
 SILENT = (
     "no valid reply to SIGN_ON; {state}. Check: the speed (-b {baud}); that no serial monitor has the port open; that "
-    "the board resets when the port opens, or press reset right after starting; -c, which is arduino for an Uno or "
-    "Nano itself, wiring for a Mega 2560 itself, arduino_as_isp for the sketch ArduinoISP, else stk500v2"
+    "a bootloader's board resets when the port opens, or press reset right after starting; -c, such as arduino for an "
+    "Uno or Nano itself, wiring for a Mega 2560 itself, arduino_as_isp for the sketch ArduinoISP; the default is "
+    "stk500v2"
 )
 
 
@@ -107,9 +108,8 @@ def again(run: Outcome) -> str:
     is_other = any(update.operation != "w" and update.memory in after for update, after in zip(done, later))
     if erases(words) and not may_lose(run) and not is_other:
         return same(words) + NUMBER * bool(words.each_given)
-    base = words.updates if words.each is None or words.each.base is None else words.each.base
     # (one number is for all updates that have it)
-    own = [update for update in words.updates if update not in base]
+    own = numbered(words)
     is_each = bool(own) and own[-1] in done
     if not is_each and not words.is_bootloader and any(one.writes_flash() and one in own for one in run.begun()):
         # (flash that isn't erased takes no second number)
@@ -117,17 +117,34 @@ def again(run: Outcome) -> str:
     left = done if is_each else list(itertools.takewhile(lambda update: update not in own, done))
     count = sum(update.file != "--each" for update in left)
     changes = ["with -D, without -e"] * erases(words) + [f"without its first {count} -U"] * bool(count)
-    changes += ["without --each"] * is_each
-    why = "since another erase may clear EEPROM, " * erases(words)
+    changes += [f"without {', '.join(options_of_each(words))}"] * is_each
+    changes += ["without --retry"] * (bool(changes) and takes_retry(words))
+    why = "since another erase may clear EEPROM, " * may_lose(run)
     return f"{why}{same(words)} {', '.join(changes)}".rstrip() + NUMBER * (bool(words.each_given) and not is_each)
+
+
+def numbered(words: Words) -> list[Update]:
+    """Returns the updates that --each made or changed."""
+    base = words.updates if words.each is None or words.each.base is None else words.each.base
+    return [update for update in words.updates if update not in base]
+
+
+def options_of_each(words: Words) -> list[str]:
+    """Returns --each and the command's options that need it."""
+    return ["--each", *(option for option in ("--counter", "--from", "--rows") if option in words.last)]
+
+
+def takes_retry(words: Words) -> bool:
+    """Whether the command has --retry, which is refused for some commands that hints advise."""
+    return int(words.retry) > 0
 
 
 def by_erase(words: Words) -> str:
     """Advises what ends old bits of flash, a lock, and two values for one memory."""
-    number = NUMBER * bool(words.each_given)
+    number, retry = NUMBER * bool(words.each_given), ", without --retry" * takes_retry(words)
     return (
-        f"with a programmer give -e and all that is to be written{number}, each memory once, the lock last. The erase "
-        "clears a lock, flash (a bootloader, too), and EEPROM unless the fuse bit EESAVE is 0"
+        f"with a programmer give -e and all that is to be written{number}, each memory once, the lock last{retry}. The "
+        "erase clears a lock, flash (a bootloader, too), and EEPROM unless the fuse bit EESAVE is 0"
     )
 
 
@@ -191,14 +208,14 @@ def matched(table: Table, error: str, run: Outcome, **fields: str) -> str:
 
 def no_part(words: Words, _: Match[str] | None) -> str:
     """Returns why a part isn't there, if it is known."""
-    name = long_name(words.part)
+    # (a package may follow, as -PU)
+    name = re.sub(r"-\w+$", "", long_name(words.part))
     if words.parts_file is not None:
         return "with --parts, -p takes a part as that file names it, or m328p, t85 or m2560"
     for names, reason in rows_of("unsupported.txt"):
         if {name, f"at{name}"} & {*names.lower().split()}:
             return f"{name} is not supported: {reason.partition('. ')[0]}. Use avrdude"
-    package = re.sub(r"-\w+$", "", name)
-    known = next((other for other in (package, f"at{package}") if other in parts()), None)
+    known = next((other for other in (name, f"at{name}") if other in parts()), None)
     return f"give -p {known}" if known else "-p takes a chip's name, such as m328p: -p '?' lists all"
 
 
@@ -209,17 +226,22 @@ def unread(run: Outcome, found: Match[str]) -> str:
     images = [update for update in words.updates if update.is_image and name in (update.handed, update.file)]
     values = [update for update in words.updates if update.format == "m" and name == update.memory]
     update = next(iter(images + values), None)
-    if update and address:
-        own, is_of_elf = f"{update.memory}:{update.operation}", 0x810000 <= int(address, 16) < SIGNATURE
-        if update.memory in FUSES:
-            return f"give its value, as {own}:0xNN:m"
+    if update and address and update.memory in FUSES:
+        return f"give its value, as {update.memory}:{update.operation}:0xNN:m"
+    form = form_of(update.held(65_536)) if update and update.is_image else None
+    if update and form and update.format not in (None, "a", form) and (form != "e" or update.memory in AREAS):
+        return f"it has {FORMATS[form]}: give {update.given_as(form)}"
+    return too_high(words, update, int(address, 16)) if update and address else DAMAGED
+
+
+def too_high(words: Words, update: Update, address: int) -> str:
+    """Returns what to do about an address that the memory doesn't have."""
+    if update.memory in AREAS and 0x810000 <= address < SIGNATURE:
         # (the address of EEPROM, a fuse or the lock)
-        is_of_elf &= update.memory in AREAS
-        return f"give the ELF file itself, as {own}:NAME.elf" if is_of_elf else "check -p and the image"
-    form = form_of(update.held(65_536)) if update else None
-    if not update or not form or update.format in (None, "a", form) or form == "e" and update.memory not in AREAS:
-        return DAMAGED
-    return f"it has {FORMATS[form]}: give {update.given_as(form)}"
+        return f"give the ELF file itself, as {update.memory}:{update.operation}:NAME.elf"
+    given = [] if update.file == "--each" else ["the values" if update.format == "m" else "the image"]
+    given += ["--each"] * (update in numbered(words))
+    return f"check {', '.join(['-p', *given[:-1]])} and {given[-1]}"
 
 
 def unopened(run: Outcome, found: Match[str]) -> str:
@@ -233,7 +255,7 @@ def unopened(run: Outcome, found: Match[str]) -> str:
         is_bare = own.operation in "wv" and own.given.count(":") == 2
         if is_bare and re.fullmatch(form, file) and not os.path.lexists(file):
             return f"a value needs :m after it, as {update}:0xNN:m"
-        if os.path.isfile(front):
+        if os.path.isfile(front) and not os.path.lexists(file):
             return "a format is one letter, such as :i"
     return "check its name and permissions"
 
@@ -267,11 +289,12 @@ def differs(run: Outcome, found: Match[str]) -> str:
         return f"only bits that {words.part} can't change differ: {'check -p' if is_wrong else give}"
     if update.operation == "v":
         is_hidden = memory in ("flash", "eeprom") and not words.is_bootloader
-        return (
-            f"{memory} reads as something else than {update.file}" + f", or the lock hides it ({OPEN_LOCK})" * is_hidden
-        )
-    may_lack = bits is None and words.restore is None and memory in ("efuse", "lock") and not wanted & ~held
-    return f"{give} if the part lacks the bits that differ; else " * may_lack + unlike(run, memory, wanted, held)
+        file = "standard input" if update.file == "-" else update.file
+        return f"{memory} reads as something else than {file}" + f", or the lock hides it ({OPEN_LOCK})" * is_hidden
+    # (bits of a lock that are 0 need an erase, but some parts read the bits that a lock lacks as 0)
+    is_fixed = memory != "lock" or not wanted & ~held or not (wanted ^ held) & 0x3F
+    may_lack = bits is None and words.restore is None and memory in FUSES and is_fixed
+    return f"{give} if the part can't change the bits that differ; else " * may_lack + unlike(run, memory, wanted, held)
 
 
 def unlike(run: Outcome, memory: str, wanted: int, held: int) -> str:
@@ -283,8 +306,17 @@ def unlike(run: Outcome, memory: str, wanted: int, held: int) -> str:
     way, erase = again(run), by_erase(words)
     if way != erase and is_other and may_lose(run) and memory in FUSES:
         # (without its erase the command would next advise an erase)
-        return f"{way}, with another programmer or chip"
+        return f"{way}, with another programmer"
     return erase if way == erase else f"{way}; {OTHER if is_other else f'if it fails again, {erase}'}"
+
+
+def unerased(run: Outcome, _: Match[str]) -> str:
+    """Returns the hint after a refused erase. (Before a restore a bootloader refuses the calibration.)"""
+    loader = (
+        "a bootloader can't erase the chip, and a programmer's erase clears the bootloader: give -D, not -e, and for "
+        f"flash {ONE_IMAGE}{', without --retry' * takes_retry(run.words)}. If this is a programmer, "
+    )
+    return loader * (run.words.restore is None) + f"{state_of(run)}; {OTHER}"
 
 
 def erases(words: Words) -> bool:
@@ -330,8 +362,7 @@ REPLIED: Table = {
     "no answer$|link |command .* C1$": CABLE,
     "no answer in|.*bad answer$": "check the speed (-b {baud}), and that nothing else sends data; {state}",
     r"command 10 .*(80|81|C0)$": "check the wires, the power, the clock and the reset pin; {state}",
-    "command 12 ": "a bootloader can't erase the chip, and a programmer's erase clears the bootloader: give -D, not -e,"
-    f" and for flash {ONE_IMAGE}. If this is a programmer, {{state}}; {OTHER}",
+    "command 12 ": unerased,
     "command (17|19|1C) ": f"a bootloader may refuse this: use a programmer. If this is one, {{state}}; {OTHER}",
     "command ": f"{{state}}; {OTHER}",
 }

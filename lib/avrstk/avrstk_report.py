@@ -4,7 +4,7 @@ from __future__ import annotations
 
 from avrstk_common import NAME, Fault, print_line, show, version
 from avrstk_hints import CHANGING, LEAVE, NO_SIGNATURES, SIGN_ON, Outcome
-from avrstk_words import Update, Words
+from avrstk_words import MEMORIES, Update, Words
 
 import contextlib
 import hashlib
@@ -28,6 +28,8 @@ KINDS = {
     r"no answer( in 4096 bytes)?$|link (ended|cannot be \w+)$|command \w\w: bad answer$": "line",
     r"port .*[^:] cannot be opened$": "device",
     r"out of memory$": "interrupted",
+    # (values that a memory has no place for)
+    rf"({'|'.join(MEMORIES)}): address \w+ out of range$": "arguments",
     r".*: (cannot be |in use by |not a regular |longer than |line \d+: |\d+ bytes, )": "file",
     r".*: (bad |line too long|no record mark|address )": "file",
 }
@@ -41,8 +43,8 @@ class Report:
         self.begun = time.monotonic()
         self.lines: list[str] = []
         self.runs: list[Outcome] = []
-        # how many lines there were before the last run
-        self.before = 0
+        # how many lines there were before the last run, and how often --retry ran a command again
+        self.before = self.retries = 0
         self.stage = "arguments"
         self.fault: str | None = None
 
@@ -54,6 +56,7 @@ class Report:
         """Notes that a run of avrstk begins."""
         self.runs.append(outcome)
         self.before = len(self.lines)
+        self.retries += outcome.words.tries > 1
 
     def last_lines(self) -> list[str]:
         """Returns the lines of avrstk's last run."""
@@ -77,7 +80,8 @@ class Report:
             return "interrupted"
         if error == self.fault:
             return self.stage
-        if error == "no answer" and self.sent() <= {SIGN_ON, LEAVE} and self.signature() is None:
+        is_silent = error.startswith("no answer") or any(run.is_noisy for run in self.runs[-1:])
+        if is_silent and self.sent() <= {SIGN_ON, LEAVE} and self.signature() is None:
             return "silent"
         return next((kind for begin, kind in KINDS.items() if re.match(begin, error)), "arguments")
 
@@ -145,7 +149,7 @@ class Report:
             "updates": [self.update(words, update) for update in words.updates],
             "commands": sum(run.sent for run in self.runs),
             "repeated": sum(run.repeated for run in self.runs),
-            "retries": max(0, words.tries - 1),
+            "retries": self.retries,
             **self.outcome(words, status, number),
         }
 

@@ -387,6 +387,13 @@ class Talk:
         return piece
 
 
+def judged_text(words: Words, line: bytes) -> str:
+    """Returns a line of avrstk as a hint judges it. (Several updates may have one file: only the name that avrstk got
+    tells which one is faulty.)"""
+    is_name = line.endswith(b": cannot be opened")
+    return os.fsdecode(words.shown(line) if is_name else line).partition("avrstk: ")[2]
+
+
 class Run:
     """One run of avrstk. Once avrstk connects, the device is bridged to its port, unless it has a port of its own."""
 
@@ -411,8 +418,7 @@ class Run:
         if self.words.is_wanted(line):
             self.put(shown + b"\n")
         self.words.report.note(os.fsdecode(shown).partition("avrstk: ")[2])
-        # (several updates may have one file: only the name that avrstk got tells which one is faulty)
-        text = os.fsdecode(shown if line.endswith(b": cannot be opened") else line).partition("avrstk: ")[2]
+        text = judged_text(self.words, line)
         self.outcome.may_change |= text.startswith("device signature = ") and self.words.changes()
         self.outcome.steps += bool(re.match(r"chip erased$|\w+: \d+ bytes (not )?\w+$", text))
         if text.startswith("error: ") and not self.outcome.error:
@@ -584,11 +590,12 @@ def check(words: Words, earlier: frozenset[int] = frozenset()) -> None:
     command = [reported_session(), "--outline", *only.options("stdio:")]
     ran = subprocess.run(command, stdin=quiet, stdout=quiet, stderr=subprocess.PIPE, close_fds=False)
     if ran.returncode:
-        shown = [words.shown(line) for line in ran.stderr.splitlines()]
+        lines = ran.stderr.splitlines()
+        shown = [words.shown(line) for line in lines]
         messages.put(b"".join(line + b"\n" for line in shown))
-        texts = [os.fsdecode(line).partition("avrstk: ")[2] for line in shown]
-        for text in texts:
-            words.report.note(text)
+        for line in shown:
+            words.report.note(os.fsdecode(line).partition("avrstk: ")[2])
+        texts = [judged_text(words, line) for line in lines]
         error = next((text[7:] for text in texts if text.startswith("error: ")), "")
         raise Fault(hint(Outcome(only, earlier, error=error), None))
 
