@@ -177,7 +177,7 @@ def print_line(text: str) -> None:
 
 def show(text: str) -> None:
     """Prints on standard output."""
-    rest = f"{text}\n".encode()
+    rest = f"{text}\n".encode("utf-8", "surrogateescape")
     try:
         while rest:
             rest = rest[os.write(1, rest) :]
