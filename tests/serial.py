@@ -2579,7 +2579,9 @@ def names_and_interrupts():
     board, link = Board(), os.fsencode(room.folder) + b"/\xff"
     os.symlink(board.device, link)
     status, output, _, own = run(["-p", "m328p", b"-P", link, "--backup", "named"])
-    check_equal("the name in a command", (status, own, os.fsencode(shlex.quote(os.fsdecode(link))) in output), (0, [], True))
+    check_equal(
+        "the name in a command", (status, own, os.fsencode(shlex.quote(os.fsdecode(link))) in output), (0, [], True)
+    )
     board.end()
     for name in ["avrstk_serial", "avrstk_common", "glob"]:
         started = start(["-p", "?"], env={"PYTHONPATH": str(room.folder), "SENDS_AT": name})

@@ -176,7 +176,7 @@ def print_line(text: str) -> None:
 
 
 def show(text: str) -> None:
-    """Prints on standard output."""
+    """Prints on standard output. (A name may not be UTF-8.)"""
     rest = f"{text}\n".encode("utf-8", "surrogateescape")
     try:
         while rest:

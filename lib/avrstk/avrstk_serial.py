@@ -912,7 +912,10 @@ def prepare(words: Words) -> None:
     judge(words)
     if "-l" in words.last:
         words.report.stage = "file"
-        messages.log = open(words.last["-l"], "wb", 0)
+        try:
+            messages.log = open(words.last["-l"], "wb", 0)
+        except OSError as fault:
+            raise Fault(f"-l {words.last['-l']}: {fault.strerror}: {UNOPENED}")
     words.report.stage = "arguments"
     if words.left_out:
         words.note(f"ignored: {', '.join(words.left_out)}")
