@@ -394,7 +394,7 @@ def parts():
 
 UNOPENED = "nothing was sent, and the device was not opened"
 LIKE_TEXT = "looks like text: give :r only if its bytes are meant"
-LISTED = "no such device (-P '?' lists devices)"
+LISTED = "no such serial device (-P '?' lists devices)"
 
 # texts that are no firmware, and updates of images without a byte
 TEXTS = {
@@ -760,12 +760,12 @@ def bits_that_do_not_exist():
     """For most parts that it knows, the script prints which bits a fuse or lock lacks, and gives avrstk 1 there."""
     note = "atmega328p lacks bits of"
     recipe = ["-e", "-Ulock:w:0x3F:m", "-Uefuse:w: 0X05,:m", "-Uhfuse:w:0xDE:m", "-Ulfuse:w:255:m"]
-    shown = [f"{note} lock: lock:w:0x3F:m is given as lock:w:0xFF:m"]
-    shown.append(f"{note} efuse: efuse:w: 0X05,:m is given as efuse:w:0xFD:m")
+    shown = [f"{note} lock: lock:w:0x3F:m becomes lock:w:0xFF:m"]
+    shown.append(f"{note} efuse: efuse:w: 0X05,:m becomes efuse:w:0xFD:m")
     status, _, _, own, chip = over(["-patmega328p", *recipe])
     check_equal("a recipe of the Arduino IDE", (status, own, chip[-4:].hex()), (0, shown, "ffdefdff"))
     status, _, _, own = run(["-patmega328p", "-P", "emu:chip.bin", *recipe, "-Uefuse:v:0B101:m"])
-    shown.append(f"{note} efuse: efuse:v:0B101:m is given as efuse:v:0xFD:m")
+    shown.append(f"{note} efuse: efuse:v:0B101:m becomes efuse:v:0xFD:m")
     check_equal("the same over emu:", (status, own, room.read("chip.bin")[-4:].hex()), (0, shown, "ffdefdff"))
     room.put("mine.toml", (TOP / "parts/classic.toml").read_bytes())
     status, _, _, own = run(["--parts", "mine.toml", "-pm328p", "-P", "emu:own.bin", *recipe])
@@ -886,7 +886,7 @@ def retries_that_are_refused():
     def ran(*words):
         status, _, _, own = run(["-p", "m328p", "-P", device, "--retry", "1", *words], env=fails)
         named = own[0].partition("--retry takes no ")[2]
-        return status, named.removeprefix("-U ")
+        return status, named.removeprefix("-U ").removesuffix(": two runs may have another result than one")
 
     two = ["-U", "flash:w:blink.hex:i", "-U", "flash:w:late.hex:i"]
     check_equal("--retry without avrstk_session", ran(*two), (1, "flash:w:late.hex:i"))
@@ -908,7 +908,7 @@ def the_part_of_the_chip():
     words = ["-p", "auto", "-U", "flash:w:blink.hex:i", "-U", "lock:w:0x3F:m"]
     programmer = Boards(silent(0x1B), {}, {})
     status, _, printed, own = run([*words, "--retry", "1", "-P", str(programmer.device)])
-    note, again = "m328p lacks bits of lock: lock:w:0x3F:m is given as lock:w:0xFF:m", "no answer: trying again, 1 of 1"
+    note, again = "m328p lacks bits of lock: lock:w:0x3F:m becomes lock:w:0xFF:m", "no answer: trying again, 1 of 1"
     check_equal("its lines", (status, own), (0, [again, "-p auto takes m328p", note]))
     check("the run's own lines alone", printed.startswith(lines(SIGNATURE, "chip erased")), printed)
     check_equal("the chip", programmer.end(), wanted)
@@ -1022,7 +1022,7 @@ def few_lines():
     ]
     board = Boards({}, silent(0x13), {})
     status, _, _, own = run([*quiet, "-P", str(board.device)])
-    shown = ["m328p lacks bits of efuse: efuse:w:5:m is given as efuse:w:0xFD:m"]
+    shown = ["m328p lacks bits of efuse: efuse:w:5:m becomes efuse:w:0xFD:m"]
     shown.append("warning: lfuse:w:0:m selects an external clock: then a programmer may not reach the chip")
     check_equal("-q twice", (status, own), (0, shown))
     check("the chip", board.end()[:228] == flashed()[:228])
@@ -1381,11 +1381,16 @@ def over_a_bootloader():
 
 def files_of_one_command():
     """An output that is another file of the command is refused before a file is opened or changed."""
-    room.run([*NO_CHIP, "-e"])
+    run([*NO_CHIP, "-q", "--backup", "kept"])
+    room.put("-", room.read("blink.hex"))
     os.link(room.folder / "blink.hex", room.folder / "hard.hex")
     for name, end in [("soft.bin", "no.bin"), ("soft.toml", "parts.toml"), ("soon.hex", "later.hex")]:
         (room.folder / name).symlink_to(end)
-    kept = {path.name: path.read_bytes() for path in room.folder.iterdir() if path.is_file()}
+
+    def held():
+        return {str(path): path.read_bytes() for path in room.folder.rglob("*") if path.is_file()}
+
+    kept = held()
     line, device = terminal()
 
     def meant(text):
@@ -1394,11 +1399,7 @@ def files_of_one_command():
     for words, wanted in table("files"):
         status, _, printed, own = run(["-p", "m328p", *shlex.split(meant(words))])
         check_equal(words, (status, printed, own), (1, b"", [f"{meant(wanted)}: {UNOPENED}"]))
-        check_equal(
-            f"{words}: the files",
-            {path.name: path.read_bytes() for path in room.folder.iterdir() if path.is_file()},
-            kept,
-        )
+        check_equal(f"{words}: the files", held(), kept)
     os.close(line)
     room.put("old.log", b"old")
     run([*NO_CHIP, "-l", "old.log", "-U", "flash:w:no.hex:s", "-B", "1"])
@@ -2481,7 +2482,7 @@ def one_run_at_a_time():
     first = start([*FLASH, "-P", device, "-b", "57600", "--wait", "0"], env=fake)
     wait_until(lambda: speed(line) == (57_600, 57_600))
     status, _, printed, own = run([*FLASH, "-P", device, "-b", "9600"])
-    wanted = f"{device}: cannot be opened: it is busy"
+    wanted = f"{device} is busy"
     check("a second run at once", (status, own[-1:]) == (1, [wanted]), (status, printed, own))
     check_equal("the first one's speed", speed(line), (57_600, 57_600))
     if ANYONE:
@@ -2576,7 +2577,7 @@ def strangers():
     check_equal("the stranger receives", received, b"")
     room.put("go", b"")
     _, printed = started.communicate(timeout=PATIENCE)
-    line = b"avrstk-serial: a call was refused: /proc doesn't show that avrstk made it\n"
+    line = b"avrstk-serial: refused a connection that isn't avrstk's, as far as /proc shows\n"
     check_equal("the run", (started.returncode, printed, board.end() == wanted), (0, line + lines(*FIRMWARE), True))
 
 
@@ -2601,6 +2602,21 @@ def names_and_interrupts():
         _, printed = started.communicate(timeout=PATIENCE)
         wanted = f"avrstk-serial: {shown}: {LISTED}\n".encode()
         check_equal(f"the name {device}", (started.returncode, printed), (1, wanted))
+    for words, shown in [
+        ([b"-U", b"lfuse:r:\xff:h"], "lfuse:r:\\xff:h"),
+        (["-P", "emu:other.bin", b"-U", b"lfuse:w:\xff:m"], "lfuse:w:\\xff:m"),
+        ([b"--parts", b"\xff"], "\\xff"),
+        ([b"--backup", b"\xff"], "\\xff"),
+    ]:
+        _, _, printed, own = run([*NO_CHIP, *words])
+        check_equal(f"{words}", (printed, own), (b"", [f"{shown} is not UTF-8: {UNOPENED}"]))
+    board, link = Board(), os.fsencode(room.folder) + b"/\xff"
+    os.symlink(board.device, link)
+    status, output, _, own = run(["-p", "m328p", b"-P", link, "--backup", "named"])
+    check_equal(
+        "the name in a command", (status, own, os.fsencode(shlex.quote(os.fsdecode(link))) in output), (0, [], True)
+    )
+    board.end()
     for name in ["avrstk_serial", "avrstk_common", "glob"]:
         started = start(["-p", "?"], env={"PYTHONPATH": str(room.folder), "SENDS_AT": name})
         check_equal(f"Ctrl-C before {name} is loaded", end_of(started), (-signal.SIGINT, b"", b""))

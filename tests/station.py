@@ -170,7 +170,7 @@ def one_command():
         "a board that isn't there", (status, [board["status"] for board in json.loads(held)["runs"]]), (1, [0, 0, 1])
     )
     check_equal("its kind", [board["kind"] for board in json.loads(held)["runs"]], [None, None, "device"])
-    why = "three: no such device (-P '?' lists devices)"
+    why = "three: no such serial device (-P '?' lists devices)"
     check("its line", f"three: avrstk-serial: {why}" in messages, messages)
     check_equal("lists go to the output", sorted(rows), ["one: 0xff", "two: 0xff"])
     for name in ["one", "two"]:

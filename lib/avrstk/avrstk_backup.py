@@ -24,6 +24,11 @@ def text_of(folder: str, memory: str) -> str:
     return Path(folder, f"{memory}.{FILES[memory][:3]}").read_text("ascii", "replace")
 
 
+def files_of(folder: str | None) -> list[str]:
+    """Returns the files that --restore reads; none without a folder."""
+    return [f"{folder}/{name}.{end[:3]}" for name, end in FILES.items() if folder and name != "calibration"]
+
+
 def bytes_of(folder: str, memory: str) -> list[int]:
     """Returns the values of a file."""
     text = text_of(folder, memory).strip()

@@ -5,7 +5,7 @@ from __future__ import annotations
 from avrstk_common import BUILT_IN, NO_PARTS, READ, WRITE, Fault, Frames, Source, Way, brief, came, data_file, ended_by
 from avrstk_common import build_unproved, heed_signals, is_frame, messages, parts, print_line, ready, reported_session
 from avrstk_common import show, text_of, version, wait
-from avrstk_backup import asking, back_up, restored
+from avrstk_backup import asking, back_up, files_of, restored
 from avrstk_each import Each
 from avrstk_faults import xor
 from avrstk_report import Report, fault_of, write
@@ -158,7 +158,7 @@ def judge_device(device: str | None) -> str:
         # (a folder on the way may be closed)
         raise Fault(text_of(fault))
     if not state or not stat.S_ISCHR(state.st_mode):
-        raise Fault(f"{device}: no such device ({LISTED})")
+        raise Fault(f"{device}: no such serial device ({LISTED})")
     if not os.access(device, os.R_OK | os.W_OK):
         raise Fault(f"{device}: you may not read and write it ({rights(state)})")
     return device
@@ -192,7 +192,7 @@ class Device:
         except OSError as fault:
             self.close()
             is_taken = fault.errno in (errno.EBUSY, errno.EWOULDBLOCK)
-            raise Fault(f"{name}: cannot be {act}: {'it is busy' if is_taken else fault.strerror}")
+            raise Fault(f"{name} is busy" if is_taken else f"{name}: cannot be {act}: {fault.strerror}")
 
     def set_speed(self, baud: int) -> None:
         """Sets the speed; raises OSError if the device takes another one instead."""
@@ -433,7 +433,7 @@ class Run:
             return
         line.close()
         if is_avrstk is False:
-            print_line("a call was refused: /proc doesn't show that avrstk made it")
+            print_line("refused a connection that isn't avrstk's, as far as /proc shows")
 
     def open(self, line: socket.socket) -> None:
         """Opens the device and waits for the board. Only the last SIGN_ON that avrstk sends meanwhile is passed on."""
@@ -528,6 +528,7 @@ def judge(words: Words) -> None:
     for update in words.updates:
         is_read = update.is_image and not update.is_folder()
         update.judge(words.content(update.file) if is_read else None)
+    judge_texts(words)
     if words.each or words.is_station:
         check(words)
     if words.each:
@@ -556,7 +557,17 @@ def judge(words: Words) -> None:
         need_device(words, "--retry")
         unfit = unrepaired(words)
         if unfit:
-            raise Fault(f"--retry takes no {options_of(words, unfit)}")
+            raise Fault(f"--retry takes no {options_of(words, unfit)}: two runs may have another result than one")
+
+
+def judge_texts(words: Words) -> None:
+    """Refuses what avrstk would get and can't take: a text that isn't UTF-8."""
+    given = [words.part, words.parts_file, words.backup, *filter(is_port, words.devices)]
+    for text in filter(None, [*given, *(update.text for update in words.updates)]):
+        try:
+            os.fsencode(text).decode()
+        except UnicodeDecodeError:
+            raise Fault(f"{text} is not UTF-8: {UNOPENED}")
 
 
 def need_device(words: Words, option: str) -> None:
@@ -631,12 +642,14 @@ def judge_files(words: Words, begin: str = "") -> None:
     inputs = {f"{port}{end}" for port in ports for end in ("", ".avrstk-new", ".avrstk-lock") if port}
     inputs |= {update.file for update in words.updates if update.is_image and update.file != "-"}
     inputs |= {words.parts_file or data_file("classic.toml"), *devices, words.last.get("--rows", "")}
+    inputs |= set(files_of(words.restore))
     # (without a part file, and without a table)
     inputs -= {os.devnull, ""}
     outputs = [(f"-U {update.given}", update.file) for update in words.updates if update.operation == "r"]
-    names = [option for option in ("-l", "--backup", "--counter", "--json") if option in words.last]
-    outputs += [(f"{option} {words.last[option]}", words.last[option]) for option in names]
+    # (a log or a counter may be a file named `-`)
     outputs = [output for output in outputs if output[1] != "-"]
+    given = [(option, words.last.get(option)) for option in ("-l", "--backup", "--counter", "--json")]
+    outputs += [(f"{option} {file}", file) for option, file in given if file and (option, file) != ("--json", "-")]
     for number, (word, file) in enumerate(outputs):
         # (a stream takes several outputs)
         is_file = os.path.isfile(file) or not os.path.exists(file)
@@ -734,7 +747,7 @@ def risk_of_loader(words: Words) -> str | None:
         return None
     is_sent = "-D" in words.flags and not {"-e", "-n"} & set(words.flags)
     # (a later number may have a longer text)
-    later = f"--each: {FAR}: use a programmer" if words.each and words.each.end_of("eeprom") > 256 else None
+    later = f"--each: {FAR}" if words.each and words.each.end_of("eeprom") > 256 else None
     return (why_pieces(words) if is_sent else None) or why_far(words) or later
 
 
@@ -881,7 +894,8 @@ def detect(words: Words) -> set[int]:
     if signature in NO_SIGNATURES:
         raise Fault(f"-p auto: {NO_CHIP}; {UNWRITTEN}")
     if len(names) != 1:
-        raise Fault(f"-p auto: parts with signature {signature}: {', '.join(names) or 'none'}; {UNWRITTEN}")
+        found = " or ".join(names) or "no part of classic.toml"
+        raise Fault(f"-p auto: the signature {signature} is that of {found}; {UNWRITTEN}")
     words.note(f"-p auto takes {names[0]}")
     words.part = names[0]
     return outcome.commands
@@ -905,7 +919,10 @@ def prepare(words: Words) -> None:
     judge(words)
     if "-l" in words.last:
         words.report.stage = "file"
-        messages.log = open(words.last["-l"], "wb", 0)
+        try:
+            messages.log = open(words.last["-l"], "wb", 0)
+        except OSError as fault:
+            raise Fault(f"-l {words.last['-l']}: {fault.strerror}: {UNOPENED}")
     words.report.stage = "arguments"
     if words.left_out:
         words.note(f"ignored: {', '.join(words.left_out)}")
@@ -989,7 +1006,7 @@ def execute(words: Words) -> int:
     bits = words.bits() if words.parts_file is None and words.restore is None else {}
     for update in words.updates:
         if update.mask(bits):
-            print_line(f"{words.part} lacks bits of {update.memory}: {update.given} is given as {update.text}")
+            print_line(f"{words.part} lacks bits of {update.memory}: {update.given} becomes {update.text}")
     warn(words)
     outcome = ran(words, earlier=frozenset(sent))
     if outcome.status and not words.has_port:

@@ -284,7 +284,7 @@ def overlaps(pages: list[tuple[int, int]]) -> bool:
 def judge_words(options: Sequence[tuple[str, str]], others: Sequence[str]) -> None:
     """Refuses options without a value, and words without an option."""
     for option, value in options:
-        if option in ("-p", "-P", "-b", "-c") and value.startswith("-"):
+        if option in ("-p", "-P", "-b", "-c") and re.match("-.", value):
             raise Fault(f"{option} needs a value before {value}")
     if others:
         other = re.sub("^(-.*?)=.*", r"\1", others[0])
