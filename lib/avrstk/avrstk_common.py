@@ -176,8 +176,8 @@ def print_line(text: str) -> None:
 
 
 def show(text: str) -> None:
-    """Prints on standard output."""
-    rest = f"{text}\n".encode()
+    """Prints on standard output. (A name may not be UTF-8.)"""
+    rest = f"{text}\n".encode("utf-8", "surrogateescape")
     try:
         while rest:
             rest = rest[os.write(1, rest) :]

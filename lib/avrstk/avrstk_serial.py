@@ -727,7 +727,7 @@ def risk_of_loader(words: Words) -> str | None:
         return None
     is_sent = "-D" in words.flags and not {"-e", "-n"} & set(words.flags)
     # (a later number may have a longer text)
-    later = f"--each: {FAR}: use a programmer" if words.each and words.each.end_of("eeprom") > 256 else None
+    later = f"--each: {FAR}" if words.each and words.each.end_of("eeprom") > 256 else None
     return (why_pieces(words) if is_sent else None) or why_far(words) or later
 
 
