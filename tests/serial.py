@@ -1073,7 +1073,7 @@ def backups_that_fail():
     cut = hex_of([(0, bytes(512))])
     for file, text, why, words in [
         ("lock.txt", b"0xfc", "none/lock.txt is of a locked chip", []),
-        ("lock.txt", b"255", "none/lock.txt is not of --backup", []),
+        ("lock.txt", b"255", "none/lock.txt isn't as --backup writes it", []),
         ("eeprom.hex", hex_of([(0, b"1")]), "none/eeprom.hex is not the whole EEPROM", []),
         ("eeprom.hex", cut, "none/eeprom.hex is not the whole EEPROM", CLASSIC),
         ("eeprom.hex", cut, "none/eeprom.hex is not the whole EEPROM", ["-p", "auto"]),

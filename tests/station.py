@@ -248,6 +248,8 @@ def refused():
         check_equal(f"{words}: its status and lines", found, (1, "", 1, False))
         check(f"{words}: the line", own and own[0].startswith(f"avrstk-serial: {wanted}"), own)
     check_equal("no number is taken", room.read("counter"), b"7\n")
+    run(["-p", "m328p", "-P", "all", "--json", "report.json"])
+    check_equal("no device: the report", (report()["kind"], report()["runs"]), ("device", []))
     room.put("names.csv", "\u0142\n1\n".encode())
     own = ENVIRONMENT | {"LC_ALL": "C", "PYTHONUTF8": "0", "PYTHONCOERCECLOCALE": "0"}
     words = ["-p", "m328p", "-P", "x", "--counter", "counter", "--rows", "names.csv", "--each", "eeprom@0={x}"]

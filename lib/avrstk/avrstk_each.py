@@ -68,6 +68,11 @@ class Spec:
         return self.address, held
 
 
+def without_waiting(name: str, flags: int) -> int:
+    """Opens a file, also a pipe that nobody writes."""
+    return os.open(name, flags | os.O_NONBLOCK)
+
+
 class Counter:
     """A file with the next number, which is replaced whole, by one program at a time."""
 
@@ -78,7 +83,8 @@ class Counter:
     def next(self) -> int:
         """Returns the next number."""
         try:
-            with open(self.file, encoding="ascii", errors="replace") as held:
+            # (a pipe that nobody writes has no number, either)
+            with open(self.file, encoding="ascii", errors="replace", opener=without_waiting) as held:
                 text = held.read(100)
         except FileNotFoundError:
             # (a folder that is missing, too, is named)
@@ -114,7 +120,7 @@ class Counter:
                 if ended_by():
                     raise Fault(UNUSED)
                 if time.monotonic() > until:
-                    raise Fault(f"another process holds {self.file}.lock")
+                    raise Fault(f"another process holds {self.file}.lock: {UNUSED}")
                 time.sleep(0.005)
 
     def replace(self, text: bytes) -> None:

@@ -265,6 +265,7 @@ def judge_outputs(words: Words) -> None:
 def devices_of(words: Words, here: list[str]) -> list[str]:
     """Returns the devices of a command, `all` replaced by those that are here."""
     if "all" in words.devices and not here:
+        words.report.stage = "device"
         raise Fault(f"-P all finds no device: {UNOPENED}")
     found = [name for device in words.devices for name in (here if device == "all" else [device])]
     paths = [os.path.realpath(name) for name in found]
