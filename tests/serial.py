@@ -864,7 +864,7 @@ def retries():
     *_, own = run([*words, "-P", str(programmer.device)])
     programmer.end()
     state = "; the chip may be erased or partly written, and may be in programming mode"
-    is_right = own[-1].startswith("--counter counter: not a number of ") and own[-1].endswith(state)
+    is_right = own[-1].startswith("--counter counter: not a number from 0 to ") and own[-1].endswith(state)
     check("no number for the second attempt", is_right, own)
     room.put("counter", b"7\n")
     programmer = Boards({"vanish": 8})
@@ -934,7 +934,7 @@ def the_part_of_the_chip():
         check_equal(f"{more}", run([*words, *more])[::3], (1, [why]))
     each = ["--each", "eeprom@512={n}", "--counter", "untaken", "--from", "5"]
     _, _, _, own, _ = over(["-p", "auto", *each], board_of("part t85"))
-    has = "--each: eeprom of t85 has 512 bytes: nothing was written"
+    has = "--each: eeprom has no address 0x200: nothing was written"
     check_equal("a text outside the chip's EEPROM", own, ["-p auto takes t85", has])
     check("no number was taken", not (room.folder / "untaken").exists())
 
@@ -1085,7 +1085,7 @@ def backups_that_fail():
     cut = hex_of([(0, bytes(512))])
     for file, text, why, words in [
         ("lock.txt", b"0xfc", "none/lock.txt is of a locked chip", []),
-        ("lock.txt", b"255", "none/lock.txt is not of --backup", []),
+        ("lock.txt", b"255", "none/lock.txt isn't as --backup writes it", []),
         ("eeprom.hex", hex_of([(0, b"1")]), "none/eeprom.hex is not the whole EEPROM", []),
         ("eeprom.hex", cut, "none/eeprom.hex is not the whole EEPROM", CLASSIC),
         ("eeprom.hex", cut, "none/eeprom.hex is not the whole EEPROM", ["-p", "auto"]),

@@ -76,7 +76,7 @@ def run(words, **more):
         ran.kill()
         ran.communicate()
         raise
-    return ran.returncode, (output or b"").decode(), messages.decode().splitlines()
+    return ran.returncode, (output or b"").decode(), (messages or b"").decode().splitlines()
 
 
 def report():
@@ -199,20 +199,37 @@ def one_command():
 
 
 def a_full_output():
-    """If what a board reads can't be printed, its run counts as failed, in the table and in the report."""
+    """If what a board reads can't be printed, its run counts as failed, in the table and in the report. If a message
+    can't be printed, the boards' runs go on, and the report has the script's status."""
     with open("/dev/full", "wb") as full:
         words = ["-p", "m328p", "-P", "emu:a.bin", "-P", "emu:b.bin", "-U", "lfuse:r:-:h", "--json", "report.json"]
-        status, _, messages = run(words, stdout=full)
+        status, _, messages = run([*words, "-e"], stdout=full)
     boards = [(board["status"], board["kind"]) for board in report()["runs"]]
     check_equal("the report", (status, report()["status"], boards), (1, 1, [(1, "file")] * 2))
+    failed = "failed (file), chip changed as asked: standard output cannot be written: No space left on device"
+    check_equal("the rows", [row.split(" s  ")[1] for row in messages[-3:-1]], [failed] * 2)
     check_equal("the table", messages[-1], "avrstk-serial: 2 boards: 0 done, 2 failed")
+    with open("/dev/full", "wb") as full:
+        status, *_ = run(["-e", *words[:6], "--json", "report.json"], stderr=full)
+    boards = [board["status"] for board in report()["runs"]]
+    check_equal("a full standard error", (status, report()["status"], boards), (1, 1, [0, 0]))
+
+
+OWN_PART = """[parts.own]
+signature = "1E950F"
+flash_size = 0x8000
+flash_page = 128
+eeprom_size = 1024
+eeprom_page = 4
+eesave_bit = 3
+"""
 
 
 def refused():
     """A refused command opens no device and takes no number; its line comes once."""
     texts = {"counter": "7\n", "bad": "seven\n", "cut": "7", "full": f"{10**15}\n"}
     texts |= {"rows.csv": "serial,mac\nA1,0102\nA2,0304\n", "empty.csv": "serial\n", "odd.csv": "serial,mac\nA1\n"}
-    texts |= {"blank.csv": "\n\n", "own.toml": (TOP / "parts/classic.toml").read_text()}
+    texts |= {"blank.csv": "\n\n", "own.toml": OWN_PART}
     os.mkfifo(room.folder / "pipe")
     for name, text in texts.items():
         room.put(name, text.encode())
@@ -222,7 +239,8 @@ def refused():
         status, output, messages = run(["-p", "m328p", *shlex.split(words.replace("DEVICE", device))])
         opened = serial.is_open(line)
         os.close(line)
-        own = [line.replace(device, "DEVICE") for line in messages if not line.startswith("avrstk: ")]
+        texts = [line.replace(device, "DEVICE").replace(os.path.realpath(room.folder), "ROOM") for line in messages]
+        own = [line for line in texts if not line.startswith("avrstk: ")]
         return (status, output, len(own), opened), own
 
     rows = table("station")
@@ -230,10 +248,13 @@ def refused():
         check_equal(f"{words}: its status and lines", found, (1, "", 1, False))
         check(f"{words}: the line", own and own[0].startswith(f"avrstk-serial: {wanted}"), own)
     check_equal("no number is taken", room.read("counter"), b"7\n")
+    run(["-p", "m328p", "-P", "all", "--json", "report.json"])
+    check_equal("no device: the report", (report()["kind"], report()["runs"]), ("device", []))
     room.put("names.csv", "\u0142\n1\n".encode())
     own = ENVIRONMENT | {"LC_ALL": "C", "PYTHONUTF8": "0", "PYTHONCOERCECLOCALE": "0"}
     words = ["-p", "m328p", "-P", "x", "--counter", "counter", "--rows", "names.csv", "--each", "eeprom@0={x}"]
-    line = "avrstk-serial: --each eeprom@0={x}: give fields, as {n}, {n:06}, {n:04X}, {\u0142}"
+    line = "avrstk-serial: --each eeprom@0={x}: give flash@ADDRESS=TEXT or eeprom@ADDRESS=TEXT, TEXT with fields as "
+    line += "{n}, {n:06}, {n:04X}, {\u0142}"
     check_equal("a name in UTF-8, where Python takes names as ASCII", run(words, env=own)[2], [line])
 
 
@@ -550,7 +571,7 @@ def with_a_restore():
     room.put("counter.new", b"mine")
     restore = [*board, "--restore", "kept", "--counter", "counter", "--from", "7", "--each"]
     end = "nothing was sent, and the device was not opened"
-    line = f"avrstk-serial: flash:w:0xFF:m: --each needs an image in a file: {end}"
+    line = f"avrstk-serial: --each takes no values: -U flash:w:0xFF:m: {end}"
     check_equal("flash", run([*restore, "flash@0={n}"]), (1, "", [line]))
     check_equal(
         "EEPROM", (run([*restore, "eeprom@0={n}"])[0], room.read("chip.bin")[EEPROM : EEPROM + 2]), (0, b"7\xff")

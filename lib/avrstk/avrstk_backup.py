@@ -33,7 +33,7 @@ def bytes_of(folder: str, memory: str) -> list[int]:
     """Returns the values of a file."""
     text = text_of(folder, memory).strip()
     if not re.fullmatch(r"0x[0-9a-f]{1,2}(,0x[0-9a-f]{1,2})*", text):
-        raise Fault(f"{folder}/{memory}.txt is not of --backup")
+        raise Fault(f"{folder}/{memory}.txt isn't as --backup writes it")
     return [int(value, 16) for value in text.split(",")]
 
 

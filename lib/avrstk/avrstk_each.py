@@ -16,12 +16,13 @@ import re
 import time
 from typing import Callable, Iterator
 
-SPEC = re.compile(r"(flash|eeprom)@(0[xX][0-9A-Fa-f]{1,8}|[0-9]{1,9})=(.+)", re.S)
+SPEC = re.compile(r"(flash|eeprom)@(0[xX][0-9A-Fa-f]+|[0-9]{1,99})=(.+)", re.S)
 FIELD = re.compile(r"\{([^{}:]+)(?::(0?)([0-9]{0,2})([dxX]?))?\}")
 
 # the greatest number, the most seconds to wait for the counter's lock, and more numbers than a command takes
 MOST, PATIENCE, LATER = 10**15 - 1, 60, 1000
 UNUSED = "the next number was not used"
+NO_NUMBER = f"not a number from 0 to {MOST}"
 
 # what begins a record that ends a file: Intel HEX's type 01, and S7 to S9
 ENDS = {"i": re.compile(rb"^:[0-9A-Fa-f]{6}01", re.M), "s": re.compile(rb"^S[789]", re.M)}
@@ -32,17 +33,13 @@ class Spec:
 
     def __init__(self, given: str, columns: list[str]) -> None:
         found = SPEC.fullmatch(given)
-        self.given = given
-        if not found:
-            raise self.fault("give flash@ADDRESS=TEXT or eeprom@ADDRESS=TEXT")
-        self.memory, self.text = found[1], found[3]
-        self.address = int(found[2], 16 if found[2][:2].lower() == "0x" else 10)
-        if self.address >= AREAS["flash"][1]:
-            raise self.fault("no memory has this address")
+        self.given, self.text = given, found[3] if found else ""
         fields, names = [*FIELD.finditer(self.text)], [name for name in columns if re.fullmatch("[^{}:]+", name)]
         are_known = all(field[1] == "n" or field[0][1:-1] in names for field in fields)
-        if not fields or not are_known or re.search("[{}]", FIELD.sub("", self.text)):
-            raise self.fault("give fields, as " + ", ".join(f"{{{name}}}" for name in ["n", "n:06", "n:04X", *names]))
+        if not found or not fields or not are_known or re.search("[{}]", FIELD.sub("", self.text)):
+            known = ", ".join(f"{{{name}}}" for name in ["n", "n:06", "n:04X", *names])
+            raise self.fault(f"give flash@ADDRESS=TEXT or eeprom@ADDRESS=TEXT, TEXT with fields as {known}")
+        self.memory, self.address = found[1], int(found[2], 16 if found[2][:2].lower() == "0x" else 10)
         self.is_hex = self.text[:2].lower() == "0x"
 
     def fault(self, why: str) -> Fault:
@@ -71,6 +68,11 @@ class Spec:
         return self.address, held
 
 
+def without_waiting(name: str, flags: int) -> int:
+    """Opens a file, also a pipe that nobody writes."""
+    return os.open(name, flags | os.O_NONBLOCK)
+
+
 class Counter:
     """A file with the next number, which is replaced whole, by one program at a time."""
 
@@ -81,18 +83,18 @@ class Counter:
     def next(self) -> int:
         """Returns the next number."""
         try:
-            with open(self.file, encoding="ascii", errors="replace") as held:
+            # (a pipe that nobody writes has no number, either)
+            with open(self.file, encoding="ascii", errors="replace", opener=without_waiting) as held:
                 text = held.read(100)
         except FileNotFoundError:
-            folder = os.path.dirname(self.file)
-            if not os.path.isdir(folder):
-                raise Fault(f"--counter {self.given}: no folder {folder}")
+            # (a folder that is missing, too, is named)
+            os.stat(os.path.dirname(self.file))
             if self.least is None:
-                raise Fault(f"--counter {self.given} is not there: check its name, or give its first number (--from)")
+                raise Fault(f"--counter {self.given} is missing: check its name, or give --from N")
             return self.least
         # (after the greatest number the file has one more)
-        if not re.fullmatch("[0-9]{1,16}\n", text):
-            raise Fault(f"--counter {self.given}: not a number of at most 16 digits and a newline")
+        if not re.fullmatch("0*[0-9]{1,15}\n", text):
+            raise Fault(f"--counter {self.given}: {NO_NUMBER} and a newline")
         return max(int(text), self.least or 0)
 
     def take(self, judge: Callable[[int], object]) -> int:
@@ -118,7 +120,7 @@ class Counter:
                 if ended_by():
                     raise Fault(UNUSED)
                 if time.monotonic() > until:
-                    raise Fault(f"another program holds {self.file}.lock")
+                    raise Fault(f"another process holds {self.file}.lock: {UNUSED}")
                 time.sleep(0.005)
 
     def replace(self, text: bytes) -> None:
@@ -147,7 +149,7 @@ class Each:
         if counter is None:
             raise Fault("--each needs --counter FILE")
         if least is not None and not re.fullmatch("0*[0-9]{1,15}", least):
-            raise Fault(f"--from {least}: not a number from 0 to {MOST}")
+            raise Fault(f"--from {least}: {NO_NUMBER}")
         if "-n" in words.flags:
             raise Fault("--each takes no -n")
         self.names: list[str] = []
@@ -165,11 +167,9 @@ class Each:
         return dict(zip(self.names, self.rows[number - 1])) if self.rows is not None else {}
 
     def judge_number(self, number: int) -> None:
-        """Refuses a number above the greatest one, or without a row."""
+        """Refuses a number without a row."""
         if self.rows is not None and not 0 < number <= len(self.rows):
             raise Fault(f"--rows {self.file} has no row {number}")
-        if number > MOST:
-            raise Fault(f"--counter {self.counter.given}: the next number is above {MOST}")
 
     def has_next(self) -> bool:
         """Whether a number is left, as far as the counter can be read."""
@@ -203,8 +203,7 @@ class Each:
             self.number = self.counter.take(fits)
         except OSError as fault:
             # (if only the last sync failed, the file has a later number already)
-            why = f"{fault.filename or self.counter.given}: {fault.strerror}"
-            raise Fault(f"--counter {why}: {UNUSED}")
+            raise Fault(f"{fault.filename or self.counter.given}: {fault.strerror}: {UNUSED}")
         filled = "; ".join(f"{spec.memory}@0x{spec.address:X}={text}" for spec, text in self.texts(self.number))
         words.note(f"number {self.number}: {filled}")
 
@@ -238,10 +237,9 @@ class Each:
 
     def judge_pieces(self, words: Words, memory: str, pieces: list[Run]) -> None:
         """Refuses bytes outside a memory, and two texts at one place."""
-        size = words.field(f"{memory}_size")
         ends = [at + len(held) for at, held in pieces]
-        if size and max(ends) > size:
-            raise Fault(f"--each: {memory} of {words.part} has {size} bytes: {self.end}")
+        if max(ends) > size_of(words, memory):
+            raise Fault(f"--each: {memory} has no address 0x{max(ends) - 1:X}: {self.end}")
         for end, (at, _) in zip(ends, pieces[1:]):
             if end > at:
                 raise Fault(f"--each: two texts at {memory}@0x{at:X}: {self.end}")
@@ -257,6 +255,14 @@ class Each:
         return {"number": self.number, "each": rows}
 
 
+def size_of(words: Words, memory: str) -> int:
+    """Returns the size of a memory; if it isn't known here, more than a part has."""
+    name = f"{memory}_size"
+    with contextlib.suppress(ValueError):
+        return words.field(name) or int(words.of_file(name) or "", 0)
+    return AREAS["flash"][1]
+
+
 def table_of(file: str) -> tuple[list[str], list[list[str]]]:
     """Returns the names of a table's columns, and its rows."""
     try:
@@ -266,9 +272,9 @@ def table_of(file: str) -> tuple[list[str], list[list[str]]]:
         raise Fault(f"--rows {file}: {fault}")
     if not names or len(set(names)) < len(names) or "n" in names:
         raise Fault(f"--rows {file}: give each column a name of its own, other than n")
-    for number, row in enumerate(rows or [[]], 1):
+    for number, row in enumerate(rows, 1):
         if len(row) != len(names):
-            raise Fault(f"--rows {file}: row {number} needs {len(names)} values")
+            raise Fault(f"--rows {file}: row {number} needs one value for each column")
     return names, rows
 
 
@@ -286,7 +292,7 @@ def joined(update: Update, content: bytes | None, pieces: list[Run], end: str) -
         raise Fault(f"{update.file}: cannot be opened: {end}")
     if not update.is_image or content is None:
         # (values are given, or --restore has them for flash that is FF)
-        raise Fault(f"{update.given}: --each needs an image in a file: {end}")
+        raise Fault(f"--each takes no values: -U {update.given}: {end}")
     one, whole = copy.copy(update), bytes(content)
     begins = RECORD.match(whole[:1024])
     detected = ("i" if b":" in begins[0] else "s") if begins else "r"

@@ -114,8 +114,8 @@ class Board:
         if not outcome.get("status"):
             return "done"
         error = f": {outcome['error']}" if outcome.get("error") else ""
-        # (a chip that may be changed counts as changed)
-        chip = f"{outcome.get('chip')}".replace("erased", "may be erased")
+        # (a chip that may be changed counts as changed. If all was done, what came after the run failed)
+        chip = re.sub("^done$", "changed as asked", f"{outcome.get('chip')}".replace("erased", "may be erased"))
         return f"failed ({outcome.get('kind')}), chip {chip}{error}"
 
 
@@ -250,21 +250,22 @@ def judge_outputs(words: Words) -> None:
     names += [] if words.backup is None else [words.backup]
     for name in names:
         if MARK not in name:
-            raise Fault(f"{name}: several boards need {MARK} in the name: {UNOPENED}")
+            raise Fault(f"{name}: put {MARK} into the name: {UNOPENED}")
     if MARK in (words.restore or ""):
         raise Fault(f"--restore takes no {MARK}: {UNOPENED}")
     for update in reads:
         if update.file == "-" and (update.format or "r") not in "dhob":
-            raise Fault(f"-U {update.given}: several boards print only lists (:h): {UNOPENED}")
+            raise Fault(f"-U {update.given}: give :h, or a file with {MARK} in its name: {UNOPENED}")
     boards = [name_of(device) for device in words.devices]
     for board in boards if names else []:
         if boards.count(board) > 1:
-            raise Fault(f"two boards have the name {board}: {UNOPENED}")
+            raise Fault(f"{MARK} is {board} for two boards: {UNOPENED}")
 
 
 def devices_of(words: Words, here: list[str]) -> list[str]:
     """Returns the devices of a command, `all` replaced by those that are here."""
     if "all" in words.devices and not here:
+        words.report.stage = "device"
         raise Fault(f"-P all finds no device: {UNOPENED}")
     found = [name for device in words.devices for name in (here if device == "all" else [device])]
     paths = [os.path.realpath(name) for name in found]
@@ -329,6 +330,8 @@ def station(words: Words, here: list[str], prepare: Callable[[Words], None], liv
         report.fault = text_of(fault)
         raise
     finally:
+        messages.finish()
+        status = 1 if messages.lost else status
         seconds = time.monotonic() - begun
         if "--json" in words.last and not write(words.last["--json"], made(report, boards, status, seconds)):
             status = 1
