@@ -230,7 +230,7 @@ def faults_of_a_chip():
     served(SAFE, ["--bootloader"], left=WRITING, promise=SMALLER)
     for option, why in ("--no-chip", "10 C8 64 19 20 00 53 03 AC 53 00 00 was answered 10 C0"), (
         "--locked",
-        "the chip is locked (FC)",
+        "the chip reads as locked (FC)",
     ):
         found, own, _ = served(SAFE, [option], status=1)
         check_equal(f"{option}: the rows", (found, own[0]), ({}, f"no further row is tried: {why}"))
@@ -498,7 +498,7 @@ def no_trial():
                 ("1A 04 58 00 00 00", corrupt_and_silent(b"\x1a", 0)),
             )
         ),
-        ("the memories can't be saved: File too large", lambda body, ask: ask(body), small),
+        ("the memories can't be saved in this folder: File too large", lambda body, ask: ask(body), small),
     ]
     for why, act, more in cases:
         found, own = trying(why, act, SAFE, **more)
@@ -552,36 +552,72 @@ def unreadable_later():
     check_equal("no efuse: no fuse is written", (written, room.read("wrong.bin")), ([], CHIP))
 
 
-NAMED = "-p takes a chip's name, such as m328p: -p '?' lists all: nothing was sent, and the device was not opened"
+FIELDS = boards.TINY.partition("\n")[2].splitlines()
+BRACES = ", ".join(FIELDS)
+OTHER = BRACES.replace("2048", "4096").replace("1E950F", "1E930B")
+# how TOML may have a part
+FORMS = {
+    # (with what an editor or a note may add)
+    "a note": "\ufeff"
+    + boards.TINY.replace("flash_size", 'kind = "}"\nnote = "[rev. B] \\""\nflash_size').replace("2048", "+2048"),
+    "quotes": boards.TINY.replace("parts.tiny", "'parts' . \"tiny\"").replace("flash_size", '"flash_size"'),
+    "a text of several lines": boards.TINY.replace("flash_size", 'note = """\nflash_size = 4096\n"""\nflash_size'),
+    "a plain one": boards.TINY.replace("flash_size", "note = '''\nflash_size = 4096 # it's\n'''\nflash_size"),
+    "arrays": boards.TINY.replace("flash_size", 'pins = [["a", 1], [\n{flash_size = 4096}]]\nflash_size'),
+    "a table in braces": boards.TINY.replace(
+        "flash_size", "more = { flash_size = 4096 }\nless.flash_page = 1\nflash_size"
+    ),
+    "dots": "\n".join(
+        f"parts.{name}.{field}" for pair in zip(OTHER.split(", "), FIELDS) for name, field in zip(("m8", "tiny"), pair)
+    ),
+    "a table of tables": f"[parts]\nm8 = {{ {OTHER} }}\ntiny = {{ pins = [1], {BRACES} }}\n",
+    "braces in braces": f"parts = {{ m8 = {{ {OTHER} }}, tiny = {{ {BRACES} }} }}\n",
+    "another part's table": boards.TINY.replace("tiny", "tiny-2").replace("2048", "4096") + boards.TINY,
+}
+
+
+def part_files():
+    """The fields of a part are read as avrstk reads them, however TOML has them."""
+    for what, text in FORMS.items():
+        room.put("form.toml", text.encode())
+        words = ["--parts", str(room.folder / "form.toml"), "-p", "tiny"]
+        shown = serial.subprocess.run(
+            [SESSION, "--check", *words, "-P", "emu:form.bin"], stderr=subprocess.PIPE, cwd=room.folder
+        )
+        check_equal(f"{what}: avrstk takes this file", (shown.returncode, shown.stderr), (0, b""))
+        given = Words([*words, "--try-rows"], Report())
+        wanted = {"flash_size": FLASH, "flash_page": 128, "eeprom_size": EEPROM, "eeprom_page": 4, "eesave_bit": 3}
+        check_equal(f"{what}: its sizes", avrstk_rows.sizes_of(given), wanted)
+        check_equal(f"{what}: its signature", given.of_part("signature"), "1E950F")
+
+
+UNOPENED = "nothing was sent, and the device was not opened"
+NAMED = f"-p takes a chip's name, such as m328p: -p '?' lists all; {UNOPENED}"
 
 
 def refused():
     """What --try-rows doesn't take is refused before the device is opened."""
     at = "-P /dev/null -p m328p"
-    lacks = "no flash_size, flash_page, eeprom_size, eeprom_page, eesave_bit found (begin a regular file with [parts."
-    end = " and these fields): nothing was sent"
     cases = {
-        f"{at} --try-rows=all": "--try-rows=all may erase and lock the chip: add --yes if you can lose it; nothing was "
-        "sent, and the device was not opened",
+        f"{at} --try-rows=all": f"--try-rows=all may erase and lock the chip: add --yes if you can lose it; {UNOPENED}",
         f"{at} --try-rows=some": "--try-rows=some: give --try-rows or --try-rows=all",
         f"{at} --yes": "--yes is for --try-rows=all",
         f"{at} --try-rows -e": "--try-rows takes no -e",
         f"{at} --try-rows -U lfuse:r:-:h": "--try-rows takes no -U",
         f"{at} --try-rows --json report": "--try-rows takes no --json",
         "-P emu:chip.bin -p m328p --try-rows": "--try-rows is for a serial device, not -P emu:chip.bin",
-        "-P /dev/null -p nosuch --try-rows": f"no part nosuch: {NAMED}",
-        "-P /dev/null --try-rows": f"no part given (-p): {NAMED}",
-        "-P /dev/null --parts one.toml -p c-chip --try-rows": f"one.toml: {lacks}c-chip]{end}",
-        "-P /dev/null --parts nosuch.toml -p m328p --try-rows": f"nosuch.toml: {lacks}m328p]{end}",
-        "-P /dev/null --parts tiny.toml --try-rows": "no part given (-p): with --parts, -p takes a part as that file ",
-        "-P /dev/null --parts less.toml -p tiny --try-rows": "less.toml: no eesave_bit found (begin a regular file ",
+        "-P /dev/null -p nosuch --try-rows": NAMED,
+        "-P /dev/null --try-rows": NAMED,
+        "-P /dev/null --parts nosuch.toml -p m328p --try-rows": f"check its name and permissions; {UNOPENED}",
+        "-P /dev/null --parts tiny.toml --try-rows": "with --parts, -p takes a part as that file names it, or m328p, ",
+        "-P /dev/null --parts less.toml -p tiny --try-rows": UNOPENED,
+        "-P /dev/null --parts zero.toml -p tiny --try-rows": UNOPENED,
+        "-P /dev/null --parts odd.toml -p tiny --try-rows": "odd.toml: begin a regular file with [parts.tiny] and its "
+        f"fields: {UNOPENED}",
     }
-    # (with what an editor or a note may add)
-    less = boards.TINY.replace("flash_size", 'kind = "}"\nnote = "[rev. B]"\nflash_size')
-    less = "\ufeff" + less.replace("2048", "+2048").replace("eesave_bit", "bit")
-    room.put("less.toml", less.encode())
-    fields = "signature = '1E950F', flash_size = 0x8000, flash_page = 0x80, eeprom_size = 1_024, eeprom_page = 4"
-    room.put("one.toml", f"parts = {{ c-chip = {{ {fields}, eesave_bit = 3 }} }}\n".encode())
+    room.put("less.toml", boards.TINY.replace("eesave_bit", "bit").encode())
+    room.put("zero.toml", boards.TINY.replace("eeprom_page = 4", "eeprom_page = 0").encode())
+    room.put("odd.toml", boards.TINY.replace("flash_size", '"flash\\u005fsize"').encode())
     for words, why in cases.items():
         status, output, _, own = serial.run(words.split())
         check_equal(words, (status, output, own[0][: len(why)]), (1, b"", why))
@@ -678,6 +714,7 @@ CASES = named(
         no_trial,
         not_put_back,
         unreadable_later,
+        part_files,
         refused,
         mega_2560,
         version1,

@@ -437,7 +437,7 @@ def a_job_ends():
     """If a session fails, or the server ends it, a command has ten seconds to end, or to begin a session that ends
     well. Then the command is ended with all that it has started."""
     begun, held = time.monotonic(), {}
-    why = "10 seconds after a failed or idle session"
+    why = "a session failed or was idle"
     for options, before, after, status, message in table("jobs"):
         folder = Path(tempfile.mkdtemp(dir=room.folder))
         (folder / "sub").mkdir()

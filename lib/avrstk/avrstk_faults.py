@@ -67,7 +67,7 @@ def seconds(option: str, given: str) -> float:
 def number_of(option: str, given: str, most: int) -> int:
     """Returns the number in an option's value, which has at most so many digits."""
     if not re.fullmatch(f"[0-9]{{1,{most}}}", given):
-        raise Fault(f"{option} {given}: give at most {most} digits")
+        raise Fault(f"{option} {given}: give 1 to {most} digits")
     return int(given)
 
 
@@ -163,13 +163,15 @@ class Traffic:
                 self.faults.append(Planned(fault, is_meant, f"{option} {value}"))
         # (a report has it if it was used)
         self.seed = seed if any("%" in value for _, value in given) else None
-        if self.seed is not None:
-            print_line(f"faults are drawn with --seed {self.seed}")
 
     def open(self) -> None:
         """Opens the log, if there is one."""
         if "--log" in self.last:
             self.log = Log(self.last["--log"], self.limit)
+
+    def report_seed(self) -> None:
+        if self.seed is not None:
+            print_line(f"faults are drawn with --seed {self.seed}")
 
     def begin(self) -> tuple[Change, Change]:
         """Takes the next client. Returns what changes the bytes that it sends, and those that it gets."""

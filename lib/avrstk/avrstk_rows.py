@@ -7,7 +7,7 @@ from avrstk_common import NO_PARTS, READ, Fault, Frames, came, is_frame, parts, 
 from avrstk_backup import FILES, command_again
 from avrstk_elf import hex_rows
 from avrstk_faults import framed, spoiled, xor
-from avrstk_hints import NO_CHIP, NO_SIGNATURES, Outcome, hint, no_part
+from avrstk_hints import NO_CHIP, NO_SIGNATURES, Outcome, hint
 from avrstk_words import UNOPENED, Words
 
 import contextlib
@@ -139,20 +139,16 @@ class Programmer:
 
 
 def sizes_of(words: Words) -> Dict[str, int]:
-    """Returns the sizes of the part, and the bit of EESAVE."""
+    """Returns the sizes of the part, and the bit of EESAVE. (avrstk_session has judged the part, but a form of TOML may
+    not be known here.)"""
+    if words.parts_file is None and not parts():
+        raise Fault(f"{NO_PARTS}: {UNOPENED}")
     names = ("flash_size", "flash_page", "eeprom_size", "eeprom_page", "eesave_bit")
     found = {name: words.of_part(name) or "" for name in names}
     is_there = words.parts_file is None or os.path.isfile(words.parts_file)
-    lacking = [name for name, value in found.items() if not is_there or not NUMBER.fullmatch(value)]
-    if not lacking:
+    if is_there and words.of_part("signature") and all(map(NUMBER.fullmatch, found.values())):
         return {name: int(value, 0) for name, value in found.items()}
-    if words.parts_file is None and not parts():
-        raise Fault(f"{NO_PARTS}: {UNOPENED}")
-    if words.parts_file is None or not words.part:
-        what = f"no part {words.part}" if words.part else "no part given (-p)"
-        raise Fault(f"{what}: {no_part(words, None)}: {UNOPENED}")
-    begin = f"begin a regular file with [parts.{words.part}] and these fields"
-    raise Fault(f"{words.parts_file}: no {', '.join(lacking)} found ({begin}): {UNOPENED}")
+    raise Fault(f"{words.parts_file}: begin a regular file with [parts.{words.part}] and its fields: {UNOPENED}")
 
 
 class Rows:
@@ -300,13 +296,13 @@ class Rows:
         if found.hex() != (self.words.of_part("signature") or "").lower():
             raise Ended(f"the signature is {hexed(found)}: is -p right?")
         if lock and lock[0] & 3 != 3:
-            raise Ended(f"the chip is locked ({hexed(lock)})")
+            raise Ended(f"the chip reads as locked ({hexed(lock)})")
         self.chip = self.saved = self.whole()
         self.is_all &= not self.obstacles()
         try:
             self.save_all()
         except OSError as fault:
-            raise Ended(f"the memories can't be saved: {fault.strerror}")
+            raise Ended(f"the memories can't be saved in this folder: {fault.strerror}")
         print_line(self.kept)
 
     def lost_by_erase(self) -> List[str]:

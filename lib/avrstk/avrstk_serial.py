@@ -42,7 +42,7 @@ REFUSED = {
     **dict.fromkeys(["-t", "-T"], "there is no terminal mode"),
     **dict.fromkeys(["-y", "-Y"], "erase cycles are not counted"),
     **{"-E": "no parallel port is driven", "-O": "no oscillator is calibrated", "-x": "no parameter is set"},
-    **dict.fromkeys(["--serve", "--chip"], "give it to avrstk"),
+    **dict.fromkeys(["--serve", "--chip"], "avrstk has this option"),
 }
 
 # AVRDUDE's names of programmers with these protocols on a serial device
@@ -529,7 +529,7 @@ def judge(words: Words) -> None:
         is_read = update.is_image and not update.is_folder()
         update.judge(words.content(update.file) if is_read else None)
     judge_texts(words)
-    if words.each or words.is_station:
+    if words.each or words.is_station or words.trial:
         check(words)
     if words.each:
         words.each.judge(words)

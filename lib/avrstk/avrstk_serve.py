@@ -245,6 +245,8 @@ class Server:
     def serve_all(self, command: list[str], limit: float | None) -> int:
         """Serves while this command runs, for at most `limit` seconds, or until a signal comes. Returns the status."""
         where = self.door.open()
+        if self.traffic:
+            self.traffic.report_seed()
         if not command:
             show(f"serving at {readable(where)}")
             self.serve_clients(None)
@@ -254,7 +256,7 @@ class Server:
             self.serve_clients(GRACE)
             ended = ended_by()
             if ended in (None, signal.SIGALRM):
-                why = "--timeout" if ended else f"{GRACE} seconds after a failed or idle session"
+                why = "--timeout" if ended else "a session failed or was idle"
                 print_line(f"ending {command[0]}: {why}")
         finally:
             if ended != signal.SIGCHLD:
@@ -455,7 +457,7 @@ def main(help_text: str) -> int:
     judge_output(options, "--json", "--chip", "--parts", "--log")
     why = fault_of(options["--json"])
     if why:
-        raise Fault(f"--json {options['--json']} {why}")
+        raise Fault(f"--json {options['--json'] or repr('')} {why}")
     report: dict[str, object] = {"status": 1, "error": None, "part": options.get("-p"), "chip": options.get("--chip")}
     report.update({"command": client or None, "seed": None, "seconds": 0.0, "faults": [], "sessions": []})
     status = 1

@@ -36,7 +36,9 @@ OF_ELF = (".elf", ".axf", ".out")
 MOST, MOST_OF_ELF = 1 << 26, 1 << 20
 
 # a file of records begins so, by avrstk's rule, and a record with data so
-COMMENT_OR_TEXT = re.compile(r"""#.*|(["'])(?P<text>.*?)\1""")
+COMMENT_OR_TEXT = re.compile(
+    r"""#.*|"{3}(?s:\\.|[^\\])*?"{3,5}|'{3}(?s:.*?)'{3,5}|"(?P<text>(?:\\.|[^"\\\n])*)"|'(?P<plain>[^'\n]*)'"""
+)
 RECORD = re.compile(rb"(?:[ \t\r]*\n)*(?::[0-9A-Fa-f]{10}|S[0-9][0-9A-Fa-f]{8})")
 BEGIN = re.compile(rb"(?:[ \t\r]*\n)*[:S]")
 DATA = re.compile(rb"^(?::(?!00)..(?:....)00|S1(?!03)|S2(?!04)|S3(?!05))", re.M)
@@ -222,11 +224,8 @@ class Words:
         """Returns a field of the part in the part file of one's own."""
         if self.parts_file is None or not os.path.isfile(self.parts_file):
             return None
-        # (names and values may be in quotes; a comment and other texts may have fields and brackets, too)
         with open(self.parts_file, encoding="utf-8-sig", errors="replace") as file:
-            text = COMMENT_OR_TEXT.sub(lambda found: re.sub(r"[]#={}[]", "", found["text"] or ""), file.read(65_536))
-        entry = rf"^\s*\[?\s*(?:parts\s*\.\s*)?{re.escape(self.part or '')}\s*[]=.][^\[}}]*?\b{name}\s*=\s*\+?(\w+)"
-        found = re.search(entry, text, re.M)
+            found = re.search(entry_of(self.part or "", name), bare(file.read(65_536)), re.M)
         return found[1] if found else None
 
     def of_part(self, name: str) -> str | None:
@@ -273,6 +272,23 @@ class Words:
             return None
         ends = [0, *(at + count for at, count in pages)]
         return [at for at, _ in pages] == ends[:-1]
+
+
+def bare(text: str) -> str:
+    """Returns TOML without comments, quotes, arrays and texts of several lines. (Other texts lose their brackets.)"""
+    text = COMMENT_OR_TEXT.sub(lambda found: re.sub(r"[]#={}[]", "", found["text"] or found["plain"] or ""), text)
+    count = 1
+    while count:
+        text, count = re.subn(r"(?<=[=,[])\s*\[[^][]*\]", "0", text)
+    return text
+
+
+def entry_of(part: str, name: str) -> str:
+    """Returns a pattern of a part's field in a part file: in its own table, behind dots, or in braces."""
+    more, own = r"(?:[^][{}]|\{[^{}]*\})*?", re.escape(part)
+    table = rf"\[\s*parts\s*\.\s*{own}\s*\]{more}^[ \t]*"
+    parts_of_file = rf"(?:parts\s*\.\s*|\[\s*parts\s*\]{more}^[ \t]*|parts\s*=\s*\{{(?:{more},)?\s*)"
+    return rf"^[ \t]*(?:{table}|{parts_of_file}{own}\s*(?:\.\s*|=\s*\{{(?:{more},)?\s*)){name}\s*=\s*\+?(\w+)"
 
 
 def overlaps(pages: list[tuple[int, int]]) -> bool:
