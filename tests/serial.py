@@ -2397,6 +2397,13 @@ def places_of_reports():
     check_equal("a pipe that nobody reads", (unread[0], unread[3]), (1, ["--json pipe: No such device or address"]))
     closed = run([*FLASH, "-P", "emu:c.bin", "--json", "-"], preexec_fn=lambda: os.close(1))
     check_equal("a closed output", (closed[0], len(closed[3])), (1, 1))
+    # (the file of a standard stream is not opened once more)
+    words = [*FLASH, "-U", "lfuse:r:-:h", "-P", "emu:c.bin", "-l", "/dev/stderr", "--json", "/dev/stdout"]
+    check_equal("streams that are files", run(words, closed=">all.txt 2>messages.txt")[0], 0)
+    value, report = room.read("all.txt").splitlines()
+    check_equal("all that was printed", (value, json.loads(report)["status"]), (b"0x62", 0))
+    log = room.read("messages.txt").decode().splitlines()
+    check("messages, and the log's lines", len(log) > 4 and len({*log}) * 2 == len(log), log)
 
 
 def cut_lines():

@@ -175,14 +175,24 @@ def print_line(text: str) -> None:
     messages.put(f"{NAME}: {readable(text)}\n".encode())
 
 
-def show(text: str) -> None:
-    """Prints on standard output. (A name may not be UTF-8.)"""
+def show(text: str, stream: int = 1) -> None:
+    """Prints on standard output, or on standard error (2). (A name may not be UTF-8.)"""
     rest = f"{text}\n".encode("utf-8", "surrogateescape")
     try:
         while rest:
-            rest = rest[os.write(1, rest) :]
+            rest = rest[os.write(stream, rest) :]
     except OSError as fault:
-        raise Fault(f"standard output cannot be written: {fault.strerror}")
+        raise Fault(f"standard {'output' if stream == 1 else 'error'} cannot be written: {fault.strerror}")
+
+
+def standard(name: str) -> int | None:
+    """Returns which standard stream writes into this file, if one does, such as /dev/stdout. (If the file were opened
+    once more, one would write over the other.)"""
+    for stream in (1, 2):
+        with contextlib.suppress(OSError):
+            if os.path.isfile(name) and os.path.samestat(os.stat(name), os.fstat(stream)):
+                return stream
+    return None
 
 
 def brief(help_text: str) -> str:

@@ -93,7 +93,7 @@ class Counter:
                 raise Fault(f"--counter {self.given} is missing: check its name, or give --from N")
             return self.least
         # (after the greatest number the file has one more)
-        if not re.fullmatch("0*[0-9]{1,15}\n", text):
+        if not re.fullmatch("0{0,84}[0-9]{1,15}\n", text):
             raise Fault(f"--counter {self.given}: {NO_NUMBER} and a newline")
         return max(int(text), self.least or 0)
 
@@ -148,7 +148,7 @@ class Each:
         least, rows, counter = (words.last.get(option) for option in ("--from", "--rows", "--counter"))
         if counter is None:
             raise Fault("--each needs --counter FILE")
-        if least is not None and not re.fullmatch("0*[0-9]{1,15}", least):
+        if least is not None and not re.fullmatch("0{0,84}[0-9]{1,15}", least):
             raise Fault(f"--from {least}: {NO_NUMBER}")
         if "-n" in words.flags:
             raise Fault("--each takes no -n")
@@ -259,7 +259,7 @@ def size_of(words: Words, memory: str) -> int:
     """Returns the size of a memory; if it isn't known here, more than a part has."""
     name = f"{memory}_size"
     with contextlib.suppress(ValueError):
-        return words.field(name) or int(words.of_file(name) or "", 0)
+        return int(words.of_part(name) or "", 0)
     return AREAS["flash"][1]
 
 

@@ -2,7 +2,7 @@
 
 from __future__ import annotations
 
-from avrstk_common import READ, Change, Fault, Frames, is_frame, came, print_line, ready
+from avrstk_common import READ, Change, Fault, Frames, is_frame, came, print_line, ready, standard
 
 import collections
 import errno
@@ -104,8 +104,9 @@ class Log:
     lost: no pipe stops the server. A message reports the first one, and a line in the log how many."""
 
     def __init__(self, name: str, limit: int) -> None:
+        stream, flags = standard(name), os.O_WRONLY | os.O_APPEND | os.O_CREAT | os.O_NONBLOCK | os.O_NOCTTY
         try:
-            self.file = os.open(name, os.O_WRONLY | os.O_APPEND | os.O_CREAT | os.O_NONBLOCK | os.O_NOCTTY, 0o666)
+            self.file = os.dup(stream) if stream else os.open(name, flags, 0o666)
         except OSError as fault:
             is_unread = fault.errno == errno.ENXIO and Path(name).is_fifo()
             raise Fault(f"{name}: {'nobody reads this pipe' if is_unread else fault.strerror}")

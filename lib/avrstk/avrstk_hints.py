@@ -231,17 +231,15 @@ def unread(run: Outcome, found: Match[str]) -> str:
     form = form_of(update.held(65_536)) if update and update.is_image else None
     if update and form and update.format not in (None, "a", form) and (form != "e" or update.memory in AREAS):
         return f"it has {FORMATS[form]}: give {update.given_as(form)}"
-    return too_high(words, update, int(address, 16)) if update and address else DAMAGED
+    return too_high(update, int(address, 16)) if update and address else DAMAGED
 
 
-def too_high(words: Words, update: Update, address: int) -> str:
+def too_high(update: Update, address: int) -> str:
     """Returns what to do about an address that the memory doesn't have."""
     if update.memory in AREAS and 0x810000 <= address < SIGNATURE:
         # (the address of EEPROM, a fuse or the lock)
         return f"give the ELF file itself, as {update.memory}:{update.operation}:NAME.elf"
-    given = [] if update.file == "--each" else ["the values" if update.format == "m" else "the image"]
-    given += ["--each"] * (update in numbered(words))
-    return f"check {', '.join(['-p', *given[:-1]])} and {given[-1]}"
+    return f"check -p and {'the values' if update.format == 'm' else 'the image'}"
 
 
 def unopened(run: Outcome, found: Match[str]) -> str:

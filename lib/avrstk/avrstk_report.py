@@ -2,7 +2,7 @@
 
 from __future__ import annotations
 
-from avrstk_common import NAME, Fault, print_line, show, version
+from avrstk_common import NAME, Fault, print_line, show, standard, version
 from avrstk_hints import CHANGING, LEAVE, NO_SIGNATURES, SIGN_ON, Outcome
 from avrstk_words import MEMORIES, Update, Words
 
@@ -186,9 +186,10 @@ def write(place: str, report: dict[str, object]) -> bool:
     # (Python may decode names as another character set than UTF-8. Bytes that aren't UTF-8 become U+FFFD)
     names = json.dumps(report, ensure_ascii=False).encode("utf-8", "surrogateescape")
     text = json.dumps(json.loads(names.decode("utf-8", "replace")), ensure_ascii=True)
+    stream = 1 if place == "-" else standard(place)
     try:
-        if place == "-":
-            show(text)
+        if stream:
+            show(text, stream)
         elif os.path.exists(place) and not os.path.isfile(place):
             # (a pipe or a device stays what it is; a pipe that nobody reads is an error)
             file = os.open(place, os.O_WRONLY | os.O_NONBLOCK | os.O_NOCTTY)

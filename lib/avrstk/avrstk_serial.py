@@ -4,7 +4,7 @@ from __future__ import annotations
 
 from avrstk_common import BUILT_IN, NO_PARTS, READ, WRITE, Fault, Frames, Source, Way, brief, came, data_file, ended_by
 from avrstk_common import build_unproved, heed_signals, is_frame, messages, parts, print_line, ready, reported_session
-from avrstk_common import show, text_of, version, wait
+from avrstk_common import show, standard, text_of, version, wait
 from avrstk_backup import asking, back_up, files_of, restored
 from avrstk_each import Each
 from avrstk_faults import xor
@@ -549,7 +549,7 @@ def judge(words: Words) -> None:
     for device in words.devices:
         if re.fullmatch("net:[^:]*", device):
             raise Fault(f"-P {device}: give net:HOST:PORT")
-    if not re.fullmatch(r"0*[0-9]{1,2}", words.retry):
+    if not re.fullmatch(r"0{0,98}[0-9]{1,2}", words.retry):
         raise Fault(f"--retry {words.retry}: give a number from 0 to 99")
     if not words.has_port and not os.path.exists("/proc/net"):
         raise Fault("/proc/net is needed, and missing")
@@ -920,7 +920,8 @@ def prepare(words: Words) -> None:
     if "-l" in words.last:
         words.report.stage = "file"
         try:
-            messages.log = open(words.last["-l"], "wb", 0)
+            stream = standard(words.last["-l"])
+            messages.log = open(words.last["-l"] if stream is None else os.dup(stream), "wb", 0)
         except OSError as fault:
             raise Fault(f"-l {words.last['-l']}: {fault.strerror}: {UNOPENED}")
     words.report.stage = "arguments"

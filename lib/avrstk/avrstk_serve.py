@@ -411,7 +411,7 @@ def door_of(places: list[str], options: Mapping[str, str], idle: float | None, c
         return Link(os.path.abspath(options["--pty"]) if command else options["--pty"])
     if len(places) != 1:
         raise Fault("give one PORT, or --pty LINK")
-    if not re.fullmatch("0*[0-9]{1,9}", places[0]) or int(places[0]) > 65_535:
+    if not re.fullmatch("0{0,90}[0-9]{1,9}", places[0]) or int(places[0]) > 65_535:
         raise Fault(f"{places[0]}: not a port from 0 to 65535")
     return Port(options.get("--listen", "127.0.0.1"), int(places[0]), idle)
 
