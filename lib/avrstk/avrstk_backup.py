@@ -64,9 +64,12 @@ def back_up(words: Words, folder: str, runs: Callable[[], int]) -> int:
                         os.unlink(f"{folder}/{name}")
                 os.rmdir(folder)
     if is_whole:
+        command = command_again(words, f"--restore={folder}")
         # (over `stdio:` standard output goes to the programmer)
-        prints = print_line if (words.device or "").startswith("stdio:") else show
-        prints(command_again(words, f"--restore={folder}"))
+        if (words.device or "").startswith("stdio:"):
+            print_line(command)
+        else:
+            show(command)
     return status
 
 
