@@ -347,7 +347,7 @@ def installed():
         ).stdout
         # (as tools/site.py needs them)
         needs = "python3, mandoc, Sphinx, MyST, furo and sphinx-copybutton"
-        check("what the site needs", f"no site of the documents is installed: check {needs}\n" in printed)
+        check("what the site needs", f"no site of the documents was made: check {needs}\n" in printed)
         script = Path(folder, "bin/avrstk-serve")
         served = ran(["0", "-p", "atmega32u4", "--chip", "chip.bin", "--", "true"], script, AVRSTK="")
         check_equal("it serves", served, (0, "", ""))
