@@ -2401,7 +2401,7 @@ def places_of_reports():
     words = [*FLASH, "-U", "lfuse:r:-:h", "-P", "emu:c.bin", "-l", "/dev/stderr", "--json", "/dev/stdout"]
     check_equal("streams that are files", run(words, closed=">all.txt 2>messages.txt")[0], 0)
     value, report = room.read("all.txt").splitlines()
-    check_equal("all that was printed", (value, json.loads(report)["status"]), (b"0x62", 0))
+    check_equal("all that was printed", (value, json.loads(report)["status"]), (b"0xff", 0))
     log = room.read("messages.txt").decode().splitlines()
     check("messages, and the log's lines", len(log) > 4 and len({*log}) * 2 == len(log), log)
 

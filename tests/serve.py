@@ -838,6 +838,13 @@ def reports():
     # (- is a file for --log, and standard output for --json)
     words = ["0", "-p", "m328p", "--chip", "chip.bin", "--log", "-", "--json", "-", "--", "true"]
     check_equal("a log named -, and a report", (ran(words)[0], room.read("-")), (0, b""))
+    # (a log in the file of standard output)
+    client = [str(PROGRAM), "-p", "m328p", "-P", "net:{}", "-q"]
+    words = [SCRIPT, "0", "-p", "m328p", "--chip", "chip.bin", "--log", "/dev/stdout", "--json", "-", "--", *client]
+    with (room.folder / "all").open("wb") as output:
+        subprocess.run(words, cwd=room.folder, env=environment(), stdout=output, check=True)
+    *lines, last = room.read("all").decode().splitlines()
+    check_equal("both are whole", (len(lines), json.loads(last)["sessions"][0]["commands"]), (6, 6))
     held = report()
     faults = [{"fault": "--lose-reply SIGN_ON#2", "struck": 1}, {"fault": "--lose CHIP_ERASE", "struck": 0}]
     check_equal("the faults", (held["status"], held["faults"], held["seed"]), (1, faults, None))
