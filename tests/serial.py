@@ -1067,10 +1067,12 @@ def backups_that_fail():
         ),
     ]
     sizes = "flash_size = 8192, flash_page = 64, eeprom_size = 512, eeprom_page = 4, eesave_bit = 3"
-    # (the script doesn't read a part in one line with its table)
+    # (a part in one line with its table)
     room.put("odd.toml", f'parts = {{ odd = {{ signature = "1E930B", {sizes} }} }}\n'.encode())
     odd = ["--parts", "odd.toml", "-p", "odd", "--restore", "a backup"]
-    fails.append(({"part": "t85", "answer": written}, odd, "signature reads as something else than 0x1E,0x95,0x0F"))
+    fails.append(
+        ({"part": "t85", "answer": written}, odd, f"a backup has the signature 1E950F, and odd 1E930B: {UNOPENED}")
+    )
     room.put("locked.bin", b"\xff" * 33_795 + b"\xfc")
     locked = "the chip reads as locked; no backup is kept"
     fails.append(({"chip": "locked.bin"}, ["--backup", "gone"], locked))
