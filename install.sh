@@ -302,7 +302,7 @@ if [ -e "$top/out/c/$shared" ]; then
     add_link "$shared" "${library[3]}"
     add 644 "$top/out/c/$shared" "${library[4]}"
 else
-    echo "no shared library was made, because ${CC:-cc} is no command"
+    echo "no shared library was made, because ${CC:-cc} was not found"
 fi
 [ -n "$destination" ] || note
 put

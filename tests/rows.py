@@ -219,7 +219,7 @@ def faults_of_the_line():
     """With each fault of a frame all rows are met, and commands were repeated."""
     for options in LINE:
         _, own, messages = served(SAFE, options.split(), left=WRITING, promise=SMALLER)
-        check(f"{options}: a command was repeated", not any("repeated: 0" in line for line in own), str(own))
+        check(f"{options}: a command was repeated", not any("repeated attempts: 0" in line for line in own), str(own))
         check(f"{options}: it struck", "selected no command" not in messages, messages)
 
 
@@ -235,7 +235,7 @@ def faults_of_a_chip():
         found, own, _ = served(SAFE, [option], status=1)
         check_equal(f"{option}: the rows", (found, own[0]), ({}, f"no further row is tried: {why}"))
     _, own, _ = served(SAFE, ["--lose", "SIGN_ON"], status=1)
-    hint = "no valid reply to SIGN_ON; the chip is unchanged. Check: the speed (-b 115200)"
+    hint = "no valid reply to SIGN_ON in time; the chip is unchanged. Check: the speed (-b 115200)"
     check("silent: the hint", own[1].startswith(hint), own)
 
 
@@ -572,6 +572,7 @@ FORMS = {
     ),
     "a table of tables": f"[parts]\nm8 = {{ {OTHER} }}\ntiny = {{ pins = [1], {BRACES} }}\n",
     "braces in braces": f"parts = {{ m8 = {{ {OTHER} }}, tiny = {{ {BRACES} }} }}\n",
+    "another table's parts": "[rev]\nparts.tiny.flash_size = 4096\nparts.tiny.flash_page = 1\n" + boards.TINY,
     "another part's table": boards.TINY.replace("tiny", "tiny-2").replace("2048", "4096") + boards.TINY,
 }
 
@@ -600,7 +601,7 @@ def refused():
     at = "-P /dev/null -p m328p"
     cases = {
         f"{at} --try-rows=all": f"--try-rows=all may erase and lock the chip: add --yes if you can lose it; {UNOPENED}",
-        f"{at} --try-rows=some": "--try-rows=some: give --try-rows or --try-rows=all",
+        f"{at} --try-rows=some": "--try-rows=some: give --try-rows, or --try-rows=all --yes",
         f"{at} --yes": "--yes is for --try-rows=all",
         f"{at} --try-rows -e": "--try-rows takes no -e",
         f"{at} --try-rows -U lfuse:r:-:h": "--try-rows takes no -U",

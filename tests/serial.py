@@ -462,6 +462,8 @@ def refused():
     room.put("big.hex", hex_of([(32_768, b"x")]))
     room.put("257.hex", hex_of([(250, b"1234567")]))
     room.put("257.bin", bytes(257))
+    # (the byte at 256 comes after more than 64 kB)
+    room.put("late257.hex", hex_of([(0, b"x")]).splitlines(True)[0] * 6000 + hex_of([(256, b"x")]))
     room.put("colon.bin", b":\1\2\3")
     room.put("mark.hex", b"\xef\xbb\xbf" + room.read("blink.hex"))
     room.put("bare.hex", room.read("blink.hex")[1:])
@@ -727,7 +729,7 @@ def speeds_that_a_device_has_not():
     _, _, hint = patched(slow.replace("(9600)", "(115200)"), words)
     check(
         "a device without the second speed",
-        hint.startswith("avrstk-serial: no valid reply to SIGN_ON; the chip is"),
+        hint.startswith("avrstk-serial: no valid reply to SIGN_ON in time; the chip is"),
         hint,
     )
     board.end()
@@ -847,6 +849,11 @@ def retries():
         check_equal(f"{each}: {hint}", found, (int(hint != ""), again + [hint] * (hint != "")))
         check(f"{each}: the chip", is_flashed == (hint == ""), own)
 
+    line, device = terminal()
+    error = "sys.stderr.write('avrstk: error: link x: cannot be created\\n')\nsys.exit(1)\n"
+    *_, own = run([*FLASH, "--retry", "1", "-P", device], env=stand_in(error))
+    os.close(line)
+    check_equal("a file whose name begins as the error of a link", len(own), 1)
     wrong = board_of("reply 18 1800E100")
     programmer = Boards(wrong, wrong)
     *_, own = run(["-p", "m328p", "-U", "lfuse:w:0xE2:m", "--retry", "1", "-P", str(programmer.device)])
@@ -936,6 +943,11 @@ def the_part_of_the_chip():
     _, _, _, own, _ = over(["-p", "auto", *each], board_of("part t85"))
     has = "--each: eeprom has no address 0x200: nothing was written"
     check_equal("a text outside the chip's EEPROM", own, ["-p auto takes t85", has])
+    room.put("late.hex", hex_of([(0x4000, b"late")]))
+    each[1] = "eeprom@0={n}"
+    _, _, printed, own, _ = over(["-p", "auto", *each, "-U", "flash:w:late.hex:i"], board_of("part t85"))
+    check_equal("an image outside the chip's flash", printed, lines("error: late.hex: line 1: address 00004000 out of range"))
+    check_equal("its hint", own, ["-p auto takes t85", "check -p and the image; the chip is unchanged"])
     check("no number was taken", not (room.folder / "untaken").exists())
 
 
@@ -1810,7 +1822,7 @@ FOLLOWED = [
     (r"^give (\S+) if the part can't change the bits that differ; else (.*)", stays),
     (r"give -e and all that is to be written(, with another number)?, each memory once, the lock last", each_once),
     (
-        r"^no valid reply to SIGN_ON; the chip is unchanged\. Check: .*; the default is stk500v2$",
+        r"^no valid reply to SIGN_ON in time; the chip is unchanged\. Check: .*; the default is stk500v2$",
         lambda words, case, found: [word for before, word in zip(["", *words], words) if "-c" not in (before, word)]
         if "-c" in words
         else mended(words, case, found),
@@ -2243,6 +2255,7 @@ def report_after_a_signal():
 def report_over_a_port():
     """Over a port the script sees no frame: after a command without a good reply the chip counts as changed, if the run
     got as far as its signature, and writes or erases."""
+    room.put("eeprom", bytes(2000))
     known, silent = "avrstk: device signature = 1E 95 0F", "avrstk: error: no answer"
     other, unlike = known.replace("0F", "14"), "avrstk: error: signature is 1E 95 14, m328p has 1E 95 0F"
     changed, unchanged = "erased or partly written", "unchanged"
@@ -2257,6 +2270,9 @@ def report_over_a_port():
         ([], "-e", ("interrupted", unchanged)),
         ([known, "avrstk: error: out of memory"], "-e", ("interrupted", changed)),
         (["avrstk: error: link to.hex: cannot be opened"], "-e", ("file", unchanged)),
+        ([known, "avrstk: error: link to.hex: cannot be created"], "-e", ("file", unchanged)),
+        (["avrstk: error: eeprom: address 00000400 out of range"], "-U eeprom:w:eeprom:r", ("file", unchanged)),
+        (["avrstk: error: eeprom: address 00000400 out of range"], "-U eeprom:w:1:m", ("arguments", unchanged)),
         (["avrstk: error: a.hex: longer than 4194304 bytes"], "-e", ("file", unchanged)),
     ]:
         text = "".join(f"{line}\n" for line in printed)
@@ -2367,6 +2383,12 @@ def unread_command_lines():
     room.put("unread.json", b"old")
     run(["--json", "unread.json", "-U", "flash:w:unread.json", "-z"])
     check_equal("it may be an image", room.read("unread.json"), b"old")
+    (room.folder / "kept").mkdir()
+    room.put("kept/unread.json", b"old")
+    for restore in (["--restore", "kept"], ["--restore=kept/"]):
+        run([*restore, "--json", "kept/unread.json", "-z"])
+        check_equal(f"it may be of a backup: {restore}", room.read("kept/unread.json"), b"old")
+    shutil.rmtree(room.folder / "kept")
     check_equal("the output", json.loads(run(["--json", "-", "-z"])[1])["error"], "option -z not recognized")
 
 

@@ -229,7 +229,7 @@ def refused():
     """A refused command opens no device and takes no number; its line comes once."""
     texts = {"counter": "7\n", "bad": "seven\n", "cut": "7", "full": f"{10**15}\n"}
     texts |= {"rows.csv": "serial,mac\nA1,0102\nA2,0304\n", "empty.csv": "serial\n", "odd.csv": "serial,mac\nA1\n"}
-    texts |= {"blank.csv": "\n\n", "own.toml": OWN_PART}
+    texts |= {"blank.csv": "\n\n", "own.toml": OWN_PART, "gap.csv": "serial,mac\n,0102\n"}
     os.mkfifo(room.folder / "pipe")
     for name, text in texts.items():
         room.put(name, text.encode())
@@ -259,21 +259,24 @@ def refused():
 
 
 def all_devices():
-    """-P all takes each serial device of USB that is there, and lists them first, as typed in docs/USAGE."""
+    """-P all takes each serial device of USB that is there, once if it has two names, and lists them first, as typed
+    in docs/USAGE. The list is in the file of -l, too."""
     patch = "import glob, runpy, sys\nsys.argv[:1] = []\nreal = glob.glob\n"
-    patch += "glob.glob = lambda it: [f'{n}.tty' for n in 'ab'] if it == '/dev/ttyACM*' else real(it)\n"
+    patch += "glob.glob = lambda it: [f'{n}.tty' for n in 'cab'] if it == '/dev/ttyACM*' else real(it)\n"
     patch += "runpy.run_path(sys.argv[0], run_name='__main__')\n"
     section = (TOP / "docs/USAGE.md").read_text().split("## Many boards")[1].split("\n## ")[0]
     commands = re.findall(r"^    avrstk-serial (.*)$", section.replace("\\\n", ""), re.M)
     room.put("macs.csv", b"mac\n0A0B\n0C0D\n")
+    (room.folder / "c.tty").symlink_to("b.tty")
     check_equal("docs/USAGE has two commands", len(commands), 2)
     for typed in commands:
         words = shlex.split(typed.replace("firmware.hex", "blink.hex"))
         with Doubles(["a.tty", "b.tty"]):
-            command = [sys.executable, "-c", patch, SCRIPT, *words]
+            command = [sys.executable, "-c", patch, SCRIPT, *words, "-l", "all.log"]
             ran = subprocess.run(command, cwd=room.folder, **HOW_TO_WAIT)
         messages = ran.stderr.decode().splitlines()
         check_equal(f"{typed}: the list", (ran.returncode, messages[0]), (0, "avrstk-serial: 2 boards: a.tty, b.tty"))
+        check_equal(f"{typed}: the log", room.read("all.log"), ran.stderr)
     chips = [chip_of(name) for name in ("a.tty", "b.tty")]
     check_equal("the rows", sorted(chip[EEPROM : EEPROM + 2] for chip in chips), [b"\x0a\x0b", b"\x0c\x0d"])
     firmware = [chip[:EEPROM] + b"\xff\xff" + chip[EEPROM + 2 :] for chip in chips]
@@ -497,6 +500,7 @@ def signals():
     nameless = line.replace("two", "one", 1).replace("SIGKILL", f"signal {signal.SIGRTMIN + 1}")
     check("a signal without a name", nameless in messages, messages)
     check_equal("its report", [board["chip"] for board in report()["runs"]], ["unchanged"] * 3)
+    check("its time", all(board["seconds"] > 0.05 for board in report()["runs"]), report())
 
 
 def later_rows():

@@ -114,7 +114,10 @@ class Messages:
 
     def __init__(self) -> None:
         self.waiting, self.lost, self.drawn = b"", False, 0
+        # whether -l is given, its file once that is opened, and what it is to have
+        self.is_logged = False
         self.log: io.FileIO | None = None
+        self.unlogged = b""
         # whether progress is drawn, and what draws it in place of this class
         self.is_drawn = os.isatty(2)
         self.painter: Callable[[str], None] | None = None
@@ -132,11 +135,17 @@ class Messages:
         """Prints a line, also into the file of -l."""
         self.draw("")
         self.send(line)
+        if self.is_logged:
+            self.write_log(line)
+
+    def write_log(self, line: bytes = b"") -> None:
+        """Writes a line into the file of -l. Until that is opened, the lines wait."""
+        self.unlogged += line
         try:
-            if self.log:
-                self.log.write(line)
+            while self.log and self.unlogged:
+                self.unlogged = self.unlogged[self.log.write(self.unlogged) :]
         except OSError:
-            self.lost = True
+            self.unlogged, self.lost = b"", True
 
     def draw(self, text: str) -> None:
         """Draws a progress line in place of the one before; an empty text removes that."""
@@ -308,11 +317,16 @@ def reported_session() -> str:
 
 def build_unproved() -> None:
     """Lets a clone's ./avrstk compile the program without proofs, if no program is built that a run could ask."""
-    try:
+    with contextlib.suppress(SystemExit):
         built(subprocess.DEVNULL)
-    except SystemExit:
-        if subprocess.run([program(), "--unproved"]).returncode:
-            raise
+        return
+    compile_unproved()
+
+
+def compile_unproved() -> None:
+    """Lets a clone's ./avrstk compile the program without proofs, if it isn't built from the sources as they are."""
+    if subprocess.run([program(), "--unproved"]).returncode:
+        sys.exit(1)
 
 
 def stamp_of(file: str) -> str:
@@ -325,9 +339,11 @@ def stamp_of(file: str) -> str:
 
 
 @functools.lru_cache(maxsize=None)
-def version() -> str:
+def version(is_unproved: bool = False) -> str:
     """Returns the version of avrstk, and lines of its build's stamp: whether it is proved, its commit and kit."""
-    file = built()
+    file, unproved = built(), os.path.join(HERE, "out", "unproved", "avrstk")
+    # (a clone may have both programs)
+    file = unproved if is_unproved and IS_CLONE and os.access(unproved, os.X_OK) else file
     number = re.search(r"This is avrstk (\S+)\.", " ".join(asked(file, "--help").split()))
     rows = [row for row in stamp_of(file).splitlines() if not row.startswith(("sources: ", "program "))]
     return "\n".join([f"avrstk {number[1] if number else '?'}", *(rows or ["not known whether it is proved"])])

@@ -5,7 +5,7 @@ from __future__ import annotations
 
 from avrstk_common import Fault, ended_by
 from avrstk_elf import AREAS, Run, hex_rows
-from avrstk_words import RECORD, UNOPENED, Update, Words
+from avrstk_words import MOST_OF_IMAGE, RECORD, UNOPENED, Update, Words
 
 import contextlib
 import copy
@@ -56,16 +56,16 @@ class Spec:
                 raise self.fault(f"{number} is too long for {field[0]}")
             return shown
 
-        return FIELD.sub(value, self.text)
+        text = FIELD.sub(value, self.text)
+        if not text:
+            raise self.fault(f"{self.text} is empty for number {number}")
+        return text
 
     def piece(self, text: str) -> Run:
         """Returns the address and the bytes of a filled text."""
         if self.is_hex and not re.fullmatch("([0-9A-Fa-f]{2})+", text[2:]):
             raise self.fault(f"{text} is not pairs of hexadecimal digits")
-        held = bytes.fromhex(text[2:]) if self.is_hex else text.encode("utf-8", "surrogateescape")
-        if not held:
-            raise self.fault("the text is empty")
-        return self.address, held
+        return self.address, bytes.fromhex(text[2:]) if self.is_hex else text.encode("utf-8", "surrogateescape")
 
 
 def without_waiting(name: str, flags: int) -> int:
@@ -227,6 +227,13 @@ class Each:
                 updates.insert(min(locks, default=len(updates)), image_of(memory, own, self.end))
         words.updates, words.given = updates, [update.given for update in updates]
 
+    def without(self, words: Words) -> Words:
+        """Returns the command without what is for a number."""
+        only = copy.copy(words)
+        only.updates = words.updates if self.base is None else self.base
+        only.given = [update.given for update in only.updates]
+        return only
+
     def pieces(self, words: Words, number: int) -> dict[str, list[Run]]:
         """Returns the bytes for a number, by their memories."""
         held = [(spec.memory, spec.piece(text)) for spec, text in self.texts(number)]
@@ -312,7 +319,7 @@ def joined(update: Update, content: bytes | None, pieces: list[Run], end: str) -
 def handed(update: Update, content: bytes, end: str) -> Update:
     """Gives avrstk the bytes of an update, whose format was printed before. `end` says what a refusal leaves."""
     named = update.named
-    update.front = content[:65_536]
+    update.front = content[:MOST_OF_IMAGE]
     update.hand_on(content, end)
     update.named = named
     return update

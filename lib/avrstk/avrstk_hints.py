@@ -17,6 +17,10 @@ CHANGING, SIGN_ON, ENTER, LEAVE = {0x12, 0x13, 0x15, 0x17, 0x19, 0x1D}, 0x01, 0x
 
 # what a programmer without a chip reads as its signature
 NO_SIGNATURES = {"00 00 00", "FF FF FF"}
+
+# errors of a lost link. (A file may have the name of an error's beginning, such as "link x: cannot be written")
+LOST_LINK = r"link (?:ended|cannot be \w+)$"
+
 NO_CHIP = "a signature of 00 or FF often means that no chip replies: check the wires and the power"
 SAME = "run the same command again"
 NUMBER = ", with another number"
@@ -30,10 +34,10 @@ OTHER = "if it fails again, try another programmer or chip"
 CABLE = "check the cable, the wires and the power; {state}"
 DAMAGED = "build or download the file again, and don't edit it"
 SILENT = (
-    "no valid reply to SIGN_ON; {state}. Check: the speed (-b {baud}); that no serial monitor has the port open; that "
-    "a bootloader's board resets when the port opens, or press reset right after starting; -c, such as arduino for an "
-    "Uno or Nano itself, wiring for a Mega 2560 itself, arduino_as_isp for the sketch ArduinoISP; the default is "
-    "stk500v2"
+    "no valid reply to SIGN_ON in time; {state}. Check: the speed (-b {baud}); that no serial monitor has the port "
+    "open; that a bootloader's board resets when the port opens, or press reset right after starting; -c, such as "
+    "arduino for an Uno or Nano itself, wiring for a Mega 2560 itself, arduino_as_isp for the sketch ArduinoISP; the "
+    "default is stk500v2"
 )
 
 
@@ -357,7 +361,7 @@ REPLIED: Table = {
     ".*: cannot be (created|written)$": "check the output's name, free space and reader; {state}",
     r"(\w+): address \w+: (\w+) expected, (\w+) found": differs,
     r"signature is (\w\w \w\w \w\w)": another_part,
-    "no answer$|link |command .* C1$": CABLE,
+    rf"no answer$|{LOST_LINK}|command .* C1$": CABLE,
     "no answer in|.*bad answer$": "check the speed (-b {baud}), and that nothing else sends data; {state}",
     r"command 10 .*(80|81|C0)$": "check the wires, the power, the clock and the reset pin; {state}",
     "command 12 ": unerased,

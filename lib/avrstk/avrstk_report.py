@@ -3,7 +3,7 @@
 from __future__ import annotations
 
 from avrstk_common import NAME, Fault, print_line, show, standard, version
-from avrstk_hints import CHANGING, LEAVE, NO_SIGNATURES, SIGN_ON, Outcome
+from avrstk_hints import CHANGING, LEAVE, LOST_LINK, NO_SIGNATURES, SIGN_ON, Outcome
 from avrstk_words import MEMORIES, Update, Words
 
 import contextlib
@@ -25,14 +25,18 @@ KINDS = {
     r"command 10 refused with status (80|81|C0)$": "no chip",
     r"command \w\w refused with status \w\w$": "refused",
     r"\w+: address \w+: \w+ expected, \w+ found$": "mismatch",
-    r"no answer( in 4096 bytes)?$|link (ended|cannot be \w+)$|command \w\w: bad answer$": "line",
+    rf"no answer( in 4096 bytes)?$|{LOST_LINK}|command \w\w: bad answer$": "line",
     r"port .*[^:] cannot be opened$": "device",
     r"out of memory$": "interrupted",
-    # (values that a memory has no place for)
-    rf"({'|'.join(MEMORIES)}): address \w+ out of range$": "arguments",
     r".*: (cannot be |in use by |not a regular |longer than |line \d+: |\d+ bytes, )": "file",
     r".*: (bad |line too long|no record mark|address )": "file",
 }
+
+# the error of values that a memory has no place for
+VALUES = rf"({'|'.join(MEMORIES)}): address \w+ out of range$"
+
+# errors after which it isn't known whether a command was done
+OPEN = rf"$|no answer( in 4096 bytes)?$|{LOST_LINK}|command \w\w(: bad answer| refused .*)$|out of memory$"
 
 
 class Report:
@@ -73,7 +77,7 @@ class Report:
     def sent(self) -> set[int]:
         return {command for run in self.runs for command in run.commands}
 
-    def kind(self) -> str:
+    def kind(self, words: Words) -> str:
         error = self.error()
         if error is None:
             # (another program ended avrstk)
@@ -83,6 +87,10 @@ class Report:
         is_silent = error.startswith("no answer") or any(run.is_noisy for run in self.runs[-1:])
         if is_silent and self.sent() <= {SIGN_ON, LEAVE} and self.signature() is None:
             return "silent"
+        # (an image may have the name of a memory)
+        images = {update.file for update in words.updates if update.is_image}
+        if re.match(VALUES, error) and error.partition(":")[0] not in images:
+            return "arguments"
         return next((kind for begin, kind in KINDS.items() if re.match(begin, error)), "arguments")
 
     def chip(self, words: Words, status: int) -> str:
@@ -91,7 +99,7 @@ class Report:
         if words.has_port:
             changes = any(re.search(r"^chip erased$| bytes written$", line) for line in self.lines)
             # (no frame is seen: a command without a good reply may have been done)
-            is_open = status and re.match("$|no answer|link |command |out of memory", self.error() or "")
+            is_open = status and re.match(OPEN, self.error() or "")
             changes |= bool(is_open) and any(run.may_change for run in self.runs)
         if not changes:
             return "unchanged"
@@ -130,7 +138,7 @@ class Report:
             "status": status,
             "seconds": round(time.monotonic() - self.begun, 3),
             "chip": self.chip(words, status),
-            "kind": ("interrupted" if number else self.kind()) if status else None,
+            "kind": ("interrupted" if number else self.kind(words)) if status else None,
             "error": self.error() if status else None,
             "hint": self.fault if status and has_hint else None,
             **(words.each.reported() if words.each else {}),
@@ -138,7 +146,7 @@ class Report:
 
     def made(self, words: Words, status: int, number: int | None) -> dict[str, object]:
         """Returns the report."""
-        built, signature = build(), self.signature()
+        built, signature = build(words.unproved), self.signature()
         return {
             **built,
             "proved": built["proved"] and not words.is_version1 and not words.unproved,
@@ -154,9 +162,9 @@ class Report:
         }
 
 
-def build() -> dict[str, object]:
+def build(is_unproved: bool) -> dict[str, object]:
     """Returns the fields of a report about avrstk itself."""
-    rows = version().splitlines()
+    rows = version(is_unproved).splitlines()
     return {
         "report": 1,
         "program": NAME,

@@ -423,7 +423,7 @@ class Rows:
         self.enter()
         changed, unread = self.difference(self.chip), found.count(None)
         fault, self.chip = fault or changed, self.whole() if changed else self.chip
-        self.row("restart", fault, f"no good reply to {unread} of {len(found)} readings")
+        self.row("restart", fault, f"before ENTER: no good reply to {unread} of {len(found)} readings")
 
     def erase(self) -> bool:
         """Returns whether the chip was erased."""
@@ -541,7 +541,7 @@ def try_rows(words: Words, opens: Callable[[], Opened]) -> int:
     finally:
         rows.programmer.file.close()
     tried, again = [is_met for is_met in rows.results.values() if is_met is not None], rows.programmer.repeated
-    print_line(f"{sum(tried)} of {len(tried)} tried rows are met; steps repeated: {again}")
+    print_line(f"{sum(tried)} of {len(tried)} tried rows are met; repeated attempts: {again}")
     if not why:
         print_line(f"promised of such a programmer: {rows.left()}")
     is_as_before = not rows.undo and rows.chip == rows.saved

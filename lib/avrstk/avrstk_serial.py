@@ -3,15 +3,15 @@
 from __future__ import annotations
 
 from avrstk_common import BUILT_IN, NO_PARTS, READ, WRITE, Fault, Frames, Source, Way, brief, came, data_file, ended_by
-from avrstk_common import build_unproved, heed_signals, is_frame, messages, parts, print_line, ready, reported_session
-from avrstk_common import show, standard, text_of, version, wait
+from avrstk_common import build_unproved, compile_unproved, heed_signals, is_frame, messages, parts, print_line, ready
+from avrstk_common import reported_session, show, standard, text_of, version, wait
 from avrstk_backup import asking, back_up, files_of, restored
 from avrstk_each import Each
 from avrstk_faults import xor
 from avrstk_report import Report, fault_of, write
 from avrstk_rows import try_rows
-from avrstk_hints import CHANGING, ENTER, LEAVE, MAYBE_CHANGED, NO_CHIP, NO_SIGNATURES, ONE_IMAGE, SIGN_ON, UNCHANGED
-from avrstk_hints import Outcome, erases, hint, may_erase_kept, may_lock, overwritten, state_of
+from avrstk_hints import CHANGING, ENTER, LEAVE, LOST_LINK, MAYBE_CHANGED, NO_CHIP, NO_SIGNATURES, ONE_IMAGE, SIGN_ON
+from avrstk_hints import UNCHANGED, Outcome, erases, hint, may_erase_kept, may_lock, overwritten, state_of
 from avrstk_station import made, station
 from avrstk_version1 import SPEEDS, Bridge
 from avrstk_words import FORMATS, FUSES, MEMORIES, UNOPENED, UNWRITTEN, Update, Words, is_port, long_name, overlaps
@@ -619,7 +619,7 @@ def judge_rows(words: Words) -> None:
             raise Fault("--yes is for --try-rows=all")
         return
     if words.trial not in ("safe", "all"):
-        raise Fault(f"--try-rows={words.trial}: give --try-rows or --try-rows=all")
+        raise Fault(f"--try-rows={words.trial}: give --try-rows, or --try-rows=all --yes")
     for option in words.last:
         if option not in own:
             raise Fault(f"--try-rows takes no {option}")
@@ -792,7 +792,7 @@ def ran(words: Words, put: Callable[[bytes], None] = messages.put, earlier: froz
         # (if avrstk reported no error, it was ended; after a run only a file or stream can fail)
         words.report.stage = "interrupted" if outcome.status else "file"
         earlier |= outcome.commands
-        repairs = re.match(r"no answer$|link |\w+: address \w+: \w+ expected, \w+ found$", outcome.error)
+        repairs = re.match(rf"no answer$|{LOST_LINK}|\w+: address \w+: \w+ expected, \w+ found$", outcome.error)
         if words.tries > count or ended_by() or not outcome.status or not repairs:
             return outcome
         if words.each is None or words.each.has_next():
@@ -924,6 +924,7 @@ def prepare(words: Words) -> None:
             messages.log = open(words.last["-l"] if stream is None else os.dup(stream), "wb", 0)
         except OSError as fault:
             raise Fault(f"-l {words.last['-l']}: {fault.strerror}: {UNOPENED}")
+        messages.write_log()
     words.report.stage = "arguments"
     if words.left_out:
         words.note(f"ignored: {', '.join(words.left_out)}")
@@ -991,6 +992,7 @@ def execute(words: Words) -> int:
         if words.each:
             # (only now the size of a memory is known, and no number is taken yet)
             words.report.stage, words.each.end = "file", UNWRITTEN
+            check(words.each.without(words), frozenset(sent))
             words.each.judge(words)
     risk = risk_of_loader(words)
     if risk and not sent:
@@ -1031,20 +1033,25 @@ def judged() -> Words:
                 found += [name, value]
         words, report.fault = Words(found, report), text_of(fault)
         place = words.last.get("--json", "")
-        # (a name that comes twice may be that of another file)
-        if place == "-" or place and sum(place in word for word in given) == 1 and not fault_of(place):
-            write(place, made(report, [], 1, 0.0) if words.is_station else report.made(words, 1, None))
+        # (a name that comes twice may be that of another file, and a folder that is named may be a backup)
+        folders = {os.path.realpath(word.partition("=")[2] or word) for word in given if word}
+        is_other = sum(place in word for word in given) > 1 or os.path.dirname(os.path.realpath(place)) in folders
+        if place == "-" or place and not is_other and not fault_of(place):
+            write(place, made(words, [], 1, 0.0) if words.is_station else report.made(words, 1, None))
         raise
 
 
 def main(help_text: str) -> int:
     words = judged()
+    messages.is_logged = "-l" in words.last
     if "--help" in words.last:
         show(help_text)
     elif {"-h", "-?"} & set(words.last) or not sys.argv[1:]:
         show(brief(help_text))
     elif "--version" in words.last:
-        show(version())
+        if words.unproved:
+            compile_unproved()
+        show(version(words.unproved))
     elif words.device == "?":
         list_devices()
     elif words.part == "?":

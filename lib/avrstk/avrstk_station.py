@@ -40,6 +40,7 @@ class Board:
         self.report: dict[str, Any] | None = None
         # why a line of its output could not be printed
         self.fault: str | None = None
+        self.begun = time.monotonic()
 
     def start(self, live: Callable[[Words], int], others: list[Board]) -> None:
         """Starts its process, which gets no signal before it heeds signals."""
@@ -95,6 +96,7 @@ class Board:
         _, status = os.waitpid(self.number, 0)
         if self.outcome is None:
             report, changes = Report(), self.words.changes()
+            report.begun = self.begun
             how = name_of_signal(os.WTERMSIG(status)) if os.WIFSIGNALED(status) else "too early"
             report.stage, report.fault = "interrupted", f"its process ended ({how})"
             state = MAYBE_CHANGED if changes else UNCHANGED
@@ -131,7 +133,7 @@ def become(words: Words, live: Callable[[Words], int], output: int, error: int, 
     try:
         # (a signal of another process, and a message that waits there, are not this one's)
         came.begin_anew()
-        messages.waiting, messages.log, messages.painter = b"", None, lambda text: draw(news, text)
+        messages.waiting, messages.is_logged, messages.painter = b"", False, lambda text: draw(news, text)
         signal.pthread_sigmask(signal.SIG_UNBLOCK, ENDING)
         for file, stream in [(os.open(os.devnull, os.O_RDONLY), 0), (output, 1), (error, 2)]:
             os.dup2(file, stream)
@@ -262,16 +264,24 @@ def judge_outputs(words: Words) -> None:
             raise Fault(f"{MARK} is {board} for two boards: {UNOPENED}")
 
 
+def place_of(device: str) -> str:
+    """Returns where a device or an emulated chip's file is, which may have several names."""
+    return os.path.realpath(re.sub("^emu:", "", device))
+
+
 def devices_of(words: Words, here: list[str]) -> list[str]:
     """Returns the devices of a command, `all` replaced by those that are here."""
     if "all" in words.devices and not here:
         words.report.stage = "device"
         raise Fault(f"-P all finds no device: {UNOPENED}")
-    found = [name for device in words.devices for name in (here if device == "all" else [device])]
-    paths = [os.path.realpath(name) for name in found]
-    for at, (name, path) in enumerate(zip(found, paths)):
-        if path in paths[:at]:
-            raise Fault(f"-P {name} and -P {found[paths.index(path)]} are one device: {UNOPENED}")
+    # (udev may give a device two names)
+    once = {place_of(name): name for name in reversed(here)}
+    all_here = sorted(once.values(), key=here.index)
+    found = [name for device in words.devices for name in (all_here if device == "all" else [device])]
+    places = [place_of(name) for name in found]
+    for at, (name, place) in enumerate(zip(found, places)):
+        if place in places[:at]:
+            raise Fault(f"-P {name} and -P {found[places.index(place)]} are one device: {UNOPENED}")
     if any(name.startswith("stdio:") for name in found):
         raise Fault(f"-P stdio: is for one board: {UNOPENED}")
     return found
@@ -323,7 +333,7 @@ def station(words: Words, here: list[str], prepare: Callable[[Words], None], liv
         heed_signals()
         if "--json" in words.last:
             # (once for all boards)
-            version()
+            version(words.unproved)
         status = side_by_side(boards, live)
         table(words, boards)
     except (Fault, OSError) as fault:
@@ -333,20 +343,20 @@ def station(words: Words, here: list[str], prepare: Callable[[Words], None], liv
         messages.finish()
         status = 1 if messages.lost else status
         seconds = time.monotonic() - begun
-        if "--json" in words.last and not write(words.last["--json"], made(report, boards, status, seconds)):
+        if "--json" in words.last and not write(words.last["--json"], made(words, boards, status, seconds)):
             status = 1
     return status
 
 
-def made(report: Report, boards: list[Board], status: int, seconds: float) -> dict[str, Any]:
+def made(words: Words, boards: list[Board], status: int, seconds: float) -> dict[str, Any]:
     """Returns the report of all boards. If the command is refused, it has no runs, but the error."""
-    is_refused = not any(board.outcome for board in boards)
+    report, is_refused = words.report, not any(board.outcome for board in boards)
     return {
         "report": 1,
         "program": NAME,
         "status": status,
         "seconds": round(seconds, 3),
-        "kind": report.kind() if is_refused else None,
+        "kind": report.kind(words) if is_refused else None,
         "error": report.error() if is_refused else None,
         "runs": [board.report for board in boards if board.report],
     }

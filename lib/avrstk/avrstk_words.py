@@ -32,8 +32,8 @@ ENDINGS = {".hex": "i", ".ihex": "i", ".eep": "i", ".srec": "s", ".s19": "s", ".
 FORMATS = {"i": "Intel HEX", "s": "S-records", "e": "ELF"}
 OF_ELF = (".elf", ".axf", ".out")
 
-# the most bytes of an image that the script reads, and of an ELF file's memory that it passes on
-MOST, MOST_OF_ELF = 1 << 26, 1 << 20
+# the most bytes of a file that the script reads, of an image that avrstk takes, and of an ELF file's memory
+MOST, MOST_OF_IMAGE, MOST_OF_ELF = 1 << 26, 1 << 22, 1 << 20
 
 # a file of records begins so, by avrstk's rule, and a record with data so
 COMMENT_OR_TEXT = re.compile(
@@ -225,8 +225,7 @@ class Words:
         if self.parts_file is None or not os.path.isfile(self.parts_file):
             return None
         with open(self.parts_file, encoding="utf-8-sig", errors="replace") as file:
-            found = re.search(entry_of(self.part or "", name), bare(file.read(65_536)), re.M)
-        return found[1] if found else None
+            return entry_in(bare(file.read(65_536)), self.part or "", name)
 
     def of_part(self, name: str) -> str | None:
         """Returns a field of the part, wherever it is described."""
@@ -283,12 +282,16 @@ def bare(text: str) -> str:
     return text
 
 
-def entry_of(part: str, name: str) -> str:
-    """Returns a pattern of a part's field in a part file: in its own table, behind dots, or in braces."""
+def entry_in(text: str, part: str, name: str) -> str | None:
+    """Returns a part's field in a part file: in its own table, behind dots, or in braces."""
     more, own = r"(?:[^][{}]|\{[^{}]*\})*?", re.escape(part)
-    table = rf"\[\s*parts\s*\.\s*{own}\s*\]{more}^[ \t]*"
-    parts_of_file = rf"(?:parts\s*\.\s*|\[\s*parts\s*\]{more}^[ \t]*|parts\s*=\s*\{{(?:{more},)?\s*)"
-    return rf"^[ \t]*(?:{table}|{parts_of_file}{own}\s*(?:\.\s*|=\s*\{{(?:{more},)?\s*)){name}\s*=\s*\+?(\w+)"
+    field = rf"{own}\s*(?:\.\s*|=\s*\{{(?:{more},)?\s*)"
+    tables = rf"\[\s*parts\s*(?:\.\s*{own}\s*\]{more}^[ \t]*|\]{more}^[ \t]*{field})"
+    # (behind a table's name `parts` is a field of that table)
+    front, of_front = re.split(r"(?m)^[ \t]*\[", text)[0], rf"parts\s*(?:\.\s*|=\s*\{{(?:{more},)?\s*){field}"
+    places = [(tables, text), (of_front, front)]
+    found = (re.search(rf"(?m)^[ \t]*{begin}{name}\s*=\s*\+?(\w+)", place) for begin, place in places)
+    return next((one[1] for one in found if one), None)
 
 
 def overlaps(pages: list[tuple[int, int]]) -> bool:
@@ -313,7 +316,7 @@ class Update:
     def __init__(self, given: str) -> None:
         self.given = self.text = given
         self.format: str | None = None
-        # the name that avrstk gets for an image, and the first bytes of the image
+        # the name that avrstk gets for an image, and the bytes of the image that avrstk takes
         self.handed, self.front = "", b""
         # what an ELF file has for this memory, and the chip that it names
         self.elf: list[Run] = []
@@ -330,13 +333,13 @@ class Update:
             self.format, self.text = self.named, f"{self.memory}:{self.operation}:{self.file}:{self.named}"
 
     def image(self) -> dict[int, int]:
-        """Returns the bytes of an image file by their addresses, as far as its first 64 kB have them."""
+        """Returns the bytes of an image file by their addresses."""
         if self.elf:
             return {at: byte for begin, held in self.elf for at, byte in enumerate(held, begin)}
-        front = self.held(65_536) if self.is_image else b""
-        if self.format in ("i", "s") or self.format != "r" and RECORD.match(front):
-            return records_of(front)
-        return dict(enumerate(front))
+        whole = self.held(MOST_OF_IMAGE) if self.is_image else b""
+        if self.format in ("i", "s") or self.format != "r" and RECORD.match(whole):
+            return records_of(whole)
+        return dict(enumerate(whole))
 
     def size(self) -> int:
         """Returns where an image ends."""
@@ -391,7 +394,7 @@ class Update:
         if held is None:
             # (avrstk reports a file that can't be opened)
             return None
-        front, self.front = held[:1024], bytes(held[:65_536])
+        front, self.front = held[:1024], bytes(held[:MOST_OF_IMAGE])
         is_elf, begins, is_detected = front[:4] == b"\x7fELF", RECORD.match(front), self.format in (None, "a")
         if is_elf and (is_detected or self.format == "e"):
             return self.fault_of_elf(held)
