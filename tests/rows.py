@@ -601,7 +601,7 @@ def refused():
     at = "-P /dev/null -p m328p"
     cases = {
         f"{at} --try-rows=all": f"--try-rows=all may erase and lock the chip: add --yes if you can lose it; {UNOPENED}",
-        f"{at} --try-rows=some": "--try-rows=some: give --try-rows, or --try-rows=all --yes",
+        f"{at} --try-rows=some": "--try-rows=some: give --try-rows; --try-rows=all also erases and locks the chip",
         f"{at} --yes": "--yes is for --try-rows=all",
         f"{at} --try-rows -e": "--try-rows takes no -e",
         f"{at} --try-rows -U lfuse:r:-:h": "--try-rows takes no -U",

@@ -893,7 +893,7 @@ def retries_that_are_refused():
     def ran(*words):
         status, _, _, own = run(["-p", "m328p", "-P", device, "--retry", "1", *words], env=fails)
         named = own[0].partition("--retry takes no ")[2]
-        return status, named.removeprefix("-U ").removesuffix(": two runs may have another result than one")
+        return status, named.removeprefix("-U ").removesuffix(": a second run may hide or undo what the first one found or did")
 
     two = ["-U", "flash:w:blink.hex:i", "-U", "flash:w:late.hex:i"]
     check_equal("--retry without avrstk_session", ran(*two), (1, "flash:w:late.hex:i"))
@@ -946,7 +946,9 @@ def the_part_of_the_chip():
     room.put("late.hex", hex_of([(0x4000, b"late")]))
     each[1] = "eeprom@0={n}"
     _, _, printed, own, _ = over(["-p", "auto", *each, "-U", "flash:w:late.hex:i"], board_of("part t85"))
-    check_equal("an image outside the chip's flash", printed, lines("error: late.hex: line 1: address 00004000 out of range"))
+    check_equal(
+        "an image outside the chip's flash", printed, lines("error: late.hex: line 1: address 00004000 out of range")
+    )
     check_equal("its hint", own, ["-p auto takes t85", "check -p and the image; the chip is unchanged"])
     check("no number was taken", not (room.folder / "untaken").exists())
 

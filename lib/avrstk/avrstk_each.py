@@ -274,15 +274,16 @@ def table_of(file: str) -> tuple[list[str], list[list[str]]]:
     """Returns the names of a table's columns, and its rows."""
     try:
         with open(file, encoding="utf-8-sig", newline="") as held:
-            names, *rows = [row for row in csv.reader(held, strict=True) if row] or [[]]
+            reader = csv.reader(held, strict=True)
+            (_, names), *rows = [(reader.line_num, row) for row in reader if row] or [(1, [])]
     except (csv.Error, UnicodeDecodeError) as fault:
         raise Fault(f"--rows {file}: {fault}")
     if not names or len(set(names)) < len(names) or "n" in names:
         raise Fault(f"--rows {file}: give each column a name of its own, other than n")
-    for number, row in enumerate(rows, 1):
+    for line, row in rows:
         if len(row) != len(names):
-            raise Fault(f"--rows {file}: row {number} needs one value for each column")
-    return names, rows
+            raise Fault(f"--rows {file}: line {line}: give one value for each column")
+    return names, [row for _, row in rows]
 
 
 def image_of(memory: str, pieces: list[Run], end: str) -> Update:

@@ -162,7 +162,7 @@ class Report:
         }
 
 
-def build(is_unproved: bool) -> dict[str, object]:
+def build(is_unproved: bool = False) -> dict[str, object]:
     """Returns the fields of a report about avrstk itself."""
     rows = version(is_unproved).splitlines()
     return {

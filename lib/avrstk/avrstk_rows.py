@@ -117,7 +117,7 @@ class Programmer:
                 # (another program has read the bytes)
                 continue
             if not piece:
-                raise Ended("link ended")
+                raise Ended("the device is gone: check the cable and the power")
             held += len(piece)
             for reply in filter(is_frame, pieces.pieces(piece)):
                 if reply[1] == self.number and not xor(reply):

@@ -557,7 +557,7 @@ def judge(words: Words) -> None:
         need_device(words, "--retry")
         unfit = unrepaired(words)
         if unfit:
-            raise Fault(f"--retry takes no {options_of(words, unfit)}: two runs may have another result than one")
+            raise Fault(f"--retry takes no {options_of(words, unfit)}: a second run may hide or undo what the first one found or did")
 
 
 def judge_texts(words: Words) -> None:
@@ -619,7 +619,7 @@ def judge_rows(words: Words) -> None:
             raise Fault("--yes is for --try-rows=all")
         return
     if words.trial not in ("safe", "all"):
-        raise Fault(f"--try-rows={words.trial}: give --try-rows, or --try-rows=all --yes")
+        raise Fault(f"--try-rows={words.trial}: give --try-rows; --try-rows=all also erases and locks the chip")
     for option in words.last:
         if option not in own:
             raise Fault(f"--try-rows takes no {option}")
