@@ -97,7 +97,7 @@ check() {
             folder=$(dirname "$folder")
         done
         [ -d "$folder" ] || fail "$folder is no folder that can be reached"
-        [ -w "$folder" ] || fail "$folder cannot be written: give another PREFIX"
+        [ -w "$folder" ] || fail "$folder cannot be written: give another ${destination:+DESTDIR or }PREFIX"
         [ -n "$destination" ] || [ "$file" = "$manifest" ] || [[ ! -e $file && ! -L $file ]] ||
             [[ $known == *$'\n'"${file#"${prefix%/}/"}"$'\n'* ]] ||
             fail "$file is there, and $manifest doesn't name it: nothing is installed"
@@ -157,7 +157,7 @@ remove() {
     local name status=0 names=()
     [ ! -L "$manifest" ] || fail "$manifest is a link, and no manifest of this script: nothing is removed"
     if [ ! -f "$manifest" ]; then
-        [ ! -e "$prefix/bin/avrstk" ] || fail "$prefix/bin/avrstk is there, but no file $manifest: nothing is removed"
+        [ ! -e "$prefix/bin/avrstk" ] || fail "$prefix/bin/avrstk is there, but no file $manifest was found: nothing is removed"
         echo "no file $manifest was found: nothing is removed"
         return 0
     fi

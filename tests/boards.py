@@ -17,6 +17,7 @@ import contextlib
 import ctypes
 import os
 import random
+import re
 import shutil
 import signal
 import socket
@@ -491,7 +492,8 @@ def typed():
         status, messages = run_script(words.format(at.device).split())
         board = at.end()
         check_equal(f"{what}: status", (status, messages.splitlines()[-1:]), (0, ["avrstk: done"]))
-        note = "avrstk-serial: a run of version 1 is tested, not proved"
+        name = re.search(r"-c ?(\S+)", words)[1]
+        note = f"avrstk-serial: -c {name} speaks STK500 version 1: such runs are tested, not proved"
         check_equal(f"{what}: is not called proved", messages.splitlines().count(note), 1)
         if words == FUSES_TYPED:
             check_equal(f"{what}: fuses and lock", board.rest()[1], b"\xff\xde\xfd\xff")

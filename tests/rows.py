@@ -146,7 +146,11 @@ def rows_of(output):
     """Returns what was printed of each row: how it ended, and the rest."""
     found = {}
     for line in output.decode().splitlines():
-        check(f"{line}: is a row", line[:4] == "row " and line[24:33].strip() in ("meets", "FAILS", "not tried"), line)
+        check(
+            f"{line}: is a row",
+            line[:4] == "row " and line[24:33].strip() in ("meets", "FAILS", "not tried", "unsure"),
+            line,
+        )
         found[line[4:24].strip()] = line[24:33].strip(), line[34:]
     return found
 
@@ -161,13 +165,12 @@ def tried(what, words, failing=(), left=(), promise=None, status=None):
 
 def seen(what, found, own, found_status, failing, left, promise, status=None):
     """Checks what was printed."""
-    for how, wanted in ("FAILS", failing), ("not tried", left):
-        check_equal(
-            f"{what}: rows with {how}", {name for name, (outcome, _) in found.items() if outcome == how}, set(wanted)
-        )
+    for hows, wanted in (["FAILS"], failing), (["not tried", "unsure"], left):
+        names = {name for name, (outcome, _) in found.items() if outcome in hows}
+        check_equal(f"{what}: rows with {' or '.join(hows)}", names, set(wanted))
     check_equal(f"{what}: its status", found_status, int(bool(failing)) if status is None else status)
     if promise:
-        check(f"{what}: the promise", f"promised of such a programmer: {promise}" in own, str(own))
+        check(f"{what}: the promise", f"promised of a programmer that always does so: {promise}" in own, str(own))
 
 
 def served(words, options=(), chip=CHIP, part=TINY, failing=(), **more):
@@ -284,6 +287,17 @@ def readdressed(code, change):
     return act
 
 
+def stale():
+    """Returns a wrong programmer, which reads the beginning of EEPROM in place of its second half after a write."""
+    reads, writes = readdressed(0x16, lambda at: at % (EEPROM // 2)), []
+
+    def act(body, ask):
+        writes.extend([body] * (body[0] == 0x15))
+        return reads(body, ask) if writes else ask(body)
+
+    return act
+
+
 def before_enter(answers):
     """Returns a wrong programmer, which replies so to a command outside programming mode, without doing it."""
 
@@ -334,6 +348,12 @@ def wrong():
         found, _ = tried(what, words, rows, left + WRITING * (row not in WRITING), promise)
         check(f"{what}: the frames are shown", " was answered " in found[rows[0]][1], found[rows[0]])
         plug.end()
+    plug = Plug(Wrong(stale()).call)
+    what = "EEPROM that reads otherwise by other blocks after a write"
+    words = [*TINY, "-P", plug.device, *SAFE]
+    found, _ = tried(what, words, ["reads EEPROM"], ["writes EEPROM", *WRITING], SMALLER)
+    check_equal(f"{what}: it was written", found["writes EEPROM"], ("unsure", "no sure reading of eeprom"))
+    plug.end()
     plug = Plug(Wrong(lambda body, ask: ask(body), obeys_all=True).call)
     tried("damaged frames are obeyed", [*TINY, "-P", plug.device, *SAFE], ["damaged frame"], WRITING, "none")
     plug.end()
@@ -538,7 +558,7 @@ def unreadable_later():
         return b"\x16\xc0" if body[:1] == b"\x16" and reads[-1:] == [2] else ask(body)
 
     _, own = trying("unreadable later", once_unread, SAFE)
-    why = "no further row is tried: eeprom could be read before: 06 00 00 00 00, 16 00 40 A0 was answered 16 C0"
+    why = "no further row is tried: eeprom can't be read any more: 06 00 00 00 00, 16 00 40 A0 was answered 16 C0"
     check("unreadable later: why", why in own, str(own))
     written = []
 
@@ -613,8 +633,8 @@ def refused():
         "-P /dev/null --parts tiny.toml --try-rows": "with --parts, -p takes a part as that file names it, or m328p, ",
         "-P /dev/null --parts less.toml -p tiny --try-rows": UNOPENED,
         "-P /dev/null --parts zero.toml -p tiny --try-rows": UNOPENED,
-        "-P /dev/null --parts odd.toml -p tiny --try-rows": "odd.toml: begin a regular file with [parts.tiny] and its "
-        f"fields: {UNOPENED}",
+        "-P /dev/null --parts odd.toml -p tiny --try-rows": "--try-rows can't read tiny's fields in odd.toml: give a "
+        f"regular file with lines as in classic.toml: {UNOPENED}",
     }
     room.put("less.toml", boards.TINY.replace("eesave_bit", "bit").encode())
     room.put("zero.toml", boards.TINY.replace("eeprom_page = 4", "eeprom_page = 0").encode())

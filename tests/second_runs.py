@@ -48,7 +48,9 @@ NUMBERS = [0x12, 0x24, 0x48, 0x11, 0x22, 0x44, 0x81]
 # what a locked chip reads
 HIDDEN = 0xAA
 # what a hint says of an erase that removes old bits, locks and several values
-ERASE = re.compile("give -e and all that is to be written(, with another number)?, each memory once, the lock last")
+ERASE = re.compile(
+    r"give -e and all that is to be written( \(--each takes the next number\))?, each memory once, the lock last"
+)
 # a part file of one's own, with which less is known
 PARTS = tempfile.NamedTemporaryFile("w", suffix=".toml")
 print('[parts]\nm328p = { signature = "1E950F", flash_size = 32768, eesave_bit = 3 }', file=PARTS, flush=True)
@@ -211,7 +213,9 @@ def parsed(given, number):
         else:
             locks = [at for at, update in enumerate(words.updates) if update.writes("lock")]
             words.updates.insert(min(locks, default=len(words.updates)), own)
-    words.each = types.SimpleNamespace(base=base) if words.each_given else None
+    words.each = (
+        types.SimpleNamespace(base=base, advice=lambda: " (--each takes the next number)") if words.each_given else None
+    )
     return words
 
 
@@ -249,8 +253,8 @@ def each_once(plan):
 def advised(given, plan, text):
     """Returns the command that a hint advises for a programmer; None if it advises none. `plan` is the whole command,
     which has what was left out, too."""
-    changes = "with -D, without -e|without its first \\d+ -U|without --each|with another number"
-    changes += "|with another programmer"
+    changes = "with -D, without -e|without its first \\d+ -U|without --each"
+    changes += r"|with another programmer|\(--each takes the next number\)"
     again = re.search(f"run the same command again((?:,? (?:{changes}))*)$", text)
     erase = ERASE.search(text)
     if erase:
@@ -265,7 +269,7 @@ def advised(given, plan, text):
     if "without --each" in again[1]:
         at = given.index("--each")
         given = [*given[:at], *given[at + 2 :]]
-    check(f"{text}: a second number is named", ("--each" in given) == ("with another number" in again[1]), given)
+    check(f"{text}: a second number is named", ("--each" in given) == ("the next number" in again[1]), given)
     return given
 
 
@@ -290,10 +294,10 @@ def untrue(hint, outcome, before, files, chip, whole):
         "no valid reply": outcome.commands <= {hints.SIGN_ON, hints.LEAVE},
         "another erase": hints.erases(words) and 0x12 in outcome.commands,
         "with -D, without -e": hints.erases(words) and 0x12 in outcome.commands,
-        "only bits that": False,
+        "only in bits that": False,
         "programming mode": outcome.is_held,
         "can't erase the chip": 0x12 in outcome.commands and outcome.error.startswith("command 12 "),
-        "may refuse this": bool(re.match("command (17|19|1C) ", outcome.error)),
+        "this is a bootloader": bool(re.match("command (12|17|19|1C) ", outcome.error)),
     }
     for text, is_so in says.items():
         if text in hint and not is_so:

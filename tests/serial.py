@@ -393,7 +393,7 @@ def parts():
 
 
 UNOPENED = "nothing was sent, and the device was not opened"
-LIKE_TEXT = "looks like text: give :r only if its bytes are meant"
+LIKE_TEXT = "looks like text: give :r only to use its bytes as they are"
 LISTED = "no such serial device (-P '?' lists devices)"
 
 # texts that are no firmware, and updates of images without a byte
@@ -893,7 +893,9 @@ def retries_that_are_refused():
     def ran(*words):
         status, _, _, own = run(["-p", "m328p", "-P", device, "--retry", "1", *words], env=fails)
         named = own[0].partition("--retry takes no ")[2]
-        return status, named.removeprefix("-U ").removesuffix(": a second run may hide or undo what the first one found or did")
+        return status, named.removeprefix("-U ").removesuffix(
+            ": a second run may hide or undo what the first one found or did"
+        )
 
     two = ["-U", "flash:w:blink.hex:i", "-U", "flash:w:late.hex:i"]
     check_equal("--retry without avrstk_session", ran(*two), (1, "flash:w:late.hex:i"))
@@ -1055,9 +1057,7 @@ def status_and_lines(words, board):
 
 def backups_that_fail():
     """A failed backup leaves no folder. A chip of another part, or a folder with faults, is not restored."""
-    loader = (
-        "a bootloader may refuse this: use a programmer. If this is one, the chip is unchanged; if it fails again, "
-    )
+    loader = "if this is a bootloader, use a programmer; the chip is unchanged; if it fails again, "
     loader += "try another programmer or chip"
 
     def written(answer):
@@ -1259,7 +1259,7 @@ def asked_over_a_port():
     how = {"cwd": room.folder, "env": os.environ | {"AVRSTK": str(PROGRAM)}, "stdout": subprocess.PIPE}
     for more, status, wanted in [
         ([], 0, []),
-        (["--mega"], 1, ["the device refuses command 1C, as a bootloader does: "]),
+        (["--mega"], 1, ["the device seems to be a bootloader, since it refuses command 1C: "]),
     ]:
         command = [TOP / "avrstk-serve", "0", "-p", "m2560", "--chip", "net.bin", *more]
         with subprocess.Popen(command, **how) as served:
@@ -1469,14 +1469,14 @@ def hints():
             check_equal(f"{name}: the chip", chip, b"\xff" * CHIP_FILE)
     status, _, printed, own, _ = over(["-p", "m328p", "-U", "lfuse:r:-:h"], closed=">&-")
     stays = "the chip is unchanged, and may be in programming mode: power-cycle the board"
-    wanted = [f"check the output's name, free space and reader; {stays}"]
+    wanted = [f"check the output's name and free space; of a pipe, the reader; {stays}"]
     check_equal("a closed output", (status, b"-: cannot be written" in printed, own), (1, True, wanted))
     (room.folder / "link x").symlink_to("/dev/full")
     *_, own, _ = over(["-p", "m328p", "-U", "lfuse:r:link x:h"])
     check_equal(
         "a file named as an error begins",
         own,
-        [f"check the output's name, free space and reader; {stays}"],
+        [f"check the output's name and free space; of a pipe, the reader; {stays}"],
     )
 
 
@@ -1614,7 +1614,7 @@ def elf_files_for_other_chips():
         status, _, _, own = run([*NO_CHIP, "-F", "-U", text])
         check(f"{text} -F", (status, own[0].startswith("warning: ")) == (0, True), own)
     status, _, _, own, chip = over(["-p", "auto", "-U", "flash:w:tiny.elf"])
-    wanted = (1, {0xFF}, "tiny.elf is for 1E930B, not m328p; nothing was written")
+    wanted = (1, {0xFF}, "tiny.elf is for signature 1E930B, not m328p; nothing was written")
     check("-p auto", (status, set(chip), own[-1]) == wanted, own)
     check_equal("its own chip", run(["-p", "attiny85", "-P", "emu:tiny.bin", "-U", "flash:w:tiny.elf"])[0], 0)
     high = run(["-p", "t85", "-P", "emu:tiny.bin", "-U", "flash:w:high.elf"])
@@ -1770,7 +1770,7 @@ def changed(before, after):
 # What a reader does after a hint: the words that he finds in it, and the next command with the files of its case. After
 # a hint without a next command the walk ends.
 FOLLOWED = [
-    (r"build or download the file again|doesn't begin with a record: ", another_file),
+    (r"build or download the file again|doesn't begin with a record of Intel HEX: ", another_file),
     (
         r" is (?:not )?ELF: give (:[eis])",
         lambda words, _, found: [*words[:-1], re.sub("(:[eis])?$", found[1], words[-1], count=1)],
@@ -1786,14 +1786,14 @@ FOLLOWED = [
         if "loads" in case
         else without(without(words, "-c"), "wiring"),
     ),
-    (r"may refuse this: use a programmer\. If this is one, ", on_this_device(lambda *_: None)),
+    (r"^if this is a bootloader, use a programmer", on_this_device(lambda *_: None)),
     (r"^a Mega's bootloader erases pages from 0 on: give one image", another_file),
     (
         r"check -p and the (image|values)",
         lambda words, case, _: other_part(words, case["part"], "blink.hex") if "part" in case else None,
     ),
     (
-        r"^the signature is that of (?!no part)(\w+).*: check the board, the wires, and -p",
+        r"^the signature is that of (?!no part)(\w+).*: check the board, the wires, and that -p",
         lambda words, case, found: other_part(
             without(words, "--parts", "mine.toml", "other.toml"), found[1], case.get("made", "blink.hex")
         ),
@@ -1801,7 +1801,7 @@ FOLLOWED = [
     (r": give (\S+:[ise])[;:] ", lambda words, _, found: renamed(words, found[1])),
     (r"the memories are flash, eeprom, lfuse", changed("^fuse", "lfuse")),
     (
-        r"the operations are w \(write\)|the formats are i, s, r, e, a and m to write|a file, or with :m values, comes",
+        r"the operations are w \(write\)|the formats are i, s, r, e, a and m to write|no file is named: give MEMORY",
         changed("^flash:.*", "flash:w:blink.hex:i"),
     ),
     (r"check its name and permissions", changed("^flash:.*", "flash:w:blink.hex:i")),
@@ -1819,10 +1819,18 @@ FOLLOWED = [
     (r"^give -p (\w+);", changed("^(m328p-pu|mega328p)$", r"\1")),
     (r"^-p takes a chip's name, such as (m328p)", changed("^(uno|nano|m9)$", r"\1")),
     (r"^with --parts, -p takes a part as that file names it, or (m328p)", changed("^(m9|ATmega328P)$", r"\1")),
-    (r"^only bits that \S+ can't change differ: give (\S+)", lambda words, _, found: valued(words, found[1])),
-    (r"^only bits that \S+ can't change differ: (since .*), with (\S+)$", repeated_with),
+    (r"^\w+ differs only in bits that \S+ can't change: give (\S+)", lambda words, _, found: valued(words, found[1])),
+    (r"^\w+ differs only in bits that \S+ can't change: (since .*), with (\S+)$", repeated_with),
     (r"^give (\S+) if the part can't change the bits that differ; else (.*)", stays),
-    (r"give -e and all that is to be written(, with another number)?, each memory once, the lock last", each_once),
+    (r"^(since .*), with (\S+) if the part can't change the bits that differ; else", repeated_with),
+    (
+        r"(give -e and .*); if the part can't change the bits that differ, with (\S+)$",
+        lambda words, case, found: stays(each_once(words), case, [found[0], found[2], found[1]]),
+    ),
+    (
+        r"give -e and all that is to be written(?: \(--each takes the next number\))?, each memory once, the lock last",
+        each_once,
+    ),
     (
         r"^no valid reply to SIGN_ON in time; the chip is unchanged\. Check: .*; the default is stk500v2$",
         lambda words, case, found: [word for before, word in zip(["", *words], words) if "-c" not in (before, word)]
@@ -1833,8 +1841,8 @@ FOLLOWED = [
     (r"^ended by SIG|^a signature of 00 or FF|^check the (cable|wires|speed)|power-cycle the board", mended),
     (AGAIN, repeated),
     (
-        r"reads as something else than [^;]*$|differ: check -p$|^try another programmer or chip$"
-        r"|, with another programmer$"
+        r"reads as something else than [^;]*$|can't change: check -p$|^try another programmer or chip$"
+        r"|with another programmer$"
         r"|^the signature is that of no part|is not supported: .* Use avrdude",
         lambda *_: None,
     ),
@@ -2610,7 +2618,7 @@ def strangers():
     check_equal("the stranger receives", received, b"")
     room.put("go", b"")
     _, printed = started.communicate(timeout=PATIENCE)
-    line = b"avrstk-serial: refused a connection that isn't avrstk's, as far as /proc shows\n"
+    line = b"avrstk-serial: refused another program at this run's own port (as far as /proc shows)\n"
     check_equal("the run", (started.returncode, printed, board.end() == wanted), (0, line + lines(*FIRMWARE), True))
 
 
@@ -2642,7 +2650,7 @@ def names_and_interrupts():
         ([b"--backup", b"\xff"], "\\xff"),
     ]:
         _, _, printed, own = run([*NO_CHIP, *words])
-        check_equal(f"{words}", (printed, own), (b"", [f"{shown} is not UTF-8: {UNOPENED}"]))
+        check_equal(f"{words}", (printed, own), (b"", [f"the name {shown} is not UTF-8: {UNOPENED}"]))
     board, link = Board(), os.fsencode(room.folder) + b"/\xff"
     os.symlink(board.device, link)
     status, output, _, own = run(["-p", "m328p", b"-P", link, "--backup", "named"])

@@ -422,6 +422,9 @@ def a_command():
     check_equal(
         "--timeout", ran(["0", *M328P, "--timeout", "0.5", "--", "sh", "-c", "sleep 600; true"]), (124, message, "")
     )
+    for seconds in ("0.3", "0.4", "0.45", "0.48"):
+        status, *_ = ran(["0", *M328P, "--timeout", "0.5", "--", "sleep", seconds])
+        check(f"a command that ends just before its time: {seconds}", status in (0, 124), status)
     check_equal("all is ended", runs(b"sleep"), [])
 
 

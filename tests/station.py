@@ -368,7 +368,7 @@ def retried():
     alone = [
         line
         for line in messages
-        if line.endswith(": run the same command again for second alone (one -P, no {board}), with another number")
+        if line.endswith(": run the same command again for second alone (one -P) (--each takes the next number)")
     ]
     check_equal("a board that is to be run alone", (status, len(alone)), (1, 1))
 
@@ -575,7 +575,7 @@ def with_a_restore():
     room.put("counter.new", b"mine")
     restore = [*board, "--restore", "kept", "--counter", "counter", "--from", "7", "--each"]
     end = "nothing was sent, and the device was not opened"
-    line = f"avrstk-serial: --each takes no values: -U flash:w:0xFF:m: {end}"
+    line = f"avrstk-serial: --each writes into flash: flash of kept is all FF: {end}"
     check_equal("flash", run([*restore, "flash@0={n}"]), (1, "", [line]))
     check_equal(
         "EEPROM", (run([*restore, "eeprom@0={n}"])[0], room.read("chip.bin")[EEPROM : EEPROM + 2]), (0, b"7\xff")

@@ -178,6 +178,11 @@ class Each:
             return True
         return False
 
+    def advice(self) -> str:
+        """Says which number a second run takes."""
+        what = "takes the next number" if self.has_next() else "has no number left: check --counter and --rows"
+        return f" (--each {what})"
+
     def end_of(self, memory: str) -> int:
         """Returns where the texts of a memory end, for the next number and those that the command may take later."""
         ends, first = [0], self.counter.next()
@@ -220,6 +225,7 @@ class Each:
             writes = [at for at, update in enumerate(updates) if update.writes(memory)]
             if writes:
                 last = updates[writes[-1]]
+                self.judge_image(words, last)
                 updates[writes[-1]] = joined(last, words.contents.get(last.file), own, self.end)
             else:
                 # (a locked chip takes nothing more)
@@ -233,6 +239,14 @@ class Each:
         only.updates = words.updates if self.base is None else self.base
         only.given = [update.given for update in only.updates]
         return only
+
+    def judge_image(self, words: Words, update: Update) -> None:
+        """Refuses values. (--restore has one for flash that is all FF.)"""
+        if not update.is_image:
+            why = f"give a file, not values: -U {update.given}"
+            if words.restore is not None:
+                why = f"{update.memory} of {words.restore} is all FF"
+            raise Fault(f"--each writes into {update.memory}: {why}: {self.end}")
 
     def pieces(self, words: Words, number: int) -> dict[str, list[Run]]:
         """Returns the bytes for a number, by their memories."""
@@ -296,11 +310,8 @@ def image_of(memory: str, pieces: list[Run], end: str) -> Update:
 def joined(update: Update, content: bytes | None, pieces: list[Run], end: str) -> Update:
     """Returns an update that also writes these bytes, in place of those of its image. `end` says what a refusal
     leaves."""
-    if update.is_image and content is None:
+    if content is None:
         raise Fault(f"{update.file}: cannot be opened: {end}")
-    if not update.is_image or content is None:
-        # (values are given, or --restore has them for flash that is FF)
-        raise Fault(f"--each takes no values: -U {update.given}: {end}")
     one, whole = copy.copy(update), bytes(content)
     begins = RECORD.match(whole[:1024])
     detected = ("i" if b":" in begins[0] else "s") if begins else "r"

@@ -71,15 +71,15 @@ def number_of(option: str, given: str, most: int) -> int:
     return int(given)
 
 
-def which(given: str, chance: Callable[[], float]) -> Meant:
+def which(option: str, given: str, chance: Callable[[], float]) -> Meant:
     """Returns which commands are meant by WHICH, the value of a fault's option."""
-    share = re.fullmatch(r"((?=\.?[0-9])0*[0-9]{0,2}(?:\.[0-9]*)?)%", given)
-    if share:
+    share = re.fullmatch(r"((?=\.?[0-9])0*[0-9]{0,3}(?:\.[0-9]*)?)%", given)
+    if share and float(share[1]) <= 100:
         percent = float(share[1])
         return lambda names: chance() * 100 < percent
     is_one = re.fullmatch("(?:([A-Za-z_]+)#)?[1-9][0-9]{0,8}", given)
     if given not in NAMES and not (is_one and is_one[1] in (None, *NAMES)):
-        raise Fault(f"{given}: give WHICH, such as CHIP_ERASE, CHIP_ERASE#1, 7 or 2%")
+        raise Fault(f"{option} {given}: give WHICH, such as CHIP_ERASE, CHIP_ERASE#1, 7 or 2%")
     return lambda names: given in names
 
 
@@ -160,7 +160,7 @@ class Traffic:
         self.faults: list[Planned] = []
         for option, value in given:
             for fault in ["--lose", "--lose-reply"] if option == "--drop" else [option]:
-                is_meant = which(value.partition(":")[0] if option == "--late" else value, chance)
+                is_meant = which(option, value.partition(":")[0] if option == "--late" else value, chance)
                 self.faults.append(Planned(fault, is_meant, f"{option} {value}"))
         # (a report has it if it was used)
         self.seed = seed if any("%" in value for _, value in given) else None

@@ -23,13 +23,12 @@ LOST_LINK = r"link (?:ended|cannot be \w+)$"
 
 NO_CHIP = "a signature of 00 or FF often means that no chip replies: check the wires and the power"
 SAME = "run the same command again"
-NUMBER = ", with another number"
 ONE_IMAGE = "give one image that begins at 0 and leaves out no page"
 POWER_CYCLE = "power-cycle the board"
 UNCHANGED = "the chip is unchanged"
 MAYBE_CHANGED = "the chip may be erased or partly written"
 DONE = f"everything was done; {POWER_CYCLE}"
-OPEN_LOCK = "then -U lock:r:-:h prints a lock whose bit 1 is 0"
+OPEN_LOCK = "then -U lock:r:-:b prints 0 as the last digit but one"
 OTHER = "if it fails again, try another programmer or chip"
 CABLE = "check the cable, the wires and the power; {state}"
 DAMAGED = "build or download the file again, and don't edit it"
@@ -111,7 +110,7 @@ def again(run: Outcome) -> str:
     later = [[other.memory for other in run.begun()[at:] if other.operation == "w"] for at in range(len(done))]
     is_other = any(update.operation != "w" and update.memory in after for update, after in zip(done, later))
     if erases(words) and not may_lose(run) and not is_other:
-        return same(words) + NUMBER * bool(words.each_given)
+        return same(words) + words.next_number
     # (one number is for all updates that have it)
     own = numbered(words)
     is_each = bool(own) and own[-1] in done
@@ -124,7 +123,7 @@ def again(run: Outcome) -> str:
     changes += [f"without {', '.join(options_of_each(words))}"] * is_each
     changes += ["without --retry"] * (bool(changes) and takes_retry(words))
     why = "since another erase may clear EEPROM, " * may_lose(run)
-    return f"{why}{same(words)} {', '.join(changes)}".rstrip() + NUMBER * (bool(words.each_given) and not is_each)
+    return f"{why}{same(words)} {', '.join(changes)}".rstrip() + ("" if is_each else words.next_number)
 
 
 def numbered(words: Words) -> list[Update]:
@@ -145,7 +144,7 @@ def takes_retry(words: Words) -> bool:
 
 def by_erase(words: Words) -> str:
     """Advises what ends old bits of flash, a lock, and two values for one memory."""
-    number, retry = NUMBER * bool(words.each_given), ", without --retry" * takes_retry(words)
+    number, retry = words.next_number, ", without --retry" * takes_retry(words)
     return (
         f"with a programmer give -e and all that is to be written{number}, each memory once, the lock last{retry}. The "
         "erase clears a lock, flash (a bootloader, too), and EEPROM unless the fuse bit EESAVE is 0"
@@ -154,7 +153,8 @@ def by_erase(words: Words) -> str:
 
 def same(words: Words) -> str:
     """Advises to run the same command again. With several boards it would change those that are done."""
-    return SAME + f" for {words.device} alone (one -P, no {{board}})" * words.is_station
+    mark = ", no {board}" * words.has_mark
+    return SAME + f" for {words.device} alone (one -P{mark})" * words.is_station
 
 
 def overwritten(words: Words) -> list[str]:
@@ -265,7 +265,7 @@ def unopened(run: Outcome, found: Match[str]) -> str:
 def another_part(run: Outcome, found: Match[str]) -> str:
     """Returns the hint after a wrong signature."""
     names = " or ".join(parts_of(found[1])) or "no part of classic.toml"
-    of = f"the signature is that of {names}: check the board, the wires, and -p with its firmware and fuses"
+    of = f"the signature is that of {names}: check the board, the wires, and that -p, firmware and fuses are for it"
     return f"{NO_CHIP if found[1] in NO_SIGNATURES else of}; {state_of(run)}"
 
 
@@ -283,12 +283,13 @@ def differs(run: Outcome, found: Match[str]) -> str:
     wanted, held = (int(number, 16) for number in found.groups()[1:])
     # (the updates before were done)
     update = next(one for one in [*words.updates[len(run.done()) :], *words.updates] if one.memory == memory)
-    give = with_value(run, f"{memory}:{update.operation}:0x{held:02X}:m")
+    value = f"{memory}:{update.operation}:0x{held:02X}:m"
     bits = words.bits().get(memory) if words.restore is None else None
     # (ISP doesn't write bit 5 of the high fuse, SPIEN)
     if bits is not None and not (wanted ^ held) & bits & ~(0x20 * (memory == "hfuse")):
         is_wrong = words.parts_file is None and (wanted ^ held) & ~bits
-        return f"only bits that {words.part} can't change differ: {'check -p' if is_wrong else give}"
+        give = "check -p" if is_wrong else with_value(run, value)
+        return f"{memory} differs only in bits that {words.part} can't change: {give}"
     if update.operation == "v":
         is_hidden = memory in ("flash", "eeprom") and not words.is_bootloader
         file = "standard input" if update.file == "-" else update.file
@@ -296,7 +297,18 @@ def differs(run: Outcome, found: Match[str]) -> str:
     # (bits of a lock that are 0 need an erase, but some parts read the bits that a lock lacks as 0)
     is_fixed = memory != "lock" or not wanted & ~held or not (wanted ^ held) & 0x3F
     may_lack = bits is None and words.restore is None and memory in FUSES and is_fixed
-    return f"{give} if the part can't change the bits that differ; else " * may_lack + unlike(run, memory, wanted, held)
+    rest = unlike(run, memory, wanted, held)
+    return unless_lacking(run, value, rest) if may_lack else rest
+
+
+def unless_lacking(run: Outcome, value: str, rest: str) -> str:
+    """Returns the hint if the part may lack the bits that differ. `rest` is the hint if it has them."""
+    way, lacks = again(run) if may_lose(run) else "", "if the part can't change the bits that differ"
+    if way == by_erase(run.words):
+        return f"{way}; {lacks}, with {value}"
+    if way:
+        return f"{way}, with {value} {lacks}; else{rest[len(way) :].lstrip(',;')}"
+    return f"give {value} {lacks}; else {rest}"
 
 
 def unlike(run: Outcome, memory: str, wanted: int, held: int) -> str:
@@ -318,6 +330,8 @@ def unerased(run: Outcome, _: Match[str]) -> str:
         "a bootloader can't erase the chip, and a programmer's erase clears the bootloader: give -D, not -e, and for "
         f"flash {ONE_IMAGE}{', without --retry' * takes_retry(run.words)}. If this is a programmer, "
     )
+    if any(update.writes(fuse) for update in run.words.updates for fuse in FUSES):
+        loader = "if this is a bootloader, use a programmer, whose erase clears the bootloader. If it is a programmer, "
     return loader * (run.words.restore is None) + f"{state_of(run)}; {OTHER}"
 
 
@@ -338,7 +352,7 @@ KINDS = {
     "no such memory": f"the memories are {', '.join(MEMORIES)}",
     "no such operation": "the operations are w (write), v (compare) and r (read)",
     "no such format here": "the formats are i, s, r, e, a and m to write and compare, i, s, r, h, d, o and b to read",
-    "no file named": "a file, or with :m values, comes third: MEMORY:OP:FILE:FORMAT",
+    "no file named": "no file is named: give MEMORY:OP:FILE:FORMAT, or MEMORY:OP:VALUES:m",
 }
 
 
@@ -358,13 +372,13 @@ REFUSALS: Table = {
 
 # and after it was opened. (A file may have the name of an error's beginning.)
 REPLIED: Table = {
-    ".*: cannot be (created|written)$": "check the output's name, free space and reader; {state}",
+    ".*: cannot be (created|written)$": "check the output's name and free space; of a pipe, the reader; {state}",
     r"(\w+): address \w+: (\w+) expected, (\w+) found": differs,
     r"signature is (\w\w \w\w \w\w)": another_part,
     rf"no answer$|{LOST_LINK}|command .* C1$": CABLE,
     "no answer in|.*bad answer$": "check the speed (-b {baud}), and that nothing else sends data; {state}",
     r"command 10 .*(80|81|C0)$": "check the wires, the power, the clock and the reset pin; {state}",
     "command 12 ": unerased,
-    "command (17|19|1C) ": f"a bootloader may refuse this: use a programmer. If this is one, {{state}}; {OTHER}",
+    "command (17|19|1C) ": f"if this is a bootloader, use a programmer; {{state}}; {OTHER}",
     "command ": f"{{state}}; {OTHER}",
 }

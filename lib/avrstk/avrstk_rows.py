@@ -148,7 +148,8 @@ def sizes_of(words: Words) -> Dict[str, int]:
     is_there = words.parts_file is None or os.path.isfile(words.parts_file)
     if is_there and words.of_part("signature") and all(map(NUMBER.fullmatch, found.values())):
         return {name: int(value, 0) for name, value in found.items()}
-    raise Fault(f"{words.parts_file}: begin a regular file with [parts.{words.part}] and its fields: {UNOPENED}")
+    why = f"can't read {words.part}'s fields in {words.parts_file}: give a regular file with lines as in classic.toml"
+    raise Fault(f"--try-rows {why}: {UNOPENED}")
 
 
 class Rows:
@@ -178,9 +179,9 @@ class Rows:
         self.results[name] = not fault
         self.show_row(name, "FAILS" if fault else "meets", fault or seen)
 
-    def leave_out(self, name: str, why: str) -> None:
+    def leave_out(self, name: str, why: str, how: str = "not tried") -> None:
         self.results[name] = None
-        self.show_row(name, "not tried", why)
+        self.show_row(name, how, why)
 
     def show_row(self, name: str, how: str, what: str) -> None:
         show(f"row {name:19} {how:9} {what}".rstrip())
@@ -247,7 +248,7 @@ class Rows:
             raise self.lost(memory)
 
     def lost(self, memory: str) -> Ended:
-        return Ended(f"{memory} could be read before: {self.asked}")
+        return Ended(f"{memory} can't be read any more: {self.asked}")
 
     def difference(self, wanted: Chip, shift: int = 0) -> Optional[str]:
         """Reads all memories, or a sample, and returns where one differs."""
@@ -395,7 +396,7 @@ class Rows:
         self.is_put_back()
         self.row("reads EEPROM", unlike, f"{len(held):,} bytes")
         if unlike:
-            return self.leave_out("writes EEPROM", unsure("eeprom"))
+            return self.leave_out("writes EEPROM", unsure("eeprom"), "unsure")
         self.row("writes EEPROM", fault, seen)
 
     def is_put_back(self) -> None:
@@ -423,7 +424,7 @@ class Rows:
         self.enter()
         changed, unread = self.difference(self.chip), found.count(None)
         fault, self.chip = fault or changed, self.whole() if changed else self.chip
-        self.row("restart", fault, f"before ENTER: no good reply to {unread} of {len(found)} readings")
+        self.row("restart", fault, f"as allowed, {unread} of {len(found)} readings before ENTER got no good reply")
 
     def erase(self) -> bool:
         """Returns whether the chip was erased."""
@@ -496,7 +497,7 @@ class Rows:
             self.changes()
         else:
             hidden = self.obstacles()
-            self.leave_out_all(unsure(*hidden) if hidden else "needs --try-rows=all")
+            self.leave_out_all(unsure(*hidden) if hidden else "needs --try-rows=all --yes")
         self.programmer.ask(LEAVE)
 
     def put_back(self) -> None:
@@ -543,7 +544,7 @@ def try_rows(words: Words, opens: Callable[[], Opened]) -> int:
     tried, again = [is_met for is_met in rows.results.values() if is_met is not None], rows.programmer.repeated
     print_line(f"{sum(tried)} of {len(tried)} tried rows are met; repeated attempts: {again}")
     if not why:
-        print_line(f"promised of such a programmer: {rows.left()}")
+        print_line(f"promised of a programmer that always does so: {rows.left()}")
     is_as_before = not rows.undo and rows.chip == rows.saved
     if not is_as_before:
         print_line(f"the chip may be changed; {rows.undo or rows.kept}")

@@ -38,10 +38,11 @@ from typing import Callable
 
 # options that are refused, and why
 REFUSED = {
-    **dict.fromkeys(["-B", "-i"], "no programmer's clock is set"),
-    **dict.fromkeys(["-t", "-T"], "there is no terminal mode"),
-    **dict.fromkeys(["-y", "-Y"], "erase cycles are not counted"),
-    **{"-E": "no parallel port is driven", "-O": "no oscillator is calibrated", "-x": "no parameter is set"},
+    **dict.fromkeys(["-B", "-i"], "avrstk sets no programmer's clock"),
+    **dict.fromkeys(["-t", "-T"], "avrstk has no terminal mode"),
+    **dict.fromkeys(["-y", "-Y"], "avrstk counts no erase cycles"),
+    **{"-E": "avrstk drives no parallel port", "-O": "avrstk calibrates no oscillator"},
+    "-x": "avrstk sets no parameters of a programmer",
     **dict.fromkeys(["--serve", "--chip"], "avrstk has this option"),
 }
 
@@ -433,7 +434,7 @@ class Run:
             return
         line.close()
         if is_avrstk is False:
-            print_line("refused a connection that isn't avrstk's, as far as /proc shows")
+            print_line("refused another program at this run's own port (as far as /proc shows)")
 
     def open(self, line: socket.socket) -> None:
         """Opens the device and waits for the board. Only the last SIGN_ON that avrstk sends meanwhile is passed on."""
@@ -557,7 +558,8 @@ def judge(words: Words) -> None:
         need_device(words, "--retry")
         unfit = unrepaired(words)
         if unfit:
-            raise Fault(f"--retry takes no {options_of(words, unfit)}: a second run may hide or undo what the first one found or did")
+            why = "a second run may hide or undo what the first one found or did"
+            raise Fault(f"--retry takes no {options_of(words, unfit)}: {why}")
 
 
 def judge_texts(words: Words) -> None:
@@ -567,7 +569,7 @@ def judge_texts(words: Words) -> None:
         try:
             os.fsencode(text).decode()
         except UnicodeDecodeError:
-            raise Fault(f"{text} is not UTF-8: {UNOPENED}")
+            raise Fault(f"the name {text} is not UTF-8: {UNOPENED}")
 
 
 def need_device(words: Words, option: str) -> None:
@@ -669,8 +671,11 @@ def judge_bootloader(words: Words) -> None:
     """Refuses what a bootloader can't do. One of version 1 returns OK all the same, or writes flash in place of EEPROM;
     that of -c wiring erases pages by a count of its own."""
     if erases(words):
-        why = "is for a board's own bootloader, which can't erase the chip (-e, or flash without -D)"
-        raise Fault(f"-c {words.programmer} {why}; {UNOPENED}")
+        needs = any(update.writes_flash() for update in words.updates) and "-D" not in words.flags
+        give = "leave out -e" if not needs else "give -D" + ", not -e" * ("-e" in words.flags)
+        raise Fault(
+            f"-c {words.programmer} is for a board's own bootloader, which can't erase the chip: {give}; {UNOPENED}"
+        )
     # (avrstk refuses what is no memory)
     for update in words.updates if words.is_version1 else []:
         if update.memory in MEMORIES and update.memory not in ("flash", "signature"):
@@ -707,7 +712,7 @@ def unlike(update: Update, part: str | None, own: str) -> str | None:
     """Returns the chip or signature that an ELF file names, if it isn't that of a part with the signature `own`."""
     if update.chip not in (None, long_name(part)) and parts().get(update.chip or "", {}).get("signature") != own:
         return update.chip
-    return None if update.signature == own else update.signature
+    return None if update.signature in (None, own) else f"signature {update.signature}"
 
 
 def judge_part(words: Words, end: str) -> None:
@@ -754,7 +759,7 @@ def risk_of_loader(words: Words) -> str | None:
 def warn(words: Words) -> None:
     """Warns of fuses that can make the chip unreachable, even if -q is given twice, and of what isn't proved."""
     if words.is_version1:
-        words.note("a run of version 1 is tested, not proved")
+        words.note(f"-c {words.programmer} speaks STK500 version 1: such runs are tested, not proved")
     name = words.chip()
     writes = [update for update in words.updates if update.operation == "w" and update.memory in FUSES]
     values = [(update, update.value()) for update in writes]
@@ -852,7 +857,7 @@ def ask(
         report.lines[before:] = [line for line in report.lines[before:] if line.startswith("device signature")]
     if is_loader:
         report.stage = "refused"
-        raise Fault(f"the device refuses command 1C, as a bootloader does: {risk}; {UNWRITTEN}")
+        raise Fault(f"the device seems to be a bootloader, since it refuses command 1C: {risk}; {UNWRITTEN}")
     if outcome.status:
         # (-p auto takes any part to ask)
         messages.put(b"".join(line for line in lines if not line.startswith(b"avrstk: warning: signature is ")))

@@ -37,7 +37,6 @@ PATIENCE, PATIENCE_OF_MEGA = 8, 40
 # the seconds that a command has to end, or to begin a session that ends well, after one that did not
 GRACE = 10
 
-NO_COMMAND = "no command after --"
 
 LONG = ["parts=", "chip=", "idle=", "listen=", "pty=", "timeout=", "log=", "log-limit=", "seed=", "locked"]
 LONG += ["strict", "json=", "mega", "version", "help"]
@@ -444,7 +443,7 @@ def main(help_text: str) -> int:
     at = sys.argv.index("--") if "--" in sys.argv else len(sys.argv)
     client, program = sys.argv[at + 1 :], stray(sys.argv[1:at])
     if sys.argv[at:] == ["--"]:
-        raise Fault(NO_COMMAND)
+        raise Fault("no command after --")
     if program and not client:
         raise Fault(f"{program}: give a command after --")
     given, places = getopt.gnu_getopt(sys.argv[1:at], "p:h", LONG)
@@ -493,7 +492,7 @@ def judge(options: Mapping[str, str], client: list[str]) -> str:
     if parts is not None and not stat.S_ISREG(os.stat(parts).st_mode):
         raise Fault(f"--parts {parts}: not a regular file")
     if "--timeout" in options and not client:
-        raise Fault(f"--timeout: {NO_COMMAND}")
+        raise Fault("--timeout is for COMMAND: give one after --")
     excluded = [option for option in ("--parts", *REFUSED) if option in options]
     if "--mega" in options and options.get("-p", "").lower() not in ("m2560", "atmega2560"):
         raise Fault("--mega needs -p m2560")
@@ -532,6 +531,7 @@ def serve(
         return status
     finally:
         # (while Python ends, another signal would end it by that signal)
+        signal.setitimer(signal.ITIMER_REAL, 0)
         ignore_signals()
         if report is not None and traffic:
             faults = [{"fault": fault, "struck": traffic.struck[fault]} for fault in traffic.given]

@@ -141,6 +141,7 @@ class Words:
         self.devices = [value for name, value in options if name == "-P"]
         self.is_station = len(self.devices) > 1 or self.devices == ["all"]
         self.has_port = is_port(self.device)
+        self.has_mark = any("{board}" in word for word in given)
         # what is written for each board
         self.each: Each | None = None
         self.each_given = [value for name, value in options if name == "--each"]
@@ -176,6 +177,11 @@ class Words:
         # (a hint, a report, and the table of several boards need the lines that -q leaves out)
         flags = [flag for flag in self.flags if flag != "-q"]
         return ["-P", port, "-c", "stk500v2", *part_words(self.part, self.parts_file), *flags, *updates]
+
+    @property
+    def next_number(self) -> str:
+        """Says which number a second run takes if the command has --each."""
+        return self.each.advice() if self.each else ""
 
     def is_wanted(self, line: bytes) -> bool:
         """Whether avrstk prints this line with -q: once it leaves out what it did, twice warnings, too."""
@@ -399,7 +405,7 @@ class Update:
         if is_elf and (is_detected or self.format == "e"):
             return self.fault_of_elf(held)
         if is_elf:
-            return "is ELF: give :e" if self.memory in AREAS else "is ELF"
+            return "is ELF: give :e" if self.memory in AREAS else self.fault_of_no_area()
         end = ENDS[begins[0].split()[0][:1]].search(held) if begins and self.format != "r" else None
         # (avrstk reports where records are that it can't read)
         is_marked = DATA.search(held) or MARKED.search(held, 0, end.start() if end else len(held))
@@ -410,7 +416,7 @@ class Update:
         if end and any(RECORD.match(held, found.start()) for found in DATA.finditer(held, end.end())):
             return "has data after its end record"
         if self.format in ("i", "s") and not BEGIN.match(held):
-            return "doesn't begin with a record"
+            return f"doesn't begin with a record of {FORMATS[self.format]}"
         if self.format == "e" or is_detected and not packed_as(front) and self.file.lower().endswith(OF_ELF):
             form = form_of(held)
             return f"is not ELF: give :{form}" if form else "is not ELF"
@@ -426,15 +432,16 @@ class Update:
         if not kind and not RECORD.match(front):
             is_like_text = is_text(front, 20) or self.memory == "flash" and is_text(front.strip(b"\0"), 2)
             kind = "text" if is_like_text else None
-        return f"looks like {kind}: give :r only if its bytes are meant" if kind else None
+        return f"looks like {kind}: give :r only to use its bytes as they are" if kind else None
+
+    def fault_of_no_area(self) -> str | None:
+        """Returns why ELF isn't taken for this memory; None if there is no such memory, which avrstk reports."""
+        return "is ELF, which is for flash, eeprom, fuses and lock" if self.memory in MEMORIES else None
 
     def fault_of_elf(self, held: bytes) -> str | None:
         """Takes what an ELF file has for this memory, and the chip that it names. Returns why it can't be written."""
-        if self.memory not in MEMORIES:
-            # (avrstk refuses it)
-            return None
         if self.memory not in AREAS:
-            return "is ELF"
+            return self.fault_of_no_area()
         try:
             sections, self.chip = sections_of(held)
         except ValueError as fault:
