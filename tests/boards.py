@@ -728,7 +728,7 @@ def leaves_to_another():
     how["env"] = how["env"] | {"AVRSTK_ELSE": "nosuch"}
     with room.start("-c usbasp -p m328p".split(), **how) as started:
         _, messages = started.communicate(timeout=PATIENCE)
-    absent = b"avrstk-serial: AVRSTK_ELSE=nosuch names no other program\n"
+    absent = b"avrstk-serial: AVRSTK_ELSE=nosuch: no other program of this name can be run\n"
     check("a program that isn't there", messages.startswith(absent) and messages.count(b"\n") == 2, messages)
     # (an empty name in PATH is this folder, which has no such program)
     (folder / "avrdude").rename(folder / "other")

@@ -171,7 +171,8 @@ def bare(written):
 
 
 def worked_rows():
-    """Each worked row that was set before the code has a test, and the test's file has the row's bytes and lines."""
+    """tests/tables/rows.txt has examples that were set before the code, each with the file of its test. That file has
+    the example's bytes and lines."""
     rows = [row.split(" | ", 3) for row in text("tests/tables/rows.txt").splitlines() if not row.startswith("#")]
     check_equal("worked rows", len({row[0] for row in rows}), ROWS)
     for name, _, file, held in rows:

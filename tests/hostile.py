@@ -187,8 +187,7 @@ def a_second_caller():
 
 
 def nothing_is_read():
-    """A programmer that sends replies never reads what is sent to it. A write that takes no byte for ten seconds ends
-    the run."""
+    """If a programmer sends replies but reads nothing, the run ends once a write takes no byte for ten seconds."""
     room.clear()
     room.put("large.bin", bytes(range(1, 129)) * 2_048)
     with socket.socket() as listener:

@@ -214,7 +214,9 @@ def parsed(given, number):
             locks = [at for at, update in enumerate(words.updates) if update.writes("lock")]
             words.updates.insert(min(locks, default=len(words.updates)), own)
     words.each = (
-        types.SimpleNamespace(base=base, advice=lambda: " (--each takes the next number)") if words.each_given else None
+        types.SimpleNamespace(base=base, advice=lambda _: " (--each takes the next number)")
+        if words.each_given
+        else None
     )
     return words
 
@@ -253,8 +255,8 @@ def each_once(plan):
 def advised(given, plan, text):
     """Returns the command that a hint advises for a programmer; None if it advises none. `plan` is the whole command,
     which has what was left out, too."""
-    changes = "with -D, without -e|without its first \\d+ -U|without --each"
-    changes += r"|with another programmer|\(--each takes the next number\)"
+    changes = "with -D, without -e|without its first (?:\\d+ )?-U|without --each"
+    changes += r"|with another programmer|but at a bootloader with all -U of flash|\(--each takes the next number\)"
     again = re.search(f"run the same command again((?:,? (?:{changes}))*)$", text)
     erase = ERASE.search(text)
     if erase:
@@ -262,8 +264,8 @@ def advised(given, plan, text):
         return each_once(plan)
     if not again:
         return None
-    count = re.search(r"its first (\d+) -U", again[1])
-    given = without_first(given, int(count[1]) if count else 0)
+    count = re.search(r"its first (\d+ )?-U", again[1])
+    given = without_first(given, int(count[1] or 1) if count else 0)
     if "with -D, without -e" in again[1]:
         given = ["-D", *[word for word in given if word != "-e"]]
     if "without --each" in again[1]:

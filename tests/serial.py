@@ -1730,15 +1730,15 @@ def elf_files_with_faults():
 
 # advice to run the same command again, with its changes
 AGAIN = (
-    r"run the same command again(?: (with -D, without -e))?(?:,? without its first (\d+) -U)?"
-    r"((?:,? without --each(?:, --\w+)*)?(?:, without --retry)?)$"
+    r"run the same command again(?: (with -D, without -e))?(?:,? without its first (-U|\d+ -U))?"
+    r"((?:,? without --each(?:, --\w+)*)?(?:, but at a bootloader with all -U of flash)?(?:, without --retry)?)$"
 )
 
 
 def repeated(words, _, found):
     """Follows a hint to run the same command again, without an erase, the first updates, or other options."""
     again = re.search(AGAIN, found.string)
-    count = int(again[2] or 0) if again else 0
+    count = int(again[2].split()[0].replace("-U", "1")) if again and again[2] else 0
     at = [at for at, word in enumerate(words) if word == "-U"][:count]
     options = re.findall(r"--\w+", again[3]) if again else []
     at += [place for place, word in enumerate(words) if word in options]
@@ -1822,9 +1822,9 @@ FOLLOWED = [
     (r"^\w+ differs only in bits that \S+ can't change: give (\S+)", lambda words, _, found: valued(words, found[1])),
     (r"^\w+ differs only in bits that \S+ can't change: (since .*), with (\S+)$", repeated_with),
     (r"^give (\S+) if the part can't change the bits that differ; else (.*)", stays),
-    (r"^(since .*), with (\S+) if the part can't change the bits that differ; else", repeated_with),
+    (r"^(since .*)\. If the part can't change the bits that differ, give (\S+);", repeated_with),
     (
-        r"(give -e and .*); if the part can't change the bits that differ, with (\S+)$",
+        r"(give -e and .*)\. If the part can't change the bits that differ, give (\S+)$",
         lambda words, case, found: stays(each_once(words), case, [found[0], found[2], found[1]]),
     ),
     (

@@ -171,17 +171,19 @@ class Each:
         if self.rows is not None and not 0 < number <= len(self.rows):
             raise Fault(f"--rows {self.file} has no row {number}")
 
-    def has_next(self) -> bool:
-        """Whether a number is left, as far as the counter can be read."""
+    def has_next(self, words: Words) -> bool:
+        """Whether a number is left whose texts fit, as far as the counter can be read."""
         with contextlib.suppress(Fault, OSError):
-            self.judge_number(self.counter.next())
+            number = self.counter.next()
+            self.judge_number(number)
+            self.pieces(words, number)
             return True
         return False
 
-    def advice(self) -> str:
+    def advice(self, words: Words) -> str:
         """Says which number a second run takes."""
-        what = "takes the next number" if self.has_next() else "has no number left: check --counter and --rows"
-        return f" (--each {what})"
+        why = "can't use the next number: check --each, --counter and --rows"
+        return f" (--each {'takes the next number' if self.has_next(words) else why})"
 
     def end_of(self, memory: str) -> int:
         """Returns where the texts of a memory end, for the next number and those that the command may take later."""

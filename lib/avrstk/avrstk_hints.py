@@ -101,10 +101,10 @@ def state_of(run: Outcome) -> str:
 
 def again(run: Outcome) -> str:
     """Advises to run the same command again if that repairs the chip, and else to go on without what was done. (A lock
-    that was written lets nothing more be written.)"""
+    that may be written lets nothing more be written.)"""
     words, done = run.words, run.done()
     rest = words.updates[len(done) :]
-    if may_lock(done) and any(update.operation == "w" and update.memory != "lock" for update in rest):
+    if may_lock(run.begun()) and any(update.operation == "w" and update.memory != "lock" for update in rest):
         return by_erase(words)
     # (a second run reads what the first one wrote)
     later = [[other.memory for other in run.begun()[at:] if other.operation == "w"] for at in range(len(done))]
@@ -119,8 +119,14 @@ def again(run: Outcome) -> str:
         return by_erase(words)
     left = done if is_each else list(itertools.takewhile(lambda update: update not in own, done))
     count = sum(update.file != "--each" for update in left)
-    changes = ["with -D, without -e"] * erases(words) + [f"without its first {count} -U"] * bool(count)
+    first = "-U" if count == 1 else f"{count} -U"
+    changes = ["with -D, without -e"] * erases(words) + [f"without its first {first}"] * bool(count)
     changes += [f"without {', '.join(options_of_each(words))}"] * is_each
+    # (a bootloader may erase flash before a session's first page)
+    is_split = all(any(update.writes_flash() for update in part) for part in (left, rest))
+    changes += ["but at a bootloader with all -U of flash"] * (
+        is_split and not erases(words) and not words.is_bootloader
+    )
     changes += ["without --retry"] * (bool(changes) and takes_retry(words))
     why = "since another erase may clear EEPROM, " * may_lose(run)
     return f"{why}{same(words)} {', '.join(changes)}".rstrip() + ("" if is_each else words.next_number)
@@ -303,12 +309,11 @@ def differs(run: Outcome, found: Match[str]) -> str:
 
 def unless_lacking(run: Outcome, value: str, rest: str) -> str:
     """Returns the hint if the part may lack the bits that differ. `rest` is the hint if it has them."""
-    way, lacks = again(run) if may_lose(run) else "", "if the part can't change the bits that differ"
-    if way == by_erase(run.words):
-        return f"{way}; {lacks}, with {value}"
-    if way:
-        return f"{way}, with {value} {lacks}; else{rest[len(way) :].lstrip(',;')}"
-    return f"give {value} {lacks}; else {rest}"
+    way = again(run) if may_lose(run) else ""
+    if not way:
+        return f"give {value} if the part can't change the bits that differ; else {rest}"
+    tail = rest[len(way) :].replace(", with", "; else use").replace("; if it", "; else if it")
+    return f"{way}. If the part can't change the bits that differ, give {value}{tail}"
 
 
 def unlike(run: Outcome, memory: str, wanted: int, held: int) -> str:
@@ -352,7 +357,7 @@ KINDS = {
     "no such memory": f"the memories are {', '.join(MEMORIES)}",
     "no such operation": "the operations are w (write), v (compare) and r (read)",
     "no such format here": "the formats are i, s, r, e, a and m to write and compare, i, s, r, h, d, o and b to read",
-    "no file named": "no file is named: give MEMORY:OP:FILE:FORMAT, or MEMORY:OP:VALUES:m",
+    "no file named": "no file is named: give MEMORY:OP:FILE:FORMAT, or MEMORY:w:VALUES:m",
 }
 
 

@@ -186,10 +186,6 @@ class Rows:
     def show_row(self, name: str, how: str, what: str) -> None:
         show(f"row {name:19} {how:9} {what}".rstrip())
 
-    def leave_out_all(self, why: str) -> None:
-        for name in WRITING:
-            self.leave_out(name, why)
-
     def addressed(self, memory: str, at: int) -> List[bytes]:
         """Returns the LOAD_ADDRESS of a command, if it has one."""
         far = 0x80000000 if self.sizes["flash"] > 0x20000 else 0
@@ -315,6 +311,15 @@ class Rows:
         erase.)"""
         return [memory for memory in self.lost_by_erase() if memory == "flash" or not self.words.is_bootloader]
 
+    def fuses(self) -> Sequence[str]:
+        """Returns the fuses. (A part of which nothing is known may have no extended fuse.)"""
+        return FUSES if self.words.parts_file is None or self.words.bits() else FUSES[:2]
+
+    def needed(self, name: str) -> List[str]:
+        """Returns the memories that a row needs, and that can't be read."""
+        needed = {"erases": self.lost_by_erase(), "writes fuses": self.fuses(), "writes lock": ["lock"]}
+        return [memory for memory in needed.get(name, []) if self.chip[memory] is None]
+
     def save_all(self) -> None:
         """Saves all memories, and the pages that are written, in a new folder."""
         self.folder = tempfile.mkdtemp("", "try-rows-", ".")
@@ -424,7 +429,8 @@ class Rows:
         self.enter()
         changed, unread = self.difference(self.chip), found.count(None)
         fault, self.chip = fault or changed, self.whole() if changed else self.chip
-        self.row("restart", fault, f"as allowed, {unread} of {len(found)} readings before ENTER got no good reply")
+        seen = f"before ENTER {len(found) - unread} readings were right, {unread} got no good reply; both are allowed"
+        self.row("restart", fault, seen)
 
     def erase(self) -> bool:
         """Returns whether the chip was erased."""
@@ -445,9 +451,7 @@ class Rows:
         is_erased = self.erase()
         one, other = os.urandom(self.part["flash_page"]), os.urandom(self.part["flash_page"])
         self.writes("writes flash", [("flash", page) for page in (one, one, other)])
-        # (a part of which nothing is known may have no extended fuse)
-        fuses = FUSES if self.words.parts_file is None or self.words.bits() else FUSES[:2]
-        self.writes("writes fuses", [(fuse, self.chip[fuse]) for fuse in fuses])
+        self.writes("writes fuses", [(fuse, self.chip[fuse]) for fuse in self.fuses()])
         # (a bit of the lock is cleared only if an erase has set it, or a bootloader can't clear it)
         values = [b"\xff", b"\xfe"] if is_erased or self.words.is_bootloader else [b"\xff"]
         self.writes("writes lock", [("lock", value) for value in values])
@@ -496,8 +500,9 @@ class Rows:
         if self.is_all:
             self.changes()
         else:
-            hidden = self.obstacles()
-            self.leave_out_all(unsure(*hidden) if hidden else "needs --try-rows=all --yes")
+            for name in WRITING:
+                hidden = self.obstacles() or self.needed(name)
+                self.leave_out(name, unsure(*hidden) if hidden else "needs --try-rows=all --yes")
         self.programmer.ask(LEAVE)
 
     def put_back(self) -> None:

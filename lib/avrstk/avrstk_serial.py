@@ -511,7 +511,7 @@ def leave_to_other(words: Words) -> None:
     why = why_other(words)
     other = other_program() if why else None
     if why and not other and os.environ.get("AVRSTK_ELSE"):
-        print_line(f"AVRSTK_ELSE={os.environ['AVRSTK_ELSE']} names no other program")
+        print_line(f"AVRSTK_ELSE={os.environ['AVRSTK_ELSE']}: no other program of this name can be run")
     # (it doesn't know the script's own options, and takes one port)
     has_own = words.unproved or any(option.startswith("--") for option in words.last)
     if other and not words.is_station and not has_own:
@@ -800,7 +800,7 @@ def ran(words: Words, put: Callable[[bytes], None] = messages.put, earlier: froz
         repairs = re.match(rf"no answer$|{LOST_LINK}|\w+: address \w+: \w+ expected, \w+ found$", outcome.error)
         if words.tries > count or ended_by() or not outcome.status or not repairs:
             return outcome
-        if words.each is None or words.each.has_next():
+        if words.each is None or words.each.has_next(words):
             words.note(f"{outcome.error}: trying again, {words.tries} of {count}")
         wait_for(words.device)
         if ended_by():

@@ -181,7 +181,7 @@ class Words:
     @property
     def next_number(self) -> str:
         """Says which number a second run takes if the command has --each."""
-        return self.each.advice() if self.each else ""
+        return self.each.advice(self) if self.each else ""
 
     def is_wanted(self, line: bytes) -> bool:
         """Whether avrstk prints this line with -q: once it leaves out what it did, twice warnings, too."""
