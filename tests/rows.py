@@ -338,7 +338,8 @@ WRONG = [
 
 
 def wrong():
-    """Each wrong programmer fails its row, and that row alone. The promise is the one that the others leave."""
+    """Each wrong programmer fails the rows that the table names for it, and no other. The promise is the one that the
+    others leave."""
     for number, (row, act) in enumerate(WRONG):
         rows, what = row.split(", "), f"wrong {number}, {row}"
         left = ["damaged frame", "writes EEPROM"] if row == "reads EEPROM" else []

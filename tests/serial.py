@@ -274,12 +274,13 @@ def report_of(name):
     return report
 
 
-def run_as_anyone(words, program):
+def run_as_anyone(words, program, output=subprocess.PIPE):
     """Runs the script as nobody if this is root. (PYTHON must not be one that only root can run.)"""
     with tempfile.TemporaryDirectory(dir="/tmp") as folder:
         os.chmod(folder, 0o755)
         shutil.copytree(SHARED, f"{folder}/lib")
-        how = ANYONE | {"stdin": subprocess.DEVNULL, "capture_output": True, "cwd": "/", "timeout": PATIENCE}
+        how = ANYONE | {"stdin": subprocess.DEVNULL, "stdout": output, "stderr": subprocess.PIPE}
+        how |= {"cwd": "/", "timeout": PATIENCE}
         return subprocess.run(
             [PYTHON, shutil.copy(SCRIPT, folder), *words], env=os.environ | {"AVRSTK": str(program)}, **how
         )
@@ -1087,6 +1088,9 @@ def backups_that_fail():
     fails.append(
         ({"part": "t85", "answer": written}, odd, f"a backup has the signature 1E950F, and odd 1E930B: {UNOPENED}")
     )
+    # (avrstk refuses this signature)
+    room.put("blanks.toml", f'parts = {{ odd = {{ signature = "1E 95 0F", {sizes} }} }}\n'.encode())
+    fails.append(({}, ["--parts", "blanks.toml", "-p", "odd", "--restore", "a backup"], UNOPENED))
     room.put("locked.bin", b"\xff" * 33_795 + b"\xfc")
     locked = "the chip reads as locked; no backup is kept"
     fails.append(({"chip": "locked.bin"}, ["--backup", "gone"], locked))
@@ -2437,6 +2441,12 @@ def places_of_reports():
     value, report = room.read("all.txt").splitlines()
     check_equal("all that was printed", (value, json.loads(report)["status"]), (b"0xff", 0))
     log = room.read("messages.txt").decode().splitlines()
+    # (a stream's file isn't replaced, so its folder may be closed)
+    with tempfile.TemporaryDirectory(dir="/tmp") as folder, open(f"{folder}/all.txt", "wb") as output:
+        os.chmod(folder, 0o755)
+        run_as_anyone(["--json", "/dev/stdout", "-z"], shutil.which("true"), output)
+        held = Path(folder, "all.txt").read_bytes() or b"{}"
+        check_equal("a file in a closed folder", json.loads(held).get("error"), "option -z not recognized")
     check("messages, and the log's lines", len(log) > 4 and len({*log}) * 2 == len(log), log)
 
 

@@ -525,7 +525,8 @@ def later_rows():
 
 
 def waits_for_a_number():
-    """If a signal comes while another program has the counter, no number is taken, and the line describes the chip."""
+    """If a signal comes while another program holds the counter's lock, no number is taken. A line describes the
+    chip."""
     lock = room.folder / "counter.lock"
     with lock.open("w") as held:
         flock(held, LOCK_EX)
@@ -628,7 +629,7 @@ def screen(text):
 
 
 def ordinary_user():
-    """A user who isn't root has a counter in his folder. Where he may not write, no number is taken."""
+    """A user who isn't root can keep a counter in a folder of his own. Where he may not write, no number is taken."""
     with tempfile.TemporaryDirectory(dir="/tmp") as name:
         folder = Path(name)
         for path in (folder, folder / "his", folder / "other"):

@@ -131,7 +131,8 @@ def the_network_is_named():
 
 
 def what_is_there_stays():
-    """tools/vendor.sh leaves a crate that is there already, with its line, as it is."""
+    """If the other repository already has a crate, tools/vendor.sh changes neither this crate nor its line in
+    crates.txt."""
     with repository() as top:
         lines = "own:\navr_image:   arrayvec thiserror # by hand"
         (top / "crates.txt").write_text(lines)

@@ -20,7 +20,7 @@ from line import BadLine
 from program import CHIP_FILE, ENDS, PROGRAM, REPLIES, TOP, Room, Server, frame, has_avrdude, lines
 
 COMMANDS = {"SIGN_ON": 0x01, "CHIP_ERASE": 0x12, "PROGRAM_FLASH": 0x13, "READ_FLASH": 0x14}
-# the other commands, which set an address or a mode: SET_PARAMETER, LOAD_ADDRESS, ENTER and LEAVE
+# the other commands, which set an address, a parameter or a mode: SET_PARAMETER, LOAD_ADDRESS, ENTER and LEAVE
 MODES = {0x02, 0x06, 0x10, 0x11}
 # a chip whose flash has only zeros
 FULL = bytes(32_768) + b"\xff" * (CHIP_FILE - 32_768)

@@ -79,7 +79,8 @@ def which(option: str, given: str, chance: Callable[[], float]) -> Meant:
         return lambda names: chance() * 100 < percent
     is_one = re.fullmatch("(?:([A-Za-z_]+)#)?[1-9][0-9]{0,8}", given)
     if given not in NAMES and not (is_one and is_one[1] in (None, *NAMES)):
-        raise Fault(f"{option} {given}: give WHICH, such as CHIP_ERASE, CHIP_ERASE#1, 7 or 2%")
+        before = ", before :SECONDS" * (option == "--late")
+        raise Fault(f"{option} {given}: give WHICH, such as CHIP_ERASE, CHIP_ERASE#1, 7 or 2%{before}")
     return lambda names: given in names
 
 

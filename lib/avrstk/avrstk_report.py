@@ -176,7 +176,7 @@ def build(is_unproved: bool = False) -> dict[str, object]:
 
 def fault_of(place: str) -> str | None:
     """Returns why no report can be written at a place; None if it can, as far as is known before the run."""
-    if place == "-":
+    if place == "-" or standard(place):
         return None
     if not place:
         return "is no file"

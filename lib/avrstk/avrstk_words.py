@@ -224,7 +224,8 @@ class Words:
         """Returns the digits of the part's signature, as far as they are known here."""
         if self.parts_file is None:
             return parts().get((self.part or "").lower(), {}).get("signature", "")
-        return (self.of_file("signature") or "").upper()
+        held = (self.of_file("signature") or "").upper()
+        return held if re.fullmatch("[0-9A-F]{6}", held) else ""
 
     def of_file(self, name: str) -> str | None:
         """Returns a field of the part in the part file of one's own."""
