@@ -576,7 +576,7 @@ def with_a_restore():
     room.put("counter.new", b"mine")
     restore = [*board, "--restore", "kept", "--counter", "counter", "--from", "7", "--each"]
     end = "nothing was sent, and the device was not opened"
-    line = f"avrstk-serial: --each writes into flash: flash of kept is all FF: {end}"
+    line = f"avrstk-serial: --each can't write into flash: it is all FF in kept: {end}"
     check_equal("flash", run([*restore, "flash@0={n}"]), (1, "", [line]))
     check_equal(
         "EEPROM", (run([*restore, "eeprom@0={n}"])[0], room.read("chip.bin")[EEPROM : EEPROM + 2]), (0, b"7\xff")

@@ -247,8 +247,8 @@ class Each:
         if not update.is_image:
             why = f"give a file, not values: -U {update.given}"
             if words.restore is not None:
-                why = f"{update.memory} of {words.restore} is all FF"
-            raise Fault(f"--each writes into {update.memory}: {why}: {self.end}")
+                why = f"it is all FF in {words.restore}"
+            raise Fault(f"--each can't write into {update.memory}: {why}: {self.end}")
 
     def pieces(self, words: Words, number: int) -> dict[str, list[Run]]:
         """Returns the bytes for a number, by their memories."""

@@ -331,12 +331,11 @@ def unlike(run: Outcome, memory: str, wanted: int, held: int) -> str:
 
 def unerased(run: Outcome, _: Match[str]) -> str:
     """Returns the hint after a refused erase. (Before a restore a bootloader refuses the calibration.)"""
-    loader = (
-        "a bootloader can't erase the chip, and a programmer's erase clears the bootloader: give -D, not -e, and for "
-        f"flash {ONE_IMAGE}{', without --retry' * takes_retry(run.words)}. If this is a programmer, "
-    )
-    if any(update.writes(fuse) for update in run.words.updates for fuse in FUSES):
-        loader = "if this is a bootloader, use a programmer, whose erase clears the bootloader. If it is a programmer, "
+    updates, retry = run.words.updates, ", without --retry" * takes_retry(run.words)
+    advice = f", which can't erase the chip, give -D, not -e, and for flash {ONE_IMAGE}{retry}"
+    if any(update.memory == "calibration" or update.writes(fuse) for update in updates for fuse in FUSES):
+        advice = ", use a programmer, whose erase clears the bootloader"
+    loader = f"if this is a bootloader{advice}. If it is a programmer, "
     return loader * (run.words.restore is None) + f"{state_of(run)}; {OTHER}"
 
 

@@ -559,6 +559,7 @@ def judge(words: Words) -> None:
         unfit = unrepaired(words)
         if unfit:
             why = "a second run may hide or undo what the first one found or did"
+            why = "a second run would write there once more" if unfit.is_stream() else why
             raise Fault(f"--retry takes no {options_of(words, unfit)}: {why}")
 
 
