@@ -165,7 +165,7 @@ remove() {
     for name in "${names[@]}"; do
         # (only names under the prefix)
         [[ $name == ./ || /${name%/}/ != */@(|.|..)/* ]] ||
-            fail "$manifest: '$name' is no installed file: nothing is removed"
+            fail "$manifest: '$name' is no path of an installed file: nothing is removed"
     done
     check_links "$manifest" "${names[@]/#/"$prefix/"}" || return 1
     for name in "${names[@]}"; do

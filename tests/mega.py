@@ -219,7 +219,7 @@ def asked_first():
     for name, runs in files.items():
         serial.room.put(name, hex_of(runs))
     serial.room.put("long.bin", drawn("long", 600))
-    front, end = "the device seems to be a bootloader, since it refuses command 1C: ", "; nothing was written"
+    front, end = "the device refuses to read the calibration, as a bootloader does: ", "; nothing was written"
     order = "a Mega's bootloader erases pages from 0 on: give one image that begins at 0 and leaves out no page"
     far = "-U {}: a Mega's bootloader reads EEPROM above 255 at other addresses: use a programmer"
     asked = {f"flash:w:{name}.hex:i": order for name in ("late", "gap")}

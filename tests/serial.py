@@ -1262,7 +1262,7 @@ def asked_over_a_port():
     how = {"cwd": room.folder, "env": os.environ | {"AVRSTK": str(PROGRAM)}, "stdout": subprocess.PIPE}
     for more, status, wanted in [
         ([], 0, []),
-        (["--mega"], 1, ["the device seems to be a bootloader, since it refuses command 1C: "]),
+        (["--mega"], 1, ["the device refuses to read the calibration, as a bootloader does: "]),
     ]:
         command = [TOP / "avrstk-serve", "0", "-p", "m2560", "--chip", "net.bin", *more]
         with subprocess.Popen(command, **how) as served:
@@ -2627,7 +2627,7 @@ def strangers():
     check_equal("the stranger receives", received, b"")
     room.put("go", b"")
     _, printed = started.communicate(timeout=PATIENCE)
-    line = b"avrstk-serial: refused another program at this run's own port (as far as /proc shows)\n"
+    line = b"avrstk-serial: refused another program at this run's own TCP port (as far as /proc shows)\n"
     check_equal("the run", (started.returncode, printed, board.end() == wanted), (0, line + lines(*FIRMWARE), True))
 
 

@@ -434,7 +434,7 @@ class Run:
             return
         line.close()
         if is_avrstk is False:
-            print_line("refused another program at this run's own port (as far as /proc shows)")
+            print_line("refused another program at this run's own TCP port (as far as /proc shows)")
 
     def open(self, line: socket.socket) -> None:
         """Opens the device and waits for the board. Only the last SIGN_ON that avrstk sends meanwhile is passed on."""
@@ -858,7 +858,7 @@ def ask(
         report.lines[before:] = [line for line in report.lines[before:] if line.startswith("device signature")]
     if is_loader:
         report.stage = "refused"
-        raise Fault(f"the device seems to be a bootloader, since it refuses command 1C: {risk}; {UNWRITTEN}")
+        raise Fault(f"the device refuses to read the calibration, as a bootloader does: {risk}; {UNWRITTEN}")
     if outcome.status:
         # (-p auto takes any part to ask)
         messages.put(b"".join(line for line in lines if not line.startswith(b"avrstk: warning: signature is ")))
