@@ -4,7 +4,7 @@ from __future__ import annotations
 
 from avrstk_common import name_of_signal, parts
 from avrstk_elf import AREAS, SIGNATURE
-from avrstk_words import FORMATS, FUSES, MEMORIES, UNOPENED, Update, Words, form_of, long_name, parts_of, rows_of
+from avrstk_words import FORMATS, FUSES, MARK, MEMORIES, UNOPENED, Update, Words, form_of, long_name, parts_of, rows_of
 
 import itertools
 import os
@@ -159,7 +159,7 @@ def by_erase(words: Words) -> str:
 
 def same(words: Words) -> str:
     """Advises to run the same command again. With several boards it would change those that are done."""
-    mark = ", no {board}" * words.has_mark
+    mark = f", no {MARK}" * words.has_mark
     return SAME + f" for {words.device} alone (one -P{mark})" * words.is_station
 
 

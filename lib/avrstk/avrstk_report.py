@@ -36,7 +36,7 @@ KINDS = {
 VALUES = rf"({'|'.join(MEMORIES)}): address \w+ out of range$"
 
 # errors after which it isn't known whether a command was done
-OPEN = rf"$|no answer( in 4096 bytes)?$|{LOST_LINK}|command \w\w(: bad answer| refused .*)$|out of memory$"
+MAYBE_DONE = rf"$|no answer( in 4096 bytes)?$|{LOST_LINK}|command \w\w(: bad answer| refused .*)$|out of memory$"
 
 
 class Report:
@@ -99,7 +99,7 @@ class Report:
         if words.has_port:
             changes = any(re.search(r"^chip erased$| bytes written$", line) for line in self.lines)
             # (no frame is seen: a command without a good reply may have been done)
-            is_open = status and re.match(OPEN, self.error() or "")
+            is_open = status and re.match(MAYBE_DONE, self.error() or "")
             changes |= bool(is_open) and any(run.may_change for run in self.runs)
         if not changes:
             return "unchanged"

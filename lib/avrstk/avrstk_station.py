@@ -7,7 +7,7 @@ from avrstk_common import ENDING, NAME, READ, WRITE, Fault, Source, came, ended_
 from avrstk_common import name_of_signal, print_line, readable, show, text_of, version
 from avrstk_hints import MAYBE_CHANGED, POWER_CYCLE, UNCHANGED
 from avrstk_report import CHANGED, Report, write
-from avrstk_words import UNOPENED, Update, Words, is_port
+from avrstk_words import MARK, UNOPENED, Update, Words, is_port
 
 import contextlib
 import copy
@@ -18,9 +18,6 @@ import signal
 import time
 import traceback
 from typing import Any, Callable, NoReturn, Sized
-
-# what a name of a file has where each board's own name is put
-MARK = "{board}"
 
 # the most seconds between two drawings of the boards on a terminal
 PAUSE = 0.1

@@ -27,6 +27,9 @@ MEMORIES = ["flash", "eeprom", *FUSES, "signature", "calibration"]
 UNOPENED = "nothing was sent, and the device was not opened"
 UNWRITTEN = "nothing was written"
 
+# what a name of a file has where each of several boards' own name is put
+MARK = "{board}"
+
 # formats by file name extension
 ENDINGS = {".hex": "i", ".ihex": "i", ".eep": "i", ".srec": "s", ".s19": "s", ".mot": "s"}
 FORMATS = {"i": "Intel HEX", "s": "S-records", "e": "ELF"}
@@ -141,7 +144,7 @@ class Words:
         self.devices = [value for name, value in options if name == "-P"]
         self.is_station = len(self.devices) > 1 or self.devices == ["all"]
         self.has_port = is_port(self.device)
-        self.has_mark = any("{board}" in word for word in given)
+        self.has_mark = any(MARK in word for word in given)
         # what is written for each board
         self.each: Each | None = None
         self.each_given = [value for name, value in options if name == "--each"]
