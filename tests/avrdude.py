@@ -176,7 +176,7 @@ class Beside:
 
 
 def all_of(name):
-    """Runs AVRDUDE's requests to a part one after another, all but one over the chip that the one before left."""
+    """Runs AVRDUDE's requests to a part one after another, most of them over the chip that the one before left."""
     if not has_avrdude():
         return leave_out(f"AVRDUDE as the client of --serve, {name}", "AVRDUDE 7.1 is not installed")
     beside = Beside(name)

@@ -267,8 +267,7 @@ def clean():
 
 
 def refused():
-    """A bootloader gets no byte of an erase, of EEPROM, of fuses, lock or calibration: it returns OK all the same, or
-    writes flash in place of EEPROM."""
+    """avrstk-serial sends a bootloader no byte of an erase, of EEPROM, fuses, lock or calibration, but refuses them."""
     bodies = ["1200008000AC0000", "15000400C1C2FFFFFF0000000000", "16000100A0", "17AC A0 00 62", "1804500000 00"]
     for body in [*bodies, "19ACE00000", "1A0458000000", "1C0438000000"]:
         board = Board("optiboot")
@@ -280,7 +279,7 @@ def refused():
 
 
 def keeps_no_clock():
-    """No firmware keeps the ISP clock that `-B` of AVRDUDE sets (parameter 89): optiboot stops, ATmegaBOOT replies OK
+    """No firmware keeps the ISP clock that `-B` of AVRDUDE sets (parameter 0x89): optiboot stops, ATmegaBOOT replies OK
     and reads 0, ArduinoISP refuses it and reads 0."""
     in_sync = b"\x14\x10"
     wanted = {"optiboot": (b"", b""), "ATmegaBOOT": (in_sync, b"\x14\0\x10")}
@@ -350,7 +349,8 @@ def sessions(what, kind, size, words, fates, old=b""):
 
 
 def each_byte():
-    """One byte on the way to an Uno is lost, doubled or has one bit flipped: each byte of a short run."""
+    """One byte on the way to an Uno is lost, doubled or has one bit flipped: each byte of a short run with FULL=1, else
+    a share."""
     places = share("each_byte", 12, 172, range(516))
     fates = [(Fates({place: WHATS[place % len(WHATS)]}), Fates()) for place in places]
     sessions("a fault to the board", "optiboot-fast", 300, ["-D"], fates, random.Random(9).randbytes(FLASH))
@@ -368,7 +368,8 @@ def lossy():
 
 
 def damaged_erases():
-    """Each bit of a chip erase is flipped on its way to ArduinoISP. Status 0 also means FF in the rest of the flash."""
+    """A bit of a chip erase's instruction is flipped on its way to ArduinoISP: each bit with FULL=1, else a share.
+    Status 0 also means FF in the rest of the flash."""
     prepare("ArduinoISP-fast", 200)
     board, sent = Board("ArduinoISP-fast"), []
 
@@ -390,8 +391,8 @@ def damaged_erases():
 
 
 def lost_end():
-    """The reply to the last command of a session with an Uno is lost or damaged. The command is repeated, and the
-    status is 0."""
+    """A byte of the reply to the last command of a session with an Uno is lost, doubled or changed. The command is
+    repeated, and the status is 0."""
     words, size, old = ["-D"], 300, random.Random(9).randbytes(FLASH)
     prepare("optiboot-fast", size)
 
@@ -481,7 +482,8 @@ run(avrstk_serial.main, "", needs_lines=True)
 
 
 def typed():
-    """The options that Arduino IDE and PlatformIO give AVRDUDE flash these boards, over a terminal, in real time."""
+    """The options that Arduino IDE gives AVRDUDE, and for an Uno those of PlatformIO, do what they ask at these boards,
+    over a terminal, in real time."""
     image = random.Random(5).randbytes(700)
     room.put("image.hex", hex_of([(0, image)]))
     cases = TYPED | {"Arduino IDE, burn bootloader": ("ArduinoISP", FUSES_TYPED)}
@@ -522,8 +524,8 @@ def restores_nothing():
 
 
 def avrdude_beside():
-    """Over the same boards AVRDUDE 7.1 writes EEPROM to wrong addresses, or over the flash; avrstk-serial doesn't. Over
-    ArduinoISP its status is 0 then. At an Uno avrstk-serial refuses EEPROM."""
+    """AVRDUDE 7.1 writes EEPROM to wrong addresses over ArduinoISP, and over the firmware of an Uno; avrstk-serial does
+    neither. Over ArduinoISP its status is 0 then. At an Uno avrstk-serial refuses EEPROM."""
     if not has_avrdude():
         return leave_out("AVRDUDE over these boards", "AVRDUDE 7.1 is not installed")
     data, old = bytes(range(1, 65)), random.Random(9).randbytes(FLASH)
@@ -586,8 +588,8 @@ def run_measured(name, is_avrdude):
 
 
 def measured():
-    """Runs have the status, the chip and the bytes that docs/BOARDS says, and take about as long. With FULL=1 these are
-    all runs, and AVRDUDE's; else one."""
+    """With FULL=1 all runs of docs/BOARDS, else one, have the status, the chip and the bytes that it says, and take
+    about as long. With FULL=1 these are all runs, and AVRDUDE's; else one."""
     is_full = os.environ.get("FULL") == "1"
     table = (TOP / "docs/BOARDS.md").read_text()
     rows = [[cell.strip() for cell in line.strip("| ").split("|")] for line in table.splitlines() if line[:1] == "|"]
@@ -699,8 +701,8 @@ def run_script(words):
 
 
 def leaves_to_another():
-    """With AVRSTK_ELSE another program gets the options for a programmer, port or part that isn't avrstk's, and only
-    those. A link to avrstk-serial with its name is passed over."""
+    """With AVRSTK_ELSE another program gets the options for a programmer, port or part that isn't avrstk's, unless one
+    is avrstk-serial's own. A link to avrstk-serial with its name is passed over."""
     folder = room.folder / "else"
     folder.mkdir()
     put_program(room.folder / "else/avrdude", '#!/bin/sh\necho "other: $*"\n')

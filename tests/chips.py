@@ -1,6 +1,6 @@
 #!/usr/bin/env python3
-"""Tests that a chip file stays whole, whatever ends a run, and that a second run over a chip in use is refused. The
-file is the old one or the new one.
+"""Tests that a chip file stays whole, whatever ends a run, unless a file is mounted there, and that a second run over a
+chip in use is refused. The file is the old one or the new one.
 
 Not proved: The proofs assume how the system's calls on files behave, also in a crash of the system.
 
@@ -169,9 +169,9 @@ def ended_anywhere():
 
 
 def others_meanwhile():
-    """If another program replaces or removes FILE or FILE.avrstk-new before a save's last look, the run fails. What is
-    there stays, and so does a chip that is put where none was, however late. The old chip isn't open when it is
-    replaced, because some file systems hide an open file before that."""
+    """If another program replaces or removes FILE or FILE.avrstk-new before a save checks them for the last time, the
+    run fails. What is there stays, and so does a chip that is put where none was, however late. The old chip isn't open
+    when it is replaced, because some file systems hide an open file before that."""
 
     def put(path):
         room.put("put", b"mine")
@@ -198,9 +198,9 @@ def others_meanwhile():
 
 
 def reads_on_the_disk():
-    """A file that a memory was read into is synced before the read's line is printed; if the sync fails, the run
-    fails. So it does with EROFS, which ext4 answers after an error. A file that can't be synced (EINVAL) is no
-    failure."""
+    """A file that a memory was read into is synced before the read's line is printed; the run fails if the sync does,
+    but not with EINVAL. So it does with EROFS, which ext4 answers after an error. A file that can't be synced (EINVAL)
+    is no failure."""
     failed = (1, lines(SIGNATURE, "error: out.bin: cannot be written"))
     good = (0, lines(SIGNATURE, "eeprom: 1024 bytes read", "done"))
     for how, wanted in [("error=EIO:when=1", failed), ("error=EROFS:when=1", failed), ("error=EINVAL:when=1", good)]:
@@ -219,9 +219,10 @@ CHANGES = ["openat", "write", "fsync", "close", "rename", "link", "unlink"]
 
 
 def any_call_fails():
-    """A run writes a fuse and reads the EEPROM into a file. One of its calls on files fails, or this one and all later
-    ones of its name. With status 0 the new chip and the file are there. Else the chip is the old one or the new one.
-    After a sync that failed the status is 1."""
+    """A run writes a fuse and reads the EEPROM into a file, and a call on files fails: status 0 still means the new
+    chip and the file. One of its calls on files fails, or this one and all later ones of its name. With status 0 the
+    new chip and the file are there. Else the chip is the old one or the new one. After a sync that failed the status is
+    1."""
     words, read = [*writes_fuse(0x62), "-U", "eeprom:r:out.bin:r"], re.compile(r"^(\w+)\((.*)\) += -?\d", re.M)
     for prepare, old in STARTS:
         new, counts, calls = with_fuse(old, 0x62), Counter(), []
@@ -246,7 +247,7 @@ def any_call_fails():
 
 
 def forgiven():
-    """Errors that count as success end no run, and all other errors of the same calls do. The calls are a folder's
+    """Of five calls 15 errors are tried: those that avrstk forgives end no run, the others do. The calls are a folder's
     opening and sync, a hard link, and the two that set the new file's group and owner."""
     may_not = {"EPERM", "EACCES"}
     others = "EINVAL ENOSYS EOPNOTSUPP EMLINK EROFS EIO ENOSPC EDQUOT ENOENT EINTR EBADF ENOMEM ESTALE"
@@ -392,10 +393,10 @@ def what_is_refused():
 
 
 def read_into_the_chip():
-    """A read into the chip's own file is refused before a frame is sent, also by a link to it, and the chip stays as it
-    was. So is a read into a file that the run makes beside it, and no image is read from there. A link that is made
-    during the session is refused when its file would be created. A file of the same name in another folder is another
-    file. A name that isn't UTF-8 is as good as any."""
+    """A read into the chip's own file, also by a link, is refused before a frame is sent, and the chip stays as it was.
+    So is a read into a file that the run makes beside it, and no image is read from there. A link that is made during
+    the session is refused when its file would be created. A file of the same name in another folder is another file. A
+    name that isn't UTF-8 is as good as any."""
     first = [*EMULATED, "-e", "-U", "lfuse:w:0x62:m"]
     for prepare, old in STARTS:
         for name in ["chip.bin", "./chip.bin", "link.bin", "odd.bin", "name.bin"][: 5 if old else 4]:

@@ -44,7 +44,7 @@ def what_check_quotes():
     files = {path.rstrip(".") for path in re.findall(r"\bcrates/\w+(?:/[\w.-]+)*", page)}
     for file in sorted(files):
         check(f"there is {file}", (TOP / file).exists())
-    tried = re.search(r"^    \$ rt must-fail (\w+)$", page, re.M)[1]
+    tried = re.search(r"^    \$ rt must-fail --anew (\w+)$", page, re.M)[1]
     check("the mutant is of that crate", any(file.startswith(f"crates/{tried}/must-fail/") for file in files), files)
     quoted = [row for row in page.splitlines() if row.startswith("    ") and not row.startswith(("    $", "    fn "))]
     # (the drawing quotes nothing)
@@ -80,7 +80,7 @@ def what_check_quotes():
 
 
 def known_mistakes():
-    """Each comment of avr_laws' rows of mistakes names a clause that the contract of the named function has."""
+    """Each clause that a comment of avr_laws' rows of mistakes names is in the contract of the named function."""
     rows = "".join(path.read_text() for path in sorted((TOP / "crates/avr_laws/proofs/Rows").glob("*Mistakes.antt")))
     named = set(re.findall(r"\((?:`(\w+)` of )?(\w+?)'s? `(\w+)`\)", rows))
     check("clauses are named", len(named) > 20, len(named))
@@ -92,10 +92,12 @@ def known_mistakes():
 
 
 def the_first_change():
-    """CONTRIBUTING's first change can be made: the text is once in its file, and once in the test's table."""
-    begun = re.search(r"replace `([^`]*)`\s+by", words(text("CONTRIBUTING.md")))[1]
+    """CONTRIBUTING's first change can be made, or was made: the text is once in its file, and once in the test's
+    table."""
+    # (the change may have been made already)
+    begun, made = re.search(r"replace `([^`]*)`\s+by `([^`]*)`", words(text("CONTRIBUTING.md"))).groups()
     for file in ("lib/avrstk/avrstk_hints.py", "tests/tables/refused.txt"):
-        check_equal(f"{file}: {begun}", text(file).count(begun), 1)
+        check_equal(f"{file}: {begun}", [text(file).count(begun), text(file).count(made)] in ([1, 0], [0, 1]), True)
 
 
 def the_hint():
@@ -110,12 +112,14 @@ CONDITIONS = (
     "no command arrives twice or out of order",
     "no reply comes 256 or more frames late",
     "of the part that `-p` names",
+    "the command line needs only rows that the chip's data sheet guarantees",
     "the programmer may restart",
 )
 
 
 def the_conditions():
-    """Each document that states the promise states all of its conditions, and what needs none, in the same words."""
+    """README, PROOFS, WHY, TROUBLESHOOTING and each document with the first of the promise's conditions have five of
+    them, and that the programmer may restart, in the same words."""
     for page in sorted([TOP / "README.md", *TOP.glob("docs/*.md"), *TOP.glob("crates/*/README.md")]):
         held = words(page.read_text()).lower()
         if (
@@ -131,7 +135,8 @@ def the_conditions():
 
 
 def files_of_recipes():
-    """Most files in CONTRIBUTING's table of changes exist, and those of crates in the crate named before them."""
+    """Most files that CONTRIBUTING's table of changes names are looked for, those of crates in the crate named before
+    them: all exist."""
     rows = re.search(r"^\| Change \| Files \|.*?\n\n", text("CONTRIBUTING.md"), re.M | re.S)[0]
     crates = {folder.name for folder in (TOP / "crates").iterdir()}
     crate = None
@@ -186,8 +191,8 @@ STANDARD = {"core", "io", "std", "std_alloc", "std_collections", "std_heap", "st
 
 
 def what_is_trusted():
-    """CHECK names each crate of the kit whose statements the program's check trusts, and the counts of contracts of C
-    functions, as a gate's log has them (docs/EVIDENCE). Each kind of function is named in docs/EVIDENCE."""
+    """CHECK names each crate outside Rattle's standard library whose statements the program's check trusts, and the
+    counts of contracts of C functions, as docs/EVIDENCE has them. Each kind of function is named in docs/EVIDENCE."""
     statements, axioms = trusted()
     section = text("docs/CHECK.md").split("\n## What is trusted\n")[1]
     check_equal("the crates", set(re.findall(r"`(\w+)`", section.split("A check lists")[0])), statements - STANDARD)
@@ -197,7 +202,7 @@ def what_is_trusted():
 
 
 def no_option_is_a_folder():
-    """The tools that write into a named folder make none that is named like an option."""
+    """With --help the tools that write into a named folder make none of that name."""
     for tool in ("tools/site.py", "tools/package.sh", "tools/vendor.sh", "install.sh"):
         with tempfile.TemporaryDirectory() as folder:
             ran = subprocess.run([TOP / tool, "--help"], cwd=folder, capture_output=True, text=True)
@@ -206,8 +211,8 @@ def no_option_is_a_folder():
 
 
 def python():
-    """black would lay out no file of Python differently, and flake8 and mypy find no fault. (Their settings are in
-    pyproject.toml and .flake8: mypy checks what is installed.)"""
+    """black would lay out no file of Python differently, flake8 finds no fault, and mypy none in what is installed.
+    (Their settings are in pyproject.toml and .flake8: mypy checks what is installed.)"""
     for command in (["black", "--check", "."], ["flake8"], ["mypy"]):
         if not shutil.which(command[0]):
             leave_out(" ".join(command), f"{command[0]} is not installed")

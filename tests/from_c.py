@@ -205,7 +205,8 @@ def time_is_linear(library):
 
 
 def cursors_are_judged(library):
-    """A cursor that no call leaves is refused and stays unchanged. A cursor's fields are where the header has them."""
+    """A cursor that the header calls invalid is refused and stays unchanged. A cursor's fields are where the header has
+    them."""
     records, loaded = library.in_python()
     for kind, size, ended, fault in [(1, 5, 0, 0), (1, 0, 2, 11), (2, 5, 0, 11), (2, 4, 1, 0), (2, 3, 2, 11)]:
         lent = [argument for held in (b"\x0a", b"\x01") for argument in records.lent(bytearray(held))]

@@ -187,7 +187,7 @@ def a_second_caller():
 
 
 def nothing_is_read():
-    """If a programmer sends replies but reads nothing, the run ends once a write takes no byte for ten seconds."""
+    """If a programmer sends replies but reads nothing, the run ends with `link cannot be written`."""
     room.clear()
     room.put("large.bin", bytes(range(1, 129)) * 2_048)
     with socket.socket() as listener:
@@ -284,8 +284,8 @@ def standard_streams_that_do_not_block():
 
 
 def standard_streams_that_block():
-    """Over standard streams that block, avrstk waits for a reply without a timeout. A command is retried if it was
-    refused as damaged, or if 4,096 bytes had no reply in them."""
+    """Over standard streams that block, avrstk waits longer for a reply than over other links. A command is retried if
+    it was refused as damaged, or if 4,096 bytes had no reply in them."""
     started = room.start(["-p", "m328p", "-P", "stdio:"], subprocess.PIPE)
     first = started.stdout.read(7)
     try:

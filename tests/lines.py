@@ -208,7 +208,8 @@ def traced(call):
 
 
 def nobody_else_is_called():
-    """Only `net:` makes a connection, and only one; only `--serve` listens. Bytes are sent without delay."""
+    """Runs over `emu:` and standard streams make no connection, one over `net:` makes one, and none of them listens; a
+    server does. Bytes are sent without delay."""
     if not shutil.which("strace"):
         return leave_out("which connections are made", "strace is not installed")
     peer = FrontOfReplies(REPLIES, resets=False)

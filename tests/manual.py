@@ -105,7 +105,8 @@ COMMON = ["NAME", "DESCRIPTION", "EXAMPLES", "FILES", "SEE ALSO"]
 
 # the repository's folders and files that are not installed
 NOT_INSTALLED = re.compile(
-    r"\b(?:docs|examples|crates|tests|tools|parts)/|\./|\binstall\.sh|CHANGELOG|README|" + HERE_ALONE.pattern
+    r"\b(?:docs|examples|crates|tests|tools|parts|bench|completions|include)/|\bpyproject|"
+    r"\./|\binstall\.sh|CHANGELOG|README|" + HERE_ALONE.pattern
 )
 
 
@@ -140,7 +141,7 @@ def pages_have_the_options():
 
 
 def pages_are_clean():
-    """The pages cause no warnings of mandoc and groff, and show commands as they are typed."""
+    """The pages cause no warnings of mandoc and groff, and each shows a command as it is typed."""
     if shutil.which("mandoc"):
         for name, file in PAGES.items():
             ran = subprocess.run(["mandoc", "-T", "lint", file], capture_output=True, text=True)
@@ -187,7 +188,8 @@ LETTERS = {
 
 
 def names_agree():
-    """USAGE, docs/PART, the completions, the hints and --help agree in the names of options or parts."""
+    """USAGE, docs/PART, bash's completions and --help agree in the names of options or parts; other completions and
+    tools/hint.sh have each option's letter."""
     options, shown = of_help()
     completions = (TOP / "completions/avrstk.bash").read_text()
     completed = re.search(r'"(-p [^"]*)"', completions)[1].split()

@@ -212,8 +212,9 @@ def refused():
 
 
 def asked_first():
-    """Without -c wiring avrstk-serial asks before it writes flash other than once from 0 on without gaps, and before it
-    uses EEPROM above 255. If the device is this bootloader, the run is refused. Other runs are made at once."""
+    """Without -c wiring avrstk-serial reads an ATmega2560's calibration before it uses EEPROM above 255, or with -D
+    writes other flash than one image from 0 on without gaps. If the device is this bootloader, the run is refused.
+    Other runs are made at once."""
     old, image = drawn("old", 0x2000), drawn("small", 1_024)
     files = {"a.hex": [(0, image)], "late.hex": [(0x1000, image)], "gap.hex": [(0, b"x"), (512, b"x")]}
     for name, runs in files.items():
@@ -252,7 +253,7 @@ def asked_first():
 
 
 def lock():
-    """This bootloader replies OK to a write of the lock, and doesn't do it."""
+    """This bootloader replies OK to a lock byte of 0xFC, and doesn't write it: it writes only the boot lock bits."""
     with Board() as board:
         texts = [SIGNATURE, "lock: 1 bytes written"]
         ended = board.run(["-D", "-V", *updates("lock:w:0xFC:m")])
@@ -318,7 +319,8 @@ def exchanged(link, number, body, noise=b""):
 
 
 def the_double():
-    """avrstk-serve --mega gives the replies of this bootloader, frame by frame, and leaves the same flash."""
+    """avrstk-serve --mega gives the replies of this bootloader to most commands, without the values of fuses and lock,
+    and leaves the same flash."""
     old = drawn("old", 0x9000) + b"\xff" * (FLASH - 0x9000)
     with Board(old) as board:
         room = board.room

@@ -1,5 +1,6 @@
 #!/usr/bin/env python3
-"""Builds the program with wrong edits of the lines that make the system's calls, and checks that a script refuses each.
+"""Builds the program with wrong edits of the lines that make the system's calls or judge their names and results, and
+checks that a script refuses each.
 
 Not proved: No contract ties these lines to the system, so no proof refuses an edit of them.
 

@@ -222,7 +222,7 @@ def unpacked(name, folder):
 
 
 def packages_hold_what_is_installed():
-    """The Debian packages contain what install.sh installs without its manifest, and documents of their own."""
+    """The Debian packages contain what install.sh installs, except its manifest, and documents of their own."""
     with tempfile.TemporaryDirectory() as folder:
         prefix = Path(folder, "installed")
         # (without the site, as in the clones)
@@ -283,8 +283,8 @@ def slug(heading):
 
 
 def documents_are_the_packages_own():
-    """The package's README has about twenty lines, and its commands work outside a clone. Every link leads to a
-    document of the package, and to a heading there."""
+    """The package's README has 15 to 35 lines, and its commands work outside a clone. Every link leads to a document of
+    the package, and to a heading there."""
     clone = copy.copy(made()[0])
     with tempfile.TemporaryDirectory() as folder:
         unpacked("avrstk", Path(folder, "root"))

@@ -133,7 +133,7 @@ def in_a_clone(case):
 
 
 def readme(clone):
-    """Runs the commands of README, without those that test or prove."""
+    """Runs the commands of README, without `./test` and those that prove."""
     found = blocks("README.md")
     first = next(command for commands in found for command in commands if command.startswith("./"))
     check("the first command in a clone needs no proof", first.startswith("./avrstk --unproved "), first)
@@ -151,7 +151,8 @@ def usage(clone):
 
 
 def examples(clone):
-    """Runs the commands of examples/README with avrstk, and the tests with a double, where nothing is installed."""
+    """Runs the commands in the table of examples/README that begin with ./avrstk, and its tests with a double, in a
+    clone from which avrstk isn't installed."""
     found = re.findall(r"\| `(\./avrstk .*?|[^`]*\bpytest .*?)`", (TOP / "examples/README.md").read_text())
     check("examples/README has commands", len(found) > 4 and any("pytest" in command for command in found), found)
     for command in found:

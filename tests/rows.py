@@ -219,7 +219,7 @@ LINE += ["--drop READ_LOCK#2 --late READ_FLASH#4:1.2"]
 
 
 def faults_of_the_line():
-    """With each fault of a frame all rows are met, and commands were repeated."""
+    """With each fault of a frame all rows that --try-rows tries without =all are met, and commands were repeated."""
     for options in LINE:
         _, own, messages = served(SAFE, options.split(), left=WRITING, promise=SMALLER)
         check(f"{options}: a command was repeated", not any("repeated attempts: 0" in line for line in own), str(own))
@@ -248,7 +248,7 @@ def writes_eeprom(ask, at, byte):
 
 
 def changing(when):
-    """Returns a wrong programmer, which also writes a byte of EEPROM just before these commands."""
+    """Returns a wrong programmer, which also writes a byte of EEPROM just before each command that `when` selects."""
 
     def act(body, ask):
         if when(body):
@@ -299,7 +299,8 @@ def stale():
 
 
 def before_enter(answers):
-    """Returns a wrong programmer, which replies so to a command outside programming mode, without doing it."""
+    """Returns a wrong programmer, which gives the listed reply to a command outside programming mode, without doing
+    it."""
 
     def act(body, ask):
         reply = ask(body)
@@ -314,7 +315,7 @@ def instead(front, other):
 
 
 def pretends(front, reply):
-    """Returns a wrong programmer, which replies OK to a command without doing it."""
+    """Returns a wrong programmer, which gives this reply to a command without doing it."""
     return lambda body, ask: reply if body.startswith(front) else ask(body)
 
 
@@ -393,8 +394,8 @@ def read_along():
 
 
 def ends_early():
-    """If the device goes away or no reply comes while something is changed, the last line has a command that restores
-    it. After a signal the page is written back."""
+    """If the device goes away or no reply comes while something is changed, and all memories could be read, the last
+    line has a command that restores it. After a signal the page is written back."""
     signals = {"Ctrl-C": serial.signal.SIGINT, "Ctrl-C later": serial.signal.SIGINT, "SIGQUIT": serial.signal.SIGQUIT}
     # (a shell's background job ignores it, and so would the script)
     serial.signal.signal(serial.signal.SIGQUIT, serial.signal.SIG_DFL)
@@ -500,8 +501,8 @@ def corrupt_and_silent(front, count):
 
 
 def no_trial():
-    """Nothing is tried without a chip, without its signature, after corrupt frames, or if the memories can't be saved.
-    The line says why."""
+    """Nothing is tried without a chip, if the signature can't be read, after four attempts without a good reply, or if
+    the memories can't be saved. The line says why."""
     small = {"preexec_fn": lambda: serial.resource.setrlimit(serial.resource.RLIMIT_FSIZE, (0, 0))}
     cases = [
         (
@@ -599,7 +600,7 @@ FORMS = {
 
 
 def part_files():
-    """The fields of a part are read as avrstk reads them, however TOML has them."""
+    """In some forms of TOML that avrstk takes, --try-rows reads the fields of a part."""
     for what, text in FORMS.items():
         room.put("form.toml", text.encode())
         words = ["--parts", str(room.folder / "form.toml"), "-p", "tiny"]
@@ -618,7 +619,7 @@ NAMED = f"-p takes a chip's name, such as m328p: -p '?' lists all; {UNOPENED}"
 
 
 def refused():
-    """What --try-rows doesn't take is refused before the device is opened."""
+    """What --try-rows doesn't take is refused, with its line."""
     at = "-P /dev/null -p m328p"
     cases = {
         f"{at} --try-rows=all": f"--try-rows=all may erase and lock the chip: add --yes if you can lose it; {UNOPENED}",
@@ -706,8 +707,8 @@ def over_version1(kind, programmer, words):
 
 
 def version1():
-    """A bootloader of version 1 meets what reads, and refuses the rest; its pages are erased before they are written.
-    Arduino as ISP meets all rows that can be tried."""
+    """With a bootloader of version 1 only `writes flash` fails; its reads of calibration, fuses, lock and EEPROM are
+    refused, and five rows are not tried. Arduino as ISP meets all rows that can be tried."""
     missing = boards.missing()
     if missing:
         return leave_out("boards of version 1", f"{missing} is not installed")

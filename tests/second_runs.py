@@ -374,7 +374,7 @@ def followed(given, old, fault):
 
 
 def each_fault():
-    """Draws commands, and gives each command of a run a fault in turn, before or after the command is done."""
+    """Draws commands, and for each run up to twelve faults: one at a command, before or after that command is done."""
     seed, ends = random.randrange(1_000_000), time.process_time() + float(os.environ.get("SECONDS", 3))
     seed = int(os.environ.get("SEED", seed))
     draw, count, kinds = random.Random(seed), 0, set()

@@ -539,8 +539,8 @@ def texts_and_firmware():
 
 
 def no_firmware():
-    """A text without records, an archive, an HTML page and an empty image are refused, also from a pipe. A text as raw
-    bytes (:r) is not."""
+    """A text without records, an archive, an HTML page and an empty image are refused, also from a pipe (EEPROM takes a
+    text that a NUL ends). A text as raw bytes (:r) is not."""
     why = {
         **dict.fromkeys(TEXTS, LIKE_TEXT),
         **dict.fromkeys(EMPTY, "has no data"),
@@ -713,7 +713,8 @@ def patched(text, words):
 
 
 def speeds_that_a_device_has_not():
-    """A device that keeps another speed, here 9600, is refused. One that is a little off is not."""
+    """A device that keeps a speed far from the given one is refused, here 9600 for 115200; 9600 for 9500 is taken. One
+    that is a little off is not."""
     slow = "    found = do(device, request, *given)\n"
     slow += "    return found[:40] + (9600).to_bytes(4, sys.byteorder) if request == 0x802C542A else found"
     for baud, end in [
@@ -760,7 +761,8 @@ def lines_of_a_board():
 
 
 def bits_that_do_not_exist():
-    """For most parts that it knows, the script prints which bits a fuse or lock lacks, and gives avrstk 1 there."""
+    """If a value has 0 in bits that the part lacks, the script gives avrstk 1 there and prints the new value; tried for
+    the atmega328p."""
     note = "atmega328p lacks bits of"
     recipe = ["-e", "-Ulock:w:0x3F:m", "-Uefuse:w: 0X05,:m", "-Uhfuse:w:0xDE:m", "-Ulfuse:w:255:m"]
     shown = [f"{note} lock: lock:w:0x3F:m becomes lock:w:0xFF:m"]
@@ -886,7 +888,7 @@ def retries():
 
 
 def retries_that_are_refused():
-    """--retry is refused at the beginning for a command that a second run may not repair."""
+    """--retry is refused at the beginning for many commands that a second run may not repair."""
     room.put("late.hex", hex_of([(0x4000, b"late")]))
     line, device = terminal()
     fails = stand_in("sys.exit(1)\n")
@@ -1018,7 +1020,8 @@ def progress():
 
 
 def few_lines():
-    """-q twice leaves values that the script changes or warns of. -l keeps all lines in a file, also over `emu:`."""
+    """-q twice leaves values that the script changes or warns of. -l also writes what is printed into a file, also over
+    `emu:`."""
     flashed()
     quiet = [
         "-C",
@@ -1279,8 +1282,9 @@ def asked_over_a_port():
 
 
 def asked_first():
-    """Before a run at an ATmega2560 that a Mega's bootloader would do otherwise, the script asks the device whether it
-    is a bootloader. Then it refuses the run, or makes it without a warning. Before other runs it doesn't ask."""
+    """Before some runs at an ATmega2560 the script asks the device whether it is a bootloader: for EEPROM above 255,
+    several images, or images with gaps. Then it refuses the run, or makes it without a warning. Before other runs it
+    doesn't ask."""
     room.keep("late.hex", hex_of([(0x4000, b"late")]))
     room.keep("long.bin", bytes(257))
     room.keep("later.csv", b"a\nA\nABCDEFGHIJ\n")
@@ -1340,7 +1344,8 @@ def names_of_images(text):
 
 
 def images_that_are_read_once():
-    """An image is read once, also from a pipe, and may have several memories. Messages name the user's files."""
+    """An image is read once, also from a pipe, and may be written into several memories. Messages name the user's
+    files."""
     images_in_pipes()
     text = room.read("blink.hex")
     (room.folder / "-").mkdir()
@@ -1380,7 +1385,8 @@ def images_that_are_read_once():
 
 
 def over_a_bootloader():
-    """With -c wiring flash is written once, from address 0 on, and nothing erases the chip."""
+    """With -c wiring an erase is refused, and so is flash in several images, not from address 0 on, or with a page left
+    out."""
     images = {"a.hex": [(0x100, b"x" * 256)], "b.hex": [(0, b"y" * 256)]}
     images["-gap.hex"] = images["gap.hex"] = [(0, b"x"), (256, b"x")]
     images["twice.hex"] = [(0, b"xy"), (1, b"z"), (256, b"x")]
@@ -1399,7 +1405,8 @@ def over_a_bootloader():
 
 
 def files_of_one_command():
-    """An output that is another file of the command is refused before a file is opened or changed."""
+    """An output that is another file of the command is refused before a file is changed; streams and devices such as
+    /dev/null may come twice."""
     run([*NO_CHIP, "-q", "--backup", "kept"])
     room.put("-", room.read("blink.hex"))
     os.link(room.folder / "blink.hex", room.folder / "hard.hex")
@@ -1454,7 +1461,7 @@ def board_of(cell):
 
 
 def hints():
-    """Tests the hints after the failed runs of a table, and after a closed output."""
+    """Tests the hints after the failed runs of tests/tables/failures.txt, and after a closed output."""
 
     def ran(case):
         _, words, *_, board = case
@@ -1517,7 +1524,7 @@ def valued(words, given):
 
 
 def each_once(words, *_):
-    """Erases, and gives each write once, the lock last."""
+    """Erases, and writes each memory once, by its first write, the lock last."""
     updates = [word for before, word in zip(words, words[1:]) if before == "-U"]
     writes = {word.partition(":")[0]: word for word in reversed(updates) if re.match(r"\w+:w:", word)}
     ordered = sorted(writes.values(), key=lambda word: (word.startswith("lock:"), updates.index(word)))
@@ -1700,7 +1707,8 @@ def mutated(elf, chance):
 
 
 def elf_files_with_faults():
-    """Mutated ELF files: each is refused with a reason, or read as avr-objcopy reads it, at once."""
+    """Mutated ELF files: each is refused or read at once, and read as avr-objcopy reads it where that finds no
+    fault."""
     if not shutil.which("avr-gcc"):
         return leave_out("mutated ELF", "avr-gcc is not installed")
     sys.path[:0], sys.dont_write_bytecode = [str(SHARED / "avrstk")], True
@@ -1761,7 +1769,8 @@ def mended(words, case, found):
 
 
 def on_this_device(leaves):
-    """Follows a hint for a bootloader by this change of the command, and one for a programmer by the same command."""
+    """Follows a hint for a bootloader by the given change of the command, and one for a programmer by running the
+    command again."""
     return lambda words, case, found: leaves(words, case) if "loads" in case else repeated(words, case, found)
 
 
@@ -2283,6 +2292,7 @@ def report_over_a_port():
         ([], "-e", ("interrupted", unchanged)),
         ([known, "avrstk: error: out of memory"], "-e", ("interrupted", changed)),
         (["avrstk: error: link to.hex: cannot be opened"], "-e", ("file", unchanged)),
+        (["avrstk: error: no answer.hex: cannot be opened"], "-e", ("file", unchanged)),
         ([known, "avrstk: error: link to.hex: cannot be created"], "-e", ("file", unchanged)),
         (["avrstk: error: eeprom: address 00000400 out of range"], "-U eeprom:w:eeprom:r", ("file", unchanged)),
         (["avrstk: error: eeprom: address 00000400 out of range"], "-U eeprom:w:1:m", ("arguments", unchanged)),
@@ -2525,8 +2535,8 @@ def messages_that_nobody_reads():
 
 
 def one_run_at_a_time():
-    """A second run over a device is refused and doesn't change its settings, also for root. Runs in turn are
-    accepted."""
+    """While a run uses a device, another run there is refused and doesn't change its settings, also for root. Runs in
+    turn are accepted."""
     line, device = terminal()
     fake = stand_in(CALLS)
     first = start([*FLASH, "-P", device, "-b", "57600", "--wait", "0"], env=fake)

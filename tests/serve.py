@@ -170,7 +170,7 @@ def clients_that_send_nothing():
 
 
 def one_after_another():
-    """A client waits until the one before has disconnected, and gets the chip that this one left."""
+    """A client waits until the one before has disconnected, and then is served."""
     with Serving() as server:
         first = server.call()
         check("the first session", begins(first))
@@ -210,8 +210,8 @@ def failed(how):
 
 
 def a_chip_in_use():
-    """If another run holds the chip, the client's connection is closed, and the next client is served. A fault that
-    selected no command is reported also then."""
+    """If another run holds the chip, the client's connection is closed; once that run has ended, the next client is
+    served. A fault that selected no command is reported also then."""
     os.mkfifo(room.folder / "pipe")
     with Serving("--lose", "1000") as server:
         holder = room.start(["-p", "m328p", "-P", "emu:chip.bin", "-U", "eeprom:r:pipe:r"])
@@ -261,8 +261,8 @@ def changes_fuse(server, value):
 
 
 def ends_at_a_signal():
-    """At SIGTERM, SIGINT or SIGHUP the server ends with status 0, also in a session. Its client's changes are saved,
-    and no run is left."""
+    """Without a command the server ends with status 0 at SIGTERM, SIGINT or SIGHUP, also in a session. Its client's
+    changes are saved, and no run is left."""
     # (a terminal sends Ctrl-C to the whole group)
     for number, group in [(signal.SIGTERM, False), (signal.SIGINT, True), (signal.SIGHUP, False)]:
         name = number.name
@@ -291,7 +291,7 @@ def ends_at_a_signal():
 
 
 def refused():
-    """The server reports errors before it listens, and ends with status 1."""
+    """The server reports wrong options and files before it listens, and ends with status 1."""
     os.mkfifo(room.folder / "pipe")
     taken = kept_port()
     taken.listen()
@@ -437,8 +437,8 @@ sleep ${PAUSE:-600}; true
 
 
 def a_job_ends():
-    """If a session fails, or the server ends it, a command has ten seconds to end, or to begin a session that ends
-    well. Then the command is ended with all that it has started."""
+    """If a session fails, or --idle ends it, the command has ten seconds to end, or to begin a session that ends well.
+    Then the command is ended with all that it has started."""
     begun, held = time.monotonic(), {}
     why = "a session failed or was idle"
     for options, before, after, status, message in table("jobs"):
@@ -502,7 +502,8 @@ USAGE += "--outline AVRSTK'S OPTIONS\n"
 
 
 def modes_of_a_session():
-    """avrstk_session serves, checks or prints an outline, as its first argument names; else it does nothing."""
+    """avrstk_session serves, checks or prints an outline, as its first argument names; with wrong options or -h it only
+    prints its usage."""
 
     def session(*words):
         how = {"cwd": room.folder, "stdin": subprocess.DEVNULL, "capture_output": True, "text": True}
@@ -700,8 +701,8 @@ def logged():
 
 
 def logs_that_take_no_more():
-    """No log stops the server: a pipe that nobody reads, or whose reader stops, a full disk, --log-limit. A message
-    reports that once, and a line in the log the lines that are missing."""
+    """A log that takes no more doesn't stop the server (a pipe whose reader stops, a full disk, --log-limit); a pipe
+    that nobody reads is refused. A message reports that once, and a line in the log the lines that are missing."""
     pipe = room.folder / "pipe"
     os.mkfifo(pipe)
     expected = "avrstk-serve: pipe: nobody reads this pipe\n"
@@ -805,7 +806,7 @@ def of_an_old_chip():
     """--locked clears two bits of any lock. With --bootloader the first page that is written clears the rest of the
     chip, also after a page that was refused because the session hadn't entered programming mode."""
     used = bytes(range(256)) * 133
-    room.put("chip.bin", used[: CHIP_FILE - 1] + b"\xf0")
+    room.put("chip.bin", used[: CHIP_FILE - 1] + b"\xf3")
     found = ran(["0", *M328P, "--locked", "--", "true"])
     check_equal("a lock with other bits at 0", (found[:2], room.read("chip.bin")[-1:].hex()), ((0, ""), "f0"))
     page = [0x13, 0, 2, 0xC1, 10, 0x40, 0x4C, 0x20, 0xFF, 0xFF, 0x12, 0x34]
@@ -884,8 +885,8 @@ def reports():
 
 
 def mega():
-    """With --mega the lock and the EEPROM stay when pages are erased, and only boot lock bits can be written. A corrupt
-    frame gets no reply. (tests/mega.py has the replies.)"""
+    """With --mega the lock and the EEPROM stay when pages are erased, and of the lock only the boot lock bits can be
+    written. A corrupt frame gets no reply. (tests/mega.py has the replies.)"""
     flash, eeprom, rest = bytes(range(256)) * 1024, bytes(range(255, -1, -1)) * 16, b"\x62\xd9\xfd\xfc"
     room.put("chip.bin", flash + eeprom + rest)
     room.put("new.bin", bytes(1_000))

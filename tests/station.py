@@ -2,7 +2,7 @@
 """Tests avrstk-serial with several boards in one command, and the numbers of --each. The boards are doubles:
 avrstk-serve at pseudo terminals, some with faults.
 
-Not proved: No proof covers avrstk-serial and avrstk-serve, which are Python, processes, terminals and signals.
+Not proved: No proof covers Python (avrstk-serial, avrstk-serve), or processes, terminals and signals.
 
     tests/station.py [CASE ..]        needs a built program (program.py)
 """
@@ -233,12 +233,16 @@ def refused():
     os.mkfifo(room.folder / "pipe")
     for name, text in texts.items():
         room.put(name, text.encode())
+    room.put("one.bin", b"")
+    os.link(room.folder / "one.bin", room.folder / "two.bin")
 
     def ran(words):
-        line, device = serial.terminal()
+        # (a device without a programmer)
+        board = serial.Board(talk=b".")
+        device = board.device
         status, output, messages = run(["-p", "m328p", *shlex.split(words.replace("DEVICE", device))])
-        opened = serial.is_open(line)
-        os.close(line)
+        opened = bool(board.opened)
+        board.end()
         texts = [line.replace(device, "DEVICE").replace(os.path.realpath(room.folder), "ROOM") for line in messages]
         own = [line for line in texts if not line.startswith("avrstk: ")]
         return (status, output, len(own), opened), own
@@ -301,7 +305,8 @@ IMAGES = {
 
 
 def into_images():
-    """A text replaces the bytes of an image at its address, whatever the image's format; other bytes are as before."""
+    """A text replaces the bytes of an image at its address, whatever the image's format; the image's other bytes
+    stay."""
     for name, (content, held) in IMAGES.items():
         room.put(name, content or (TOP / f"examples/{name}").read_bytes())
         image = dict(image_of(room.read(name).split(b"no record")[0]) if held is None else held)
@@ -382,8 +387,8 @@ cat "${image%:i}" >>"$NOTED"
 
 
 def numbers_given_once():
-    """A thousand numbers of stations that are killed at random moments, two at a time, by two users if this is root:
-    none is given twice. (A hundred, where samples are tried.)"""
+    """Stations that are killed at random moments, two at a time, by two users if this is root, give a thousand numbers
+    (in samples a hundred), none twice. (A hundred, where samples are tried.)"""
     count, draw = 100 if "SAMPLE" in os.environ else 1000, random.Random(os.environ.get("SEED", str(time.time())))
     with tempfile.TemporaryDirectory(dir="/tmp") as name:
         folder = Path(name)

@@ -93,7 +93,8 @@ def is_printed(name, text, definitions):
 
 
 def texts():
-    """The text of each fault is in the words of its message line, but for those that the script lists."""
+    """The words of each fault's text are in its message line, or in any line if no equation has its name, but for those
+    that the script lists."""
     definitions, found = equations(), list(faults())
     files = TOP.glob("crates/*/src/**/*.rt")
     written = sum(file.read_text().count('#[error("') for file in files)

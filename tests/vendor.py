@@ -207,7 +207,7 @@ def build():
 
 
 def proof():
-    """The crate that uses the copies is proved, and so is the link of examples/library."""
+    """Only if it is named: the crate that uses the copies is proved, and so is the link of examples/library."""
     with foreign(FOREIGN, EXAMPLE) as top:
         lend(top)
         for name in (FOREIGN, EXAMPLE):

@@ -65,7 +65,8 @@ def avrdude_that_fails():
 
 
 def frames_are_sent():
-    """A run that loses its CHIP_ERASE sends the frames that WHY shows, waits at least that long, and has status 0."""
+    """A run that loses its CHIP_ERASE sends the frames that WHY shows, waits at least as long as WHY shows, and has
+    status 0."""
     picture = re.search(r"^    AVRDUDE 7\.1 +avrstk\n\n((?:    .*\n)+)", (TOP / "docs/WHY.md").read_text(), re.M)[
         1
     ].splitlines()
@@ -111,7 +112,7 @@ def frames_are_sent():
 
 
 def bad_files():
-    """Checks how AVRDUDE 7.1 handles files, as README and docs/USAGE say."""
+    """Checks how AVRDUDE 7.1 handles bad files; README has the first of these rows."""
     if not has_avrdude():
         return leave_out("AVRDUDE's part", "AVRDUDE 7.1 is not installed")
     hexes, source = ((TOP / f"examples/blink.{suffix}").read_text() for suffix in ("hex", "c"))

@@ -191,7 +191,8 @@ changed since then. The row of such a crate is from that run."""
 TEMPLATE = """# Evidence
 
 This page has what `rt ci`, or the whole gate, `./test --all`, printed for one commit, so that the outcome can be seen
-without the kit. `tools/evidence.py LOG` makes it from that log, the sources and one more check of `avrstk`.
+without the kit. `tools/evidence.py LOG..` makes it from such logs, the sources, the program's stamp and one more check
+of `avrstk`. If there are several logs, some rows are of earlier runs over the same files.
 [CHECK](CHECK.md#prove-it) explains a verdict, and [README](../README.md#test-it) says how to run the gate.
 
 {about}

@@ -23,12 +23,12 @@ SENTENCES = {
         "a_program_with_status_0_kept_its_plan_on_an_emulated_chip",
         "the_emulated_programmer_keeps_the_table",
     ],
-    "the chip holds each image compared after the last write": [
+    "the chip holds each image compared after the command line's last write": [
         "a_program_with_status_0_left_what_it_compared_last",
     ],
     "found before the first frame": ["a_plan_only_reads_and_warns"],
     "an accepted command line, the files read and the replies determine": ["a_run_is_one_function"],
-    "stops does only the first part of this": ["a_stop_is_a_prefix"],
+    "run may do only the first part, with status 1": ["a_stop_is_a_prefix"],
 }
 
 

@@ -38,7 +38,7 @@ ONLY_FOR = {
     "`-P net:`": ["Sockets.IsOverAddress"],
     "`-P stdio:` or `-P net:`": ["KeptByAny.IsKeptByAny"],
     "`-P emu:`": ["KeptByPort.IsKeptInFile"],
-    "`--serve`": ["Settings.serve_settings"],
+    "`--serve`": ["AskedSettings.AsksToServe"],
     "`--parts`": ["HeldParts.HoldsParts"],
     "a memory that is read": ["SavedText.saved_text", "Session.bytes_to_save"],
     "values (`:m`)": ["HeldImage.HoldsValues"],
@@ -189,8 +189,10 @@ def uses_of(words):
     """Returns the uses in `ONLY_FOR` of a command line, given as its words. An update's default format is detected, and
     a detected format may be any."""
     parser = argparse.ArgumentParser(add_help=False, allow_abbrev=False)
-    for option in ("-P", "--serve", "--parts"):
+    for option in ("-P", "--serve", "--parts", "-p", "-c", "-b"):
         parser.add_argument(option, default="")
+    for flag in "eDVnFAqv":
+        parser.add_argument(f"-{flag}", action="store_true")
     parser.add_argument("-U", action="append", default=[])
     line = parser.parse_known_args(words)[0]
     updates = [update if ":" in update else f"flash:w:{update}:a" for update in line.U]

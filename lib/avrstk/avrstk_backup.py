@@ -2,7 +2,7 @@
 
 from __future__ import annotations
 
-from avrstk_common import HERE, NAME, Fault, print_line, show
+from avrstk_common import HERE, NAME, Fault, print_line, reported_session, show
 from avrstk_words import DATA, ENDS, FUSES, UNOPENED, Update, Words, parts_of, records_of
 
 import contextlib
@@ -113,7 +113,8 @@ def has_more(words: Words, signature: str, size: int) -> bool:
     only.part = next(iter(parts_of(signature)), None) if words.part == "auto" else words.part
     past.elf, only.updates, only.flags = [(size, b"\0")], [past], []
     past.hand_on(b"")
-    return only.plan().frames > 0
+    # (without that program it isn't known what the part has)
+    return bool(reported_session()) and only.plan().frames > 0
 
 
 def asking(folder: str | None) -> list[Update]:

@@ -371,7 +371,7 @@ REFUSALS: Table = {
     ".*: not a number$": "a value is written as 0xE2, 0b11100010, 0342 or 226",
     "(.*): cannot be opened$": unopened,
     r"(.*?): (?:line \d+: )?(?:bad |line too long|no record mark|address (\w{8}) out of range)": unread,
-    "no part ": lambda run, found: no_part(run.words, found),
+    "no part [^:]*$": lambda run, found: no_part(run.words, found),
 }
 
 # and after it was opened. (A file may have the name of an error's beginning.)

@@ -17,6 +17,9 @@ import time
 OPERATIONS = {"w": "write", "v": "verify", "r": "read"}
 CHANGED = "erased or partly written"
 
+# the error if no reply came
+SILENT = "no answer( in 4096 bytes)?$"
+
 # kinds of failures by avrstk's error; the first that fits counts. All others are of the arguments. (A file may have the
 # name of an error's beginning)
 KINDS = {
@@ -25,7 +28,7 @@ KINDS = {
     r"command 10 refused with status (80|81|C0)$": "no chip",
     r"command \w\w refused with status \w\w$": "refused",
     r"\w+: address \w+: \w+ expected, \w+ found$": "mismatch",
-    rf"no answer( in 4096 bytes)?$|{LOST_LINK}|command \w\w: bad answer$": "line",
+    rf"{SILENT}|{LOST_LINK}|command \w\w: bad answer$": "line",
     r"port .*[^:] cannot be opened$": "device",
     r"out of memory$": "interrupted",
     r".*: (cannot be |in use by |not a regular |longer than |line \d+: |\d+ bytes, )": "file",
@@ -36,7 +39,7 @@ KINDS = {
 VALUES = rf"({'|'.join(MEMORIES)}): address \w+ out of range$"
 
 # errors after which it isn't known whether a command was done
-MAYBE_DONE = rf"$|no answer( in 4096 bytes)?$|{LOST_LINK}|command \w\w(: bad answer| refused .*)$|out of memory$"
+MAYBE_DONE = rf"$|{SILENT}|{LOST_LINK}|command \w\w(: bad answer| refused .*)$|out of memory$"
 
 
 class Report:
@@ -84,7 +87,7 @@ class Report:
             return "interrupted"
         if error == self.fault:
             return self.stage
-        is_silent = error.startswith("no answer") or any(run.is_noisy for run in self.runs[-1:])
+        is_silent = bool(re.match(SILENT, error)) or any(run.is_noisy for run in self.runs[-1:])
         if is_silent and self.sent() <= {SIGN_ON, LEAVE} and self.signature() is None:
             return "silent"
         # (an image may have the name of a memory)

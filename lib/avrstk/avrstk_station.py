@@ -262,8 +262,13 @@ def judge_outputs(words: Words) -> None:
 
 
 def place_of(device: str) -> str:
-    """Returns where a device or an emulated chip's file is, which may have several names."""
-    return os.path.realpath(re.sub("^emu:", "", device))
+    """Returns what tells a device or an emulated chip's file from others. It may have several names."""
+    path = os.path.realpath(re.sub("^emu:", "", device))
+    try:
+        found = os.stat(path)
+    except OSError:
+        return path
+    return f"{found.st_dev} {found.st_ino}"
 
 
 def devices_of(words: Words, here: list[str]) -> list[str]:
