@@ -370,6 +370,8 @@ def lossy():
 def damaged_erases():
     """A bit of a chip erase's instruction is flipped on its way to ArduinoISP: each bit with FULL=1, else a share.
     Status 0 also means FF in the rest of the flash."""
+    if not SKETCH:
+        return leave_out("damaged erases", "ArduinoISP's sketch is not there")
     prepare("ArduinoISP-fast", 200)
     board, sent = Board("ArduinoISP-fast"), []
 
@@ -588,8 +590,8 @@ def run_measured(name, is_avrdude):
 
 
 def measured():
-    """With FULL=1 all runs of docs/BOARDS, else one, have the status, the chip and the bytes that it says, and take
-    about as long. With FULL=1 these are all runs, and AVRDUDE's; else one."""
+    """With FULL=1 all runs of docs/BOARDS, else one, have its status and chip; avrstk-serial's also have its bytes and
+    about its time. With FULL=1 these are all runs, and AVRDUDE's; else one."""
     is_full = os.environ.get("FULL") == "1"
     table = (TOP / "docs/BOARDS.md").read_text()
     rows = [[cell.strip() for cell in line.strip("| ").split("|")] for line in table.splitlines() if line[:1] == "|"]
@@ -701,8 +703,8 @@ def run_script(words):
 
 
 def leaves_to_another():
-    """With AVRSTK_ELSE another program gets the options for a programmer, port or part that isn't avrstk's, unless one
-    is avrstk-serial's own. A link to avrstk-serial with its name is passed over."""
+    """With AVRSTK_ELSE another program gets options with an unknown programmer or part, or port usb, unless there are
+    several boards or `--` options. A link to avrstk-serial with its name is passed over."""
     folder = room.folder / "else"
     folder.mkdir()
     put_program(room.folder / "else/avrdude", '#!/bin/sh\necho "other: $*"\n')

@@ -198,9 +198,9 @@ def others_meanwhile():
 
 
 def reads_on_the_disk():
-    """A file that a memory was read into is synced before the read's line is printed; the run fails if the sync does,
-    but not with EINVAL. So it does with EROFS, which ext4 answers after an error. A file that can't be synced (EINVAL)
-    is no failure."""
+    """A file that a memory was read into is synced before the read's line is printed; the run fails if the sync fails,
+    unless the error is EINVAL. So it does with EROFS, which ext4 answers after an error. A file that can't be synced
+    (EINVAL) is no failure."""
     failed = (1, lines(SIGNATURE, "error: out.bin: cannot be written"))
     good = (0, lines(SIGNATURE, "eeprom: 1024 bytes read", "done"))
     for how, wanted in [("error=EIO:when=1", failed), ("error=EROFS:when=1", failed), ("error=EINVAL:when=1", good)]:

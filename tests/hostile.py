@@ -187,7 +187,7 @@ def a_second_caller():
 
 
 def nothing_is_read():
-    """If a programmer sends replies but reads nothing, the run ends with `link cannot be written`."""
+    """A long run ends with `link cannot be written` if the programmer sends replies but reads nothing."""
     room.clear()
     room.put("large.bin", bytes(range(1, 129)) * 2_048)
     with socket.socket() as listener:

@@ -1,6 +1,6 @@
 #!/usr/bin/env python3
-"""Makes the built program print most lines that a user can meet, and compares them with docs/TROUBLESHOOTING. Checks
-that no line there is left out.
+"""Makes the built program print most lines that a user can meet, and checks that each line of docs/TROUBLESHOOTING is
+among them.
 
 Not proved: No proof shows each byte of a line as a user sees it, or how many writes print a line.
 
@@ -98,7 +98,8 @@ def images_are_refused():
 
 
 def no_update_is_begun():
-    """If an update is refused, nothing is sent for those before it, and no file of theirs is made."""
+    """If an update's image or memory is refused, nothing is sent for the updates before it, and none of their files is
+    made."""
     room.keep("bad.hex", b":0400000001020304F3\n:00000001FF\n")
     rows = [
         ("-U lfuse:r:out.h:h -U flash:w:bad.hex", "bad.hex: line 1: bad checksum"),

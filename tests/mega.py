@@ -212,9 +212,9 @@ def refused():
 
 
 def asked_first():
-    """Without -c wiring avrstk-serial reads an ATmega2560's calibration before it uses EEPROM above 255, or with -D
-    writes other flash than one image from 0 on without gaps. If the device is this bootloader, the run is refused.
-    Other runs are made at once."""
+    """With -c stk500v2 avrstk-serial reads an ATmega2560's calibration before it uses EEPROM above 255, or with -D
+    writes flash that this bootloader can't. If the device is this bootloader, the run is refused. Other runs are made
+    at once."""
     old, image = drawn("old", 0x2000), drawn("small", 1_024)
     files = {"a.hex": [(0, image)], "late.hex": [(0x1000, image)], "gap.hex": [(0, b"x"), (512, b"x")]}
     for name, runs in files.items():

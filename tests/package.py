@@ -160,8 +160,8 @@ def packages_are_the_same():
 
 
 def packages_say_what_they_are():
-    """Each Debian package names its commit and kit. The program's package states that nothing of it was proved; the
-    library's package states that it is proved, because `rt lib` proves it."""
+    """Each Debian package of a stamped program names its commit and kit. The program's package states that nothing of
+    it was proved; the library's package states that it is proved, because `rt lib` proves it."""
     for name in ["avrstk", f"libavr-records{NUMBER}", "libavr-records-dev"]:
         description = field(package(name), "Description")
         flat = " ".join(description.split())

@@ -143,8 +143,8 @@ def readme(clone):
 
 
 def usage(clone):
-    """Runs the commands of docs/USAGE and EMULATOR that are in no list; those for an installed avrstk use one that
-    install.sh has installed."""
+    """Runs the commands of docs/USAGE and EMULATOR that have a `$` and are in no list; those for an installed avrstk
+    use one that install.sh has installed."""
     clone.types(["./install.sh ~/.local"])
     for commands in [*blocks("docs/USAGE.md"), *blocks("docs/EMULATOR.md")]:
         clone.tries(commands)

@@ -456,7 +456,7 @@ JOINED = {
 
 
 def refused():
-    """A refused run opens no device, and reports why."""
+    """A run that is refused for its options or files opens no device, and reports why."""
     room.put("an x.elf", b"\x7fELF\x01\x01\x01")
     room.put("note.hex", b"# a note\n" + room.read("blink.hex"))
     room.put("page.hex", b"<!DOCTYPE html>\n<p>no such firmware</p>\n")
@@ -539,8 +539,8 @@ def texts_and_firmware():
 
 
 def no_firmware():
-    """A text without records, an archive, an HTML page and an empty image are refused, also from a pipe (EEPROM takes a
-    text that a NUL ends). A text as raw bytes (:r) is not."""
+    """Without :r a text without records, an archive and an HTML page are refused, also from a pipe, and an empty image
+    always is. (EEPROM takes a text that a NUL ends.) A text as raw bytes (:r) is not."""
     why = {
         **dict.fromkeys(TEXTS, LIKE_TEXT),
         **dict.fromkeys(EMPTY, "has no data"),
@@ -761,8 +761,8 @@ def lines_of_a_board():
 
 
 def bits_that_do_not_exist():
-    """If a value has 0 in bits that the part lacks, the script gives avrstk 1 there and prints the new value; tried for
-    the atmega328p."""
+    """Without --parts, if a value has 0 in bits that read as 1, the script gives avrstk 1 there and prints the new
+    value."""
     note = "atmega328p lacks bits of"
     recipe = ["-e", "-Ulock:w:0x3F:m", "-Uefuse:w: 0X05,:m", "-Uhfuse:w:0xDE:m", "-Ulfuse:w:255:m"]
     shown = [f"{note} lock: lock:w:0x3F:m becomes lock:w:0xFF:m"]
@@ -1020,8 +1020,8 @@ def progress():
 
 
 def few_lines():
-    """-q twice leaves values that the script changes or warns of. -l also writes what is printed into a file, also over
-    `emu:`."""
+    """-q twice leaves values that the script changes or warns of. -l also writes a run's messages into a file, also
+    over `emu:`."""
     flashed()
     quiet = [
         "-C",
@@ -1282,9 +1282,9 @@ def asked_over_a_port():
 
 
 def asked_first():
-    """Before some runs at an ATmega2560 the script asks the device whether it is a bootloader: for EEPROM above 255,
-    several images, or images with gaps. Then it refuses the run, or makes it without a warning. Before other runs it
-    doesn't ask."""
+    """Before some runs at an ATmega2560 the script asks whether it is a bootloader: for EEPROM above 255, and with -D
+    for images that this would write wrongly. Then it refuses the run, or makes it without a warning. Before other runs
+    it doesn't ask."""
     room.keep("late.hex", hex_of([(0x4000, b"late")]))
     room.keep("long.bin", bytes(257))
     room.keep("later.csv", b"a\nA\nABCDEFGHIJ\n")
@@ -1385,8 +1385,8 @@ def images_that_are_read_once():
 
 
 def over_a_bootloader():
-    """With -c wiring an erase is refused, and so is flash in several images, not from address 0 on, or with a page left
-    out."""
+    """With -c wiring an erase is refused, and so are writes of flash from several images, from a later address, or with
+    a page left out."""
     images = {"a.hex": [(0x100, b"x" * 256)], "b.hex": [(0, b"y" * 256)]}
     images["-gap.hex"] = images["gap.hex"] = [(0, b"x"), (256, b"x")]
     images["twice.hex"] = [(0, b"xy"), (1, b"z"), (256, b"x")]

@@ -170,7 +170,7 @@ def clients_that_send_nothing():
 
 
 def one_after_another():
-    """A client waits until the one before has disconnected, and then is served."""
+    """A client waits until the one that is served has disconnected, and then is served."""
     with Serving() as server:
         first = server.call()
         check("the first session", begins(first))
@@ -228,7 +228,7 @@ def a_chip_in_use():
 
 
 def idle_clients():
-    """With --idle the server disconnects an idle client, and saves the chip."""
+    """With --idle the server disconnects a client that becomes idle in its session, and saves the chip."""
     with Serving("--idle", "1.5") as server:
         with server.call() as silent, server.call() as client:
             check("a session", begins(client))
@@ -261,8 +261,8 @@ def changes_fuse(server, value):
 
 
 def ends_at_a_signal():
-    """Without a command the server ends with status 0 at SIGTERM, SIGINT or SIGHUP, also in a session. Its client's
-    changes are saved, and no run is left."""
+    """Without a command and --strict the server ends with status 0 at SIGTERM, SIGINT or SIGHUP, also in a session, if
+    no session has failed. Its client's changes are saved, and no run is left."""
     # (a terminal sends Ctrl-C to the whole group)
     for number, group in [(signal.SIGTERM, False), (signal.SIGINT, True), (signal.SIGHUP, False)]:
         name = number.name
@@ -502,8 +502,8 @@ USAGE += "--outline AVRSTK'S OPTIONS\n"
 
 
 def modes_of_a_session():
-    """avrstk_session serves, checks or prints an outline, as its first argument names; with wrong options or -h it only
-    prints its usage."""
+    """avrstk_session serves, checks or prints an outline, as its first argument names. With -h, an unknown option, or a
+    port that the mode doesn't take, it only prints its usage."""
 
     def session(*words):
         how = {"cwd": room.folder, "stdin": subprocess.DEVNULL, "capture_output": True, "text": True}
@@ -754,7 +754,8 @@ def state_of(memory, old):
 
 
 def faults():
-    """Runs clients over links with each fault that the server's options can make. Each client gets as far as it can."""
+    """Runs clients over links with each fault that the server's options can make, but --mega. Each client gets as far
+    as it can."""
     emulated = ["-p", "m328p", "-P", "emu:chip.bin", "-qq", "-U", "flash:w:whole.bin:r", "-U", "eeprom:w:whole.bin:r"]
     clients = [[str(PROGRAM)], ["avrdude", "-c", "stk500v2"] if has_avrdude() else None]
     old = room.read("whole.bin")
@@ -822,10 +823,15 @@ def of_an_old_chip():
                 received(client, int.from_bytes(head[2:4], "big") + 1)
         server.end()
     check_equal("the page, and the rest", room.read("chip.bin")[:4].hex(), "1234ffff")
+    room.put("chip.bin", used[:CHIP_FILE])
+    client = [PROGRAM, "-D", "-p", "m328p", "-P", "net:{}", "-U", "flash:w:0x12,0x34:m"]
+    found = ran(["0", *M328P, "--bootloader", "--corrupt", "PROGRAM_FLASH", "--", *client])
+    check_equal("no page arrives whole", (found[0], room.read("chip.bin") == used[:CHIP_FILE]), (1, True))
 
 
 def reports():
-    """--json writes each session: commands, faults, and whether the chip was saved; also for refused options."""
+    """--json writes each session: commands, faults, and whether the chip was saved; also for refused values of
+    options."""
     with Serving("--json", "report.json", "--lose-reply", "SIGN_ON#2", "--lose", "CHIP_ERASE") as server:
         with server.call() as client:
             check("a session", begins(client))

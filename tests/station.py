@@ -226,7 +226,7 @@ eesave_bit = 3
 
 
 def refused():
-    """A refused command opens no device and takes no number; its line comes once."""
+    """A command that is refused for its options or files opens no device and takes no number; its line comes once."""
     texts = {"counter": "7\n", "bad": "seven\n", "cut": "7", "full": f"{10**15}\n"}
     texts |= {"rows.csv": "serial,mac\nA1,0102\nA2,0304\n", "empty.csv": "serial\n", "odd.csv": "serial,mac\nA1\n"}
     texts |= {"blank.csv": "\n\n", "own.toml": OWN_PART, "gap.csv": "serial,mac\n,0102\n"}
@@ -601,7 +601,8 @@ def busy(words, count, what=b"chip erased"):
 
 
 def progress():
-    """On a terminal each board has a line, which is redrawn below the messages; the messages and the table stay."""
+    """On a terminal with room each board has a line, which is redrawn below the messages; the messages and the table
+    stay."""
     with Doubles(["one", "two"], {name: ["--late", "READ_FLASH:0.02"] for name in ["one", "two"]}) as doubles:
         with forks:
             mine, theirs = pty.openpty()

@@ -142,7 +142,7 @@ def bad_files():
 
 def no_answer():
     """Checks how long avrstk and AVRDUDE try to reach a programmer that never replies, as README says."""
-    row = re.search(r"^\| a programmer that never replies \|.*", (TOP / "README.md").read_text(), re.M)[0]
+    row = re.search(r"^\| a programmer that never replies.*", (TOP / "README.md").read_text(), re.M)[0]
     patient, first, last = map(int, re.findall(r"(\d+) s", row))
     room.clear()
     with socket.create_server(("127.0.0.1", 0)) as silent:

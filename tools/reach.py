@@ -34,9 +34,8 @@ PROMISE = "a_program_with_status_0_kept_its_plan"
 USES = "| Use of a command line | Where it is defined | Definitions | Lines |"
 # for a use of a command line, the definitions that only such a command line needs
 ONLY_FOR = {
-    "`-P stdio:`": ["Links.TranscriptIsTrueSince"],
     "`-P net:`": ["Sockets.IsOverAddress"],
-    "`-P stdio:` or `-P net:`": ["KeptByAny.IsKeptByAny"],
+    "`-P stdio:` or `-P net:`": ["KeptByAny.IsKeptByAny", "Links.TranscriptIsTrueSince"],
     "`-P emu:`": ["KeptByPort.IsKeptInFile"],
     "`--serve`": ["AskedSettings.AsksToServe"],
     "`--parts`": ["HeldParts.HoldsParts"],

@@ -218,7 +218,8 @@ class Traffic:
             # (the Mega's bootloader gives no reply to a corrupt frame)
             self.note(line, [FAULTS[fault] for fault in faults if fault == "--corrupt"] + ["no reply"])
             return spoiled(frame)
-        before, frame = (b"", frame) if xor(frame) else self.refusing(frame[1], body)
+        is_whole = not xor(frame) and "--corrupt" not in faults
+        before, frame = self.refusing(frame[1], body) if is_whole else (b"", frame)
         self.waiting.append(Waiting(line, faults))
         return before + (spoiled(frame) if "--corrupt" in faults else frame)
 
