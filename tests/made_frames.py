@@ -126,7 +126,7 @@ def a_verified_run_is_wrong():
 
 
 def without_a_pause_all_is_seen():
-    """Without the pause the wrong byte is reported; a pause within other contents does no harm."""
+    """Without the pause in a reply the wrong byte is reported; a pause in replies with other bytes does no harm."""
     line = Line(chip_of(made_contents(0xAA, 7)))
     found, _ = line.run("-U", "flash:v:image.hex:i")
     expected = lines(SIGNATURE, "error: flash: address 00000000: 55 expected, AA found")

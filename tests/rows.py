@@ -227,8 +227,8 @@ def faults_of_the_line():
 
 
 def faults_of_a_chip():
-    """A bootloader meets the rows of commands that it refuses, and fails that of a write that also erases. Nothing is
-    tried without a chip, or if it is locked."""
+    """The emulated bootloader meets the rows of commands that it refuses, and fails row `writes flash`, because its
+    first write also erases. Nothing is tried without a chip, or if it is locked."""
     served(ALL, ["--bootloader"], failing=["writes flash"], promise=SMALLER)
     served(SAFE, ["--bootloader"], left=WRITING, promise=SMALLER)
     for option, why in ("--no-chip", "10 C8 64 19 20 00 53 03 AC 53 00 00 was answered 10 C0"), (
@@ -339,8 +339,8 @@ WRONG = [
 
 
 def wrong():
-    """Each wrong programmer fails the rows that the table names for it, and no other. The promise is the one that the
-    others leave."""
+    """Each wrong programmer of the list WRONG fails the rows that the list names for it, and no other. The promise is
+    the one that the others leave."""
     for number, (row, act) in enumerate(WRONG):
         rows, what = row.split(", "), f"wrong {number}, {row}"
         left = ["damaged frame", "writes EEPROM"] if row == "reads EEPROM" else []
@@ -457,7 +457,7 @@ def unreadable():
     plug = Plug(Wrong(once(b"\x18\4\x50\0", 1, 0x20)).call)
     _, own = tried("a wrong first reading", [*TINY, "-P", plug.device, *SAFE], ["reads fuses", "SIGN_ON"], WRITING)
     plug.end()
-    wanted = f"the chip may be changed; first readings are in {own[0].rpartition(' ')[2]}"
+    wanted = f"the chip may be changed; the first readings of the chip are in {own[0].rpartition(' ')[2]}"
     check_equal("a wrong first reading: the last line", own[-1], wanted)
     for what, row, code in ("no flash", b"\x15", b"\x14"), ("no calibration", b"\x13", b"\x1c"):
         done = []
@@ -544,7 +544,11 @@ def not_put_back():
 
         found, own = trying(what, act, SAFE, begun=lambda started: pids.append(started.pid))
         check(f"{what}: no row fails", not any(how == "FAILS" for how, _ in found.values()), str(found))
-        check(f"{what}: the last line", own[-1].startswith("the chip may be changed; first readings are in "), own)
+        check(
+            f"{what}: the last line",
+            own[-1].startswith("the chip may be changed; the first readings of the chip are in "),
+            own,
+        )
         check(f"{what}: the chip", room.read("wrong.bin") != CHIP)
 
 
@@ -623,7 +627,7 @@ def refused():
     at = "-P /dev/null -p m328p"
     cases = {
         f"{at} --try-rows=all": f"--try-rows=all may erase and lock the chip: add --yes if you can lose it; {UNOPENED}",
-        f"{at} --try-rows=some": "--try-rows=some: give --try-rows; --try-rows=all also erases and locks the chip",
+        f"{at} --try-rows=some": "--try-rows=some: give --try-rows; --try-rows=all may also erase and lock the chip",
         f"{at} --yes": "--yes is for --try-rows=all",
         f"{at} --try-rows -e": "--try-rows takes no -e",
         f"{at} --try-rows -U lfuse:r:-:h": "--try-rows takes no -U",

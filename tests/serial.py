@@ -1502,7 +1502,7 @@ def other_part(words, part, made):
 
 
 def renamed(words, given):
-    """Puts this update in place of the one that names the same file."""
+    """Follows a hint by putting the update that it advises in place of the one that names the same file."""
     file = given.split(":")[2]
     return [given if file in word.split(":") else word for word in words]
 
@@ -1519,7 +1519,7 @@ def on_a_bootloader(words, case, *_):
 
 
 def valued(words, given):
-    """Gives this value in place of the update of the same memory."""
+    """Follows a hint by giving the value that it advises in place of the update of the same memory."""
     return [given if word.partition(":")[0] == given.partition(":")[0] else word for word in words]
 
 
@@ -1827,7 +1827,7 @@ FOLLOWED = [
         r"a value needs :m after it, as lfuse:w:0xNN:m",
         lambda words, *_: [re.sub("^lfuse:w:(?:0x)?(..)$", r"lfuse:w:0x\1:m", word) for word in words],
     ),
-    (r"give its value, as lfuse:w:0xNN:m", changed("^lfuse:.*", "lfuse:w:0xE2:m")),
+    (r"lfuse is one byte: give its value, as lfuse:w:0xNN:m", changed("^lfuse:.*", "lfuse:w:0xE2:m")),
     (r"^give -p (\w+);", changed("^(m328p-pu|mega328p)$", r"\1")),
     (r"^-p takes a chip's name, such as (m328p)", changed("^(uno|nano|m9)$", r"\1")),
     (r"^with --parts, -p takes a part as that file names it, or (m328p)", changed("^(m9|ATmega328P)$", r"\1")),

@@ -237,7 +237,7 @@ def unread(run: Outcome, found: Match[str]) -> str:
     values = [update for update in words.updates if update.format == "m" and name == update.memory]
     update = next(iter(images + values), None)
     if update and address and update.memory in FUSES:
-        return f"give its value, as {update.memory}:{update.operation}:0xNN:m"
+        return f"{update.memory} is one byte: give its value, as {update.memory}:{update.operation}:0xNN:m"
     form = form_of(update.held(65_536)) if update and update.is_image else None
     if update and form and update.format not in (None, "a", form) and (form != "e" or update.memory in AREAS):
         return f"it has {FORMATS[form]}: give {update.given_as(form)}"

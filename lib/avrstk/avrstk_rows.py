@@ -323,7 +323,7 @@ class Rows:
     def save_all(self) -> None:
         """Saves all memories, and the pages that are written, in a new folder."""
         self.folder = tempfile.mkdtemp("", "try-rows-", ".")
-        self.kept = f"first readings are in {self.folder}"
+        self.kept = f"the first readings of the chip are in {self.folder}"
         for memory, held in self.saved.items():
             self.save(f"{memory}.{FILES[memory][:3]}", held)
         self.save("page.hex", (self.saved["eeprom"] or b"")[: self.cell + self.part["eeprom_page"]], self.cell)

@@ -622,7 +622,7 @@ def judge_rows(words: Words) -> None:
             raise Fault("--yes is for --try-rows=all")
         return
     if words.trial not in ("safe", "all"):
-        raise Fault(f"--try-rows={words.trial}: give --try-rows; --try-rows=all also erases and locks the chip")
+        raise Fault(f"--try-rows={words.trial}: give --try-rows; --try-rows=all may also erase and lock the chip")
     for option in words.last:
         if option not in own:
             raise Fault(f"--try-rows takes no {option}")
@@ -761,7 +761,8 @@ def warn(words: Words) -> None:
     """Warns of fuses that can make the chip unreachable, even if -q is given twice, and of what isn't proved."""
     if words.is_version1:
         words.note(f"-c {words.programmer} speaks STK500 version 1: such runs are tested, not proved")
-    name = words.chip()
+    # (of a part that isn't supported nothing is known)
+    name = words.chip() if words.signature() or words.part in BUILT_IN else ""
     writes = [update for update in words.updates if update.operation == "w" and update.memory in FUSES]
     values = [(update, update.value()) for update in writes]
     found = [
