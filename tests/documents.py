@@ -80,7 +80,7 @@ def what_check_quotes():
 
 
 def known_mistakes():
-    """Each clause that a comment of avr_laws' rows of mistakes names is in the contract of the named function."""
+    """Comments of avr_laws' rows of mistakes name a function and a clause of its contract: the clause is there."""
     rows = "".join(path.read_text() for path in sorted((TOP / "crates/avr_laws/proofs/Rows").glob("*Mistakes.antt")))
     named = set(re.findall(r"\((?:`(\w+)` of )?(\w+?)'s? `(\w+)`\)", rows))
     check("clauses are named", len(named) > 20, len(named))

@@ -387,13 +387,13 @@ def compared(seed, count, kinds):
 
 
 def over_emulator_and_streams():
-    """Compares runs over the emulator, and over replies on standard input."""
+    """Compares runs over the emulator with the model, and so runs over replies on standard input."""
     compared(random.randrange(10_000), 900, ["emu:chip.bin", "stdio:"])
 
 
 def over_a_port():
-    """Compares runs over a port, where replies may be lost or late. In a pause of this machine the program repeats a
-    command; the reply to it is then late in the model, too."""
+    """Compares runs over a port with the model; replies may be lost or late. In a pause of this machine the program
+    repeats a command; the reply to it is then late in the model, too."""
     compared(0, 100, ["net:127.0.0.1:PORT"])
 
 

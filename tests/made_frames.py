@@ -101,8 +101,8 @@ def reply_to_read(number):
 
 
 def a_verified_run_is_wrong():
-    """A run ends with status 0 although the chip has another byte than the image or the file. An image is compared; one
-    is written to flash that isn't erased and so can't take the byte; a file is read."""
+    """With a pause in a made reply a run ends with status 0 although the chip has another byte than the image or the
+    file. An image is compared; one is written to flash that isn't erased and so can't take the byte; a file is read."""
     for name, first, read, words, messages in [
         ("compared", 0xAA, 7, ["-U", "flash:v:image.hex:i"], ["flash: 1 bytes verified"]),
         (
@@ -126,7 +126,8 @@ def a_verified_run_is_wrong():
 
 
 def without_a_pause_all_is_seen():
-    """Without the pause in a reply the wrong byte is reported; a pause in replies with other bytes does no harm."""
+    """Such a run without its pause in a reply reports the wrong byte; a pause in replies with other bytes does no
+    harm."""
     line = Line(chip_of(made_contents(0xAA, 7)))
     found, _ = line.run("-U", "flash:v:image.hex:i")
     expected = lines(SIGNATURE, "error: flash: address 00000000: 55 expected, AA found")

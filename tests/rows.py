@@ -227,8 +227,8 @@ def faults_of_the_line():
 
 
 def faults_of_a_chip():
-    """The emulated bootloader meets the rows of commands that it refuses, and fails row `writes flash`, because its
-    first write also erases. Nothing is tried without a chip, or if it is locked."""
+    """The emulated bootloader, with a firmware, meets the rows of commands that it refuses, and fails row `writes
+    flash`, because its first write also erases. Nothing is tried without a chip, or if it is locked."""
     served(ALL, ["--bootloader"], failing=["writes flash"], promise=SMALLER)
     served(SAFE, ["--bootloader"], left=WRITING, promise=SMALLER)
     for option, why in ("--no-chip", "10 C8 64 19 20 00 53 03 AC 53 00 00 was answered 10 C0"), (

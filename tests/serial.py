@@ -896,7 +896,8 @@ def retries_that_are_refused():
     def ran(*words):
         status, _, _, own = run(["-p", "m328p", "-P", device, "--retry", "1", *words], env=fails)
         named = own[0].partition("--retry takes no ")[2]
-        why = "a second run (may hide or undo what the first one found or did|would write there once more)"
+        why = "a second run (may not repair this, or may hide or undo what the first one found or did"
+        why += "|would write there once more)"
         return status, re.sub(f": {why}$", "", named.removeprefix("-U "))
 
     two = ["-U", "flash:w:blink.hex:i", "-U", "flash:w:late.hex:i"]
@@ -2259,6 +2260,10 @@ def report_of_updates():
     check_equal("a file", (read["read"], read["sha256"]), (228, hashlib.sha256(room.read("back.hex")).hexdigest()))
     check_equal("one lost reply", (found["repeated"], found["retries"], found["signature"]), (1, 0, "1E 95 0F"))
     check_equal("all commands", found["commands"], frames_in(programmer.received))
+    programmer = Board(answer=lambda reply, lost=iter([b""]): next(lost, reply) if reply[5] == 0x14 else reply)
+    run(["-p", "m328p", "-P", programmer.device, "-U", "flash:v:blink.hex", "--json", "read.json"])
+    programmer.end()
+    check_equal("a read is repeated once, though all reads are alike", report_of("read.json")["repeated"], 1)
 
 
 def report_after_a_signal():
@@ -2669,7 +2674,7 @@ def names_and_interrupts():
         ([b"--backup", b"\xff"], "\\xff"),
     ]:
         _, _, printed, own = run([*NO_CHIP, *words])
-        check_equal(f"{words}", (printed, own), (b"", [f"the name {shown} is not UTF-8: {UNOPENED}"]))
+        check_equal(f"{words}", (printed, own), (b"", [f"{shown} is not UTF-8: {UNOPENED}"]))
     board, link = Board(), os.fsencode(room.folder) + b"/\xff"
     os.symlink(board.device, link)
     status, output, _, own = run(["-p", "m328p", b"-P", link, "--backup", "named"])

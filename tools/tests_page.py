@@ -23,10 +23,10 @@ HEAD = """# What is tried where
 `tools/tests_page.py --write` makes this page from comments of the scripts. What a script or case tries is its comment's
 first sentence; the rest of the comment says more. `./test` runs the quick scripts, and of long lists of cases only
 samples. It prints the seed of the samples; with `SAMPLE=SEED` most scripts draw the same samples again. (station.py and
-second_runs.py draw by `SEED`.) `./test NAME ..` runs the named scripts. `./test --all` runs all scripts without these
-samples. With `FULL=1` boards.py tries still more cases, and rows.py the whole flash of a Mega. `tests/NAME.py CASE ..`
-runs cases of one script (mutants.py has none). The lists below also have functions that make or help cases.
-[tests/rattle](rattle/README.md) has tests of the crates' own calls.
+second_runs.py draw by `SEED`.) `./test NAME ..` runs the named scripts. `./test --all` runs all scripts, with whole
+lists in place of samples. With `FULL=1` boards.py tries still more cases, and rows.py the whole flash of a Mega.
+`tests/NAME.py CASE ..` runs cases of one script (mutants.py has none). The lists below also have functions that make or
+help cases. [tests/rattle](rattle/README.md) has tests of the crates' own calls.
 
 | Script | What it tries | Why that is not proved |
 | --- | --- | --- |

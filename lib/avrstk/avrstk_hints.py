@@ -271,7 +271,8 @@ def unopened(run: Outcome, found: Match[str]) -> str:
 def another_part(run: Outcome, found: Match[str]) -> str:
     """Returns the hint after a wrong signature."""
     names = " or ".join(parts_of(found[1])) or "no part of classic.toml"
-    of = f"the signature is that of {names}: check the board, the wires, and that -p, firmware and fuses are for it"
+    what = "check the board, the wires, and that -p, firmware and fuses are for this chip"
+    of = f"the signature is that of {names}: {what}"
     return f"{NO_CHIP if found[1] in NO_SIGNATURES else of}; {state_of(run)}"
 
 
@@ -312,7 +313,7 @@ def unless_lacking(run: Outcome, value: str, rest: str) -> str:
     way = again(run) if may_lose(run) else ""
     if not way:
         return f"give {value} if the part can't change the bits that differ; else {rest}"
-    tail = rest[len(way) :].replace(", with", "; else use").replace("; if it", "; else if it")
+    tail = rest[len(way) :].replace(", with another", "; else use another").replace("; if it", "; else if it")
     return f"{way}. If the part can't change the bits that differ, give {value}{tail}"
 
 

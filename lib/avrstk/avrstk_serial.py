@@ -367,9 +367,12 @@ class Talk:
 
     def count(self, frame: bytes) -> None:
         """Counts a command, which is sent again if it is one of the last two and got no reply."""
+        body = frame[5:-1]
         self.outcome.sent += 1
-        self.outcome.repeated += frame[5:-1] in self.silent.values()
-        self.silent = {**dict(list(self.silent.items())[-1:]), frame[1]: frame[5:-1]}
+        self.outcome.repeated += body in self.silent.values()
+        # (it is repeated once; a late reply may still come)
+        left = {number: b"" if other == body else other for number, other in self.silent.items()}
+        self.silent = {**dict(list(left.items())[-1:]), frame[1]: body}
 
     def note_replies(self, piece: bytes) -> bytes:
         """Notes at which speed the device replies, and whether it sends bytes after ten seconds, but no valid reply."""
@@ -558,7 +561,7 @@ def judge(words: Words) -> None:
         need_device(words, "--retry")
         unfit = unrepaired(words)
         if unfit:
-            why = "a second run may hide or undo what the first one found or did"
+            why = "a second run may not repair this, or may hide or undo what the first one found or did"
             why = "a second run would write there once more" if unfit.is_stream() else why
             raise Fault(f"--retry takes no {options_of(words, unfit)}: {why}")
 
@@ -570,7 +573,7 @@ def judge_texts(words: Words) -> None:
         try:
             os.fsencode(text).decode()
         except UnicodeDecodeError:
-            raise Fault(f"the name {text} is not UTF-8: {UNOPENED}")
+            raise Fault(f"{text} is not UTF-8: {UNOPENED}")
 
 
 def need_device(words: Words, option: str) -> None:
