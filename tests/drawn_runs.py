@@ -279,7 +279,7 @@ class Drawn:
     def __init__(self, seed, kinds):
         draw = random.Random(seed)
         self.seed, self.files, self.kind = seed, {}, draw.choice(kinds)
-        part = draw.choices([*BUILT_IN, OWN], [10, 6, 3, 3])[0]
+        part = draw.choices([*BUILT_IN, OWN], [10, 6, *[3] * (len(BUILT_IN) - 1)])[0]
         count = draw.choice([0, 1, 1, 1, 2, 2, 3, 17 if draw.random() < 0.1 else 5])
         streams = draw.choice([0, 0, 0, 0, 0, 1] if self.kind == "stdio:" else [0, 0, 1, 1, 1, 20])
         updates = [update(draw, part, self.files, streams) for _ in range(count)]

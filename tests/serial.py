@@ -1525,7 +1525,8 @@ def valued(words, given):
 
 
 def each_once(words, *_):
-    """Erases, and writes each memory once, by its first write, the lock last."""
+    """Follows a hint to erase and write all again: gives -e and, for each memory, the command's first write to it, the
+    lock last."""
     updates = [word for before, word in zip(words, words[1:]) if before == "-U"]
     writes = {word.partition(":")[0]: word for word in reversed(updates) if re.match(r"\w+:w:", word)}
     ordered = sorted(writes.values(), key=lambda word: (word.startswith("lock:"), updates.index(word)))
