@@ -27,7 +27,7 @@ SENTENCES = {
         "a_program_with_status_0_left_what_it_compared_last",
     ],
     "found before the first frame": ["a_plan_only_reads_and_warns"],
-    "an accepted command line, the files read and the replies determine": ["a_run_is_one_function"],
+    "an accepted command line, the files read, the replies and timeouts determine": ["a_run_is_one_function"],
     "run may do only the first part, with status 1": ["a_stop_is_a_prefix"],
 }
 
