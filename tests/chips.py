@@ -490,11 +490,10 @@ def as_nobody():
 
 
 def what_stays():
-    """A run is refused if the chip file may not be written, or its folder, unless this has a lock; a folder that may be
-    written but not read is no obstacle. A chip keeps its permissions, without setuid, setgid and the sticky bit, and
-    its owner and group if the system allows it; any other group gets what everyone had. A symbolic link to it stays a
-    link. What an ended run of another user's left blocks no run, and what a link of the new file's name leads to stays
-    as it is."""
+    """A run is refused if the chip file may not be written, or its folder, unless this has a lock; a folder that can't
+    be read is fine. A chip keeps its permissions, without setuid, setgid and the sticky bit, and its owner and group if
+    the system allows it; any other group gets what everyone had. A symbolic link to it stays a link. What an ended run
+    of another user's left blocks no run, and what a link of the new file's name leads to stays as it is."""
     # the modes of the chip, of its folder and of the new chip if there is one; the chip's group; who runs
     for mode, folder, kept, group, who in [
         (0o444, 0o755, None, NOBODY, NOBODY),
