@@ -370,7 +370,7 @@ class Talk:
         body = frame[5:-1]
         self.outcome.sent += 1
         self.outcome.repeated += body in self.silent.values()
-        # (it is repeated once; a late reply may still come)
+        # (each counts once as repeated; its number stays, since a late reply may still come)
         left = {number: b"" if other == body else other for number, other in self.silent.items()}
         self.silent = {**dict(list(left.items())[-1:]), frame[1]: body}
 
